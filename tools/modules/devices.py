@@ -48,12 +48,13 @@ class Device:
     names; `moving` the bit that moves the vectors."""
 
     def __init__(self, row: List[str]) -> None:
-        self.name, self.words, self.vector_words, self.last_vector = row[0], int(row[1]), int(row[4]), int(row[6])
+        self.name, self.words, self.vector_words, self.last_vector = row[0], int(row[1]), int(row[5]), int(row[7])
         self.first, self.last = int(row[2], 16), int(row[3], 16)
-        self.groups = frozenset(row[5].split(","))
-        self.watchdog = None if row[7] == "-" else int(row[7])
-        self.moving = None if row[8] == "-" else place(row[8])
-        self.rows = {int(number): Vector(how, names) for number, how, *names in map(str.split, VECTORS[int(row[9])].splitlines())}
+        self.has_sph = row[4] == "2"
+        self.groups = frozenset(row[6].split(","))
+        self.watchdog = None if row[8] == "-" else int(row[8])
+        self.moving = None if row[9] == "-" else place(row[9])
+        self.rows = {int(number): Vector(how, names) for number, how, *names in map(str.split, VECTORS[int(row[10])].splitlines())}
         self.vectors = {number: it.names[0] for number, it in self.rows.items()}
         self.handlers = {name: f"__vector_{number - 1}" for number, it in self.rows.items() for name in it.names}
         places = [it for row in self.rows.values() for it in row.places]

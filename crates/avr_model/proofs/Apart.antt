@@ -11,10 +11,10 @@ use Rattle.avr_model.specs.declared.rows.Place.{Place}
 use Rattle.avr_model.specs.Families.{FAMILIES, numbered, family_of}
 use Rattle.avr_model.specs.Devices.{device_row, io_end}
 use Rattle.avr_model.specs.Bits.{any_below}
-use Rattle.avr_model.specs.Vectors.{last_vector, is_vector, places, covers, is_bit, is_core, has_common}
+use Rattle.avr_model.specs.Vectors.{last_vector, is_vector, places, covers, is_bit, is_core_by, is_core, has_common}
 use Rattle.avr_model.specs.Laws.{PlacesAreApart}
 use Rattle.avr_model.proofs.Below.{some_below, any_found}
-use Rattle.avr_model.proofs.Facts.{passes}
+use Rattle.avr_model.proofs.Facts.{core_of_device, passes}
 
 -- ---- pairs of items of a list
 
@@ -52,7 +52,7 @@ one_or_two R xs p q all (i, li, pi) (j, lj, qj) =
 -- ---- the places of the table
 
 abbrev is_place : Place → Bool
-is_place p = nat_le 2 p.vector && (not (is_core p.address) && (nat_lt p.mask 256 && (not (is_bit p.enable) || any_below 8 (λ b. p.mask == 2 ^ b))))
+is_place p = nat_le 2 p.vector && (not (is_core_by true p.address) && (nat_lt p.mask 256 && (not (is_bit p.enable) || any_below 8 (λ b. p.mask == 2 ^ b))))
 
 -- no common bit, and another place of the vector has another address; the place of an enable bit is its vector's only one
 abbrev are_apart : Place → Place → Bool
@@ -163,16 +163,16 @@ not_core true e = absurd (cc)
 not_core false e = refl
 
 parts : (d : Device) (p : Place) → is_place p ≡ true → (nat_le p.vector (last_vector d) && nat_le p.address (io_end d)) ≡ true
-    → (is_vector d p.vector ≡ true) × ((is_core p.address ≡ false) × ((p.address ≤ io_end d) × (p.mask < 256)))
+    → (is_vector d p.vector ≡ true) × ((is_core d p.address ≡ false) × ((p.address ≤ io_end d) × (p.mask < 256)))
 parts d p h g =
     let third = nat_lt p.mask 256 && (not (is_bit p.enable) || any_below 8 (λ b. p.mask == 2 ^ b)) in
-    let a = and_parts (nat_le 2 p.vector) (not (is_core p.address) && third) h in
-    let b = and_parts (not (is_core p.address)) third a.1 in
+    let a = and_parts (nat_le 2 p.vector) (not (is_core_by true p.address) && third) h in
+    let b = and_parts (not (is_core_by true p.address)) third a.1 in
     let c = and_parts (nat_lt p.mask 256) (not (is_bit p.enable) || any_below 8 (λ k. p.mask == 2 ^ k)) b.1 in
     let e = and_parts (nat_le p.vector (last_vector d)) (nat_le p.address (io_end d)) g in
-    (vector_test p.vector (last_vector d) a.0 e.0, (not_core (is_core p.address) b.0, (at_most_from_test p.address (io_end d) e.1, less_from_test p.mask 256 c.0)))
+    (vector_test p.vector (last_vector d) a.0 e.0, (core_of_device d p.address (not_core (is_core_by true p.address) b.0), (at_most_from_test p.address (io_end d) e.1, less_from_test p.mask 256 c.0)))
 
-each : (d : Device) → All (λ (p : Place). (is_vector d p.vector ≡ true) × ((is_core p.address ≡ false) × ((p.address ≤ io_end d) × (p.mask < 256)))) (places d)
+each : (d : Device) → All (λ (p : Place). (is_vector d p.vector ≡ true) × ((is_core d p.address ≡ false) × ((p.address ≤ io_end d) × (p.mask < 256)))) (places d)
 each d k default lt = let p = slice_index_or (places d) k default in let there : Contains (places d) p = (k, lt, any_default (places d) k p default lt) in parts d p (one d p there) (in_row d p there)
 
 equal_if : (x y : ℕ) → (x == y) ≡ true → x ≡ y
@@ -185,8 +185,8 @@ other false b h e = absurd (cc)
 one_bit : (d : Device) (p : Place) → Contains (places d) p → is_bit p.enable ≡ true → (b : ℕ) × ((b < 8) × (p.mask ≡ 2 ^ b))
 one_bit d p there is =
     let last = not (is_bit p.enable) || any_below 8 (λ b. p.mask == 2 ^ b) in
-    let a = and_parts (nat_le 2 p.vector) (not (is_core p.address) && (nat_lt p.mask 256 && last)) (one d p there) in
-    let b = and_parts (not (is_core p.address)) (nat_lt p.mask 256 && last) a.1 in
+    let a = and_parts (nat_le 2 p.vector) (not (is_core_by true p.address) && (nat_lt p.mask 256 && last)) (one d p there) in
+    let b = and_parts (not (is_core_by true p.address)) (nat_lt p.mask 256 && last) a.1 in
     let c = and_parts (nat_lt p.mask 256) last b.1 in
     let f = any_found 8 (λ k. p.mask == 2 ^ k) (other (is_bit p.enable) (any_below 8 (λ k. p.mask == 2 ^ k)) c.1 is) in
     (f.0, (f.1, equal_if p.mask (2 ^ f.0) f.2))

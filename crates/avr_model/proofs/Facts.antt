@@ -1,14 +1,16 @@
 -- What each row of the table of devices says.
-use Rattle.std.proofs.Common.{inl, inr, ◌⊎◌, ℕ, zero, suc, ◌+◌, ◌-◌, ◌*◌, ◌^◌, ◌%◌, ◌<◌, ◌≤◌, ◌≡◌, ◌==◌, ◌&&◌, ◌||◌, Bool, true, false, nat_le, nat_lt, List, [], ◌∷◌, length, refl, sym, ap, subst, ◌∙◌, arith}
+use Rattle.std.proofs.Common.{inl, inr, ◌⊎◌, ℕ, zero, suc, ◌+◌, ◌-◌, ◌*◌, ◌/◌, ◌^◌, ◌%◌, ◌<◌, ◌≤◌, ◌≡◌, ◌==◌, ◌&&◌, ◌||◌, Bool, true, false, nat_le, nat_lt, List, [], ◌∷◌, length, refl, sym, ap, subst, ◌∙◌, arith}
 use Rattle.std.specs.Prelude.{slice_index_or}
 use Rattle.std.specs.List.{list_all, list_any}
 use Rattle.std.specs.Slice.{IsItemAt}
 use Rattle.std.specs.Borrow.{Bor}
-use Rattle.std.specs.Prelude.{Option, None, Some, not}
+use Rattle.std.specs.Prelude.{Option, None, Some, not, if◌then◌else◌}
 use Rattle.std.proofs.lemmas.Bool.{and_parts}
 use Rattle.std.proofs.lemmas.Bool.Decides.{nat_tests}
 use Rattle.std.proofs.Math.Nat.{mod-lt, mod-eq_of_lt, pow-le-pow_right}
 use Rattle.std.specs.Int.Bits.{bit_and}
+use Rattle.std.specs.Int.{bit_at}
+use Rattle.std.proofs.lemmas.Nat.Bits.{shr_and_one}
 use Rattle.std.proofs.lemmas.Nat.{pow_pos, and_mask}
 use Rattle.std.proofs.Math.Pow.{mod-mod-pow}
 use Rattle.basics.specs.Numbers.{less_from_test, at_most_from_test}
@@ -19,8 +21,8 @@ use Rattle.avr_model.specs.declared.rows.Place.{Place}
 use Rattle.avr_model.specs.declared.rows.TheConstants.{ROWS, LAST}
 use Rattle.avr_model.specs.declared.names.TheConstants.{CLASSES, LAST_CLASS}
 use Rattle.avr_model.specs.Families.{FAMILIES, family_of}
-use Rattle.avr_model.specs.Devices.{device_row, width, words_of, io_end, size_of, wrapped, limit_of, depth_of}
-use Rattle.avr_model.specs.Vectors.{last_vector, watchdog, vector_word, is_core, covers}
+use Rattle.avr_model.specs.Devices.{device_row, width, words_of, io_end, size_of, ramend, back_of, has_sph, sp_count, wrapped, limit_of, depth_of}
+use Rattle.avr_model.specs.Vectors.{last_vector, watchdog, vector_word, is_core_by, is_core, covers}
 
 -- ---- what is tested of each row, and of each place
 
@@ -28,13 +30,14 @@ use Rattle.avr_model.specs.Vectors.{last_vector, watchdog, vector_word, is_core,
 abbrev pub is_apart : Row → Option Ivsel → Bool
 is_apart r None = true
 is_apart r (Some s) =
-    nat_le 0x40 s.address && (nat_le s.address r.io_end && (not (is_core s.address) && (nat_lt s.bit 8 && not (list_any (covers s.address s.bit) (family_of r.family)))))
+    nat_le 0x40 s.address && (nat_le s.address r.io_end && (not (is_core_by true s.address) && (nat_lt s.bit 8 && not (list_any (covers s.address s.bit) (family_of r.family)))))
 
 abbrev pub tests : Row → List Bool
 tests r =
     nat_le 8 r.width ∷ nat_le r.width 16 ∷ nat_le 0x5F r.io_end ∷ nat_le r.io_end 0x1FF ∷ nat_le r.size 16384 ∷ nat_le 2 r.last ∷ nat_le r.last 64 ∷ nat_le r.watchdog r.last
     ∷ nat_lt (r.step * (r.last - 1)) (2 ^ r.width) ∷ ((r.step == 1) || (r.step == 2)) ∷ list_all (λ (p : Place). nat_le p.vector r.last && nat_le p.address r.io_end) (family_of r.family)
-    ∷ nat_lt r.family (length FAMILIES) ∷ is_apart r r.ivsel ∷ []
+    ∷ nat_lt r.family (length FAMILIES) ∷ is_apart r r.ivsel ∷ nat_le 2 r.back ∷ nat_le r.back 3 ∷ nat_le (2 ^ r.width) (256 ^ r.back)
+    ∷ (r.has_sph || nat_lt (r.io_end + r.size) 256) ∷ (r.has_sph || nat_le r.size 128) ∷ (r.has_sph || r.reads_masks) ∷ []
 
 abbrev pub is_sound : Row → Bool
 is_sound r = list_all (λ b. b) (tests r)
@@ -145,6 +148,43 @@ steps d v = by ((device_row d).step == 1) refl
     by true is = inl (let e : (device_row d).step ≡ 1 = grind (arith, nat_tests) in ap (λ (s : ℕ). s * (v - 1)) e ∙ (omega arith))
     by false is = inr (let s = passes d 9 in let e : (device_row d).step ≡ 2 = grind (arith, nat_tests) in ap (λ (s : ℕ). s * (v - 1)) e)
 
+pub least_back : (d : Device) → 2 ≤ back_of d
+least_back d = at_most_from_test 2 (back_of d) (passes d 13)
+
+pub most_back : (d : Device) → back_of d ≤ 3
+most_back d = at_most_from_test (back_of d) 3 (passes d 14)
+
+pub in_back : (d : Device) → words_of d ≤ 256 ^ back_of d
+in_back d = at_most_from_test (words_of d) (256 ^ back_of d) (passes d 15)
+
+other : (a b : Bool) → (a || b) ≡ true → a ≡ false → b ≡ true
+other true b h e = absurd (cc)
+other false b h e = h
+
+pub low_end : (d : Device) → has_sph d ≡ false → ramend d < 256
+low_end d none = less_from_test (ramend d) 256 (other _ _ (passes d 16) none)
+
+pub small : (d : Device) → has_sph d ≡ false → size_of d ≤ 128
+small d none = at_most_from_test (size_of d) 128 (other _ _ (passes d 17) none)
+
+pub reads : (d : Device) → has_sph d ≡ false → (device_row d).reads_masks ≡ true
+reads d none = other _ _ (passes d 18) none
+
+pub in_sp : (d : Device) → ramend d < sp_count d
+in_sp d = by (has_sph d) refl
+  where
+    by : (b : Bool) → has_sph d ≡ b → ramend d < (if b then 65536 else 256)
+    by true is = let a = most_bytes d in let b = most_io d in omega arith
+    by false is = low_end d is
+
+-- what is not in the core of a device with SPH is in none
+core_by : (high : Bool) (a : ℕ) → is_core_by true a ≡ false → is_core_by high a ≡ false
+core_by true a none = none
+core_by false a none = grind (arith, nat_tests)
+
+pub core_of_device : (d : Device) (a : ℕ) → is_core_by true a ≡ false → is_core d a ≡ false
+core_of_device d a none = core_by (has_sph d) a none
+
 -- ---- what the code computes
 
 all_behind : {X : Type 0} (rows : List X) (k : ℕ) (x : X) → length rows ≤ k → slice_index_or rows k x ≡ x
@@ -172,6 +212,9 @@ masked_most d a n is = let same = masked d a n is in let below = most d a in ome
 
 pub counted : (d : Device) (n : ℕ) → n ≡ words_of d → 1 ≤ n
 counted d n is = let some = some_words d in omega arith
+
+pub open_bit : (bits v : ℕ) → (bit_and (bits / 2 ^ (v - 2)) 1 == 1) ≡ (bit_at bits (v - 2) == 1)
+open_bit bits v = ap (λ (x : ℕ). x == 1) (shr_and_one bits (v - 2))
 
 pub row_none : (d : Device) (k : ℕ) (r : Option (Bor Row)) → k ≡ d.place → IsItemAt ROWS k r → r ≡ None → LAST ≡ device_row d
 row_none d k r is item none =

@@ -10,9 +10,9 @@ use Rattle.avr_model.specs.declared.rows.Ivsel.{Ivsel}
 use Rattle.avr_model.specs.declared.rows.Place.{Place}
 use Rattle.avr_model.specs.Families.{family_of}
 use Rattle.avr_model.specs.Devices.{device_row, io_end}
-use Rattle.avr_model.specs.Vectors.{places, covers, is_core, is_bit_of, is_ivsel, enable_of}
+use Rattle.avr_model.specs.Vectors.{places, covers, is_core_by, is_core, is_bit_of, is_ivsel, enable_of}
 use Rattle.avr_model.specs.Laws.{IvselIsApart}
-use Rattle.avr_model.proofs.Facts.{is_apart, passes}
+use Rattle.avr_model.proofs.Facts.{is_apart, core_of_device, passes}
 
 none_found : {X : Type 0} (p : X → Bool) (xs : List X) → list_any p xs ≡ false → find p xs ≡ None
 none_found p [] h = refl
@@ -26,7 +26,7 @@ none_found p (x ∷ xs) h = by (p x) refl (none_found p xs)
 pub record Apart (d : Device) (a b : ℕ) : Type 0 where
   pub least : nat_le 0x40 a ≡ true
   pub most : nat_le a (io_end d) ≡ true
-  pub core : is_core a ≡ false
+  pub core : is_core d a ≡ false
   pub bit : nat_lt b 8 ≡ true
   pub enable : list_any (covers a b) (places d) ≡ false
 
@@ -40,9 +40,9 @@ apart_at d s h =
     let enables = not (list_any (covers s.address s.bit) (family_of (device_row d).family)) in
     let one = and_parts (nat_le 0x40 s.address) _ h in
     let two = and_parts (nat_le s.address (io_end d)) _ one.1 in
-    let three = and_parts (not (is_core s.address)) (nat_lt s.bit 8 && enables) two.1 in
+    let three = and_parts (not (is_core_by true s.address)) (nat_lt s.bit 8 && enables) two.1 in
     let four = and_parts (nat_lt s.bit 8) enables three.1 in
-    record { least = one.0; most = two.0; core = not_true _ three.0; bit = four.0; enable = not_true _ four.1 }
+    record { least = one.0; most = two.0; core = core_of_device d s.address (not_true _ three.0); bit = four.0; enable = not_true _ four.1 }
 
 same : (x y : ℕ) → (x == y) ≡ true → x ≡ y
 same x y e = grind (arith, nat_tests)

@@ -45,6 +45,16 @@ FAMILIES =
     ∷ rows.FAMILY_37
     ∷ rows.FAMILY_38
     ∷ rows.FAMILY_39
+    ∷ rows.FAMILY_40
+    ∷ rows.FAMILY_41
+    ∷ rows.FAMILY_42
+    ∷ rows.FAMILY_43
+    ∷ rows.FAMILY_44
+    ∷ rows.FAMILY_45
+    ∷ rows.FAMILY_46
+    ∷ rows.FAMILY_47
+    ∷ rows.FAMILY_48
+    ∷ rows.FAMILY_49
     ∷ []
 
 -- the list of this number, where the first has number k; none behind the last

@@ -35,5 +35,5 @@ admits_enables device A site = reads_masks device A && is_unlisted_site (store_l
 abbrev pub is_flagged_write : Device → List Entry → ℕ → ℕ → ℕ → Bool
 is_flagged_write device A site a byte =
     if admits_enables device A site
-    then is_core a || enables_barred device A a byte
+    then is_core device a || enables_barred device A a byte
     else is_protected device a && not (lists (store_line A site) a)

@@ -13,7 +13,7 @@ use Rattle.avr_model.specs.declared.instruction.Base.TheVariants as base
 use Rattle.avr_model.specs.declared.instruction.Pointer.{Pointer}
 use Rattle.avr_model.specs.declared.instruction.Pointer.TheVariants as pointer
 use Rattle.avr_model.specs.Bits.{any_below, all_below}
-use Rattle.avr_model.specs.Devices.{Program, has_jmp, has_mul, has_elpm, has_break, wrapped, device_of}
+use Rattle.avr_model.specs.Devices.{Program, has_jmp, has_mul, has_elpm, has_break, has_movw, has_lpmx, wrapped, device_of}
 use Rattle.avr_model.specs.Image.{WORDS, word_at}
 use Rattle.avr_model.specs.Table.{decoded, length_of}
 use Rattle.avr_model.specs.Text.{far}
@@ -49,9 +49,21 @@ is_elpm (i.ElpmZ d) = true
 is_elpm (i.ElpmZPlus d) = true
 is_elpm _ = false
 
+abbrev pub is_movw : Instr → Bool
+is_movw (i.Movw d r) = true
+is_movw _ = false
+
+-- `lpm` into a register that it names
+abbrev pub is_lpmx : Instr → Bool
+is_lpmx (i.LpmZ d) = true
+is_lpmx (i.LpmZPlus d) = true
+is_lpmx _ = false
+
 -- the device lacks the instruction's group
 abbrev pub is_lacking : Device → Instr → Bool
-is_lacking device x = (is_long_transfer x && not (has_jmp device)) || ((is_product x && not (has_mul device)) || ((is_elpm x && not (has_elpm device)) || (is_break x && not (has_break device))))
+is_lacking device x =
+    (is_long_transfer x && not (has_jmp device)) || ((is_product x && not (has_mul device)) || ((is_elpm x && not (has_elpm device))
+    || ((is_break x && not (has_break device)) || ((is_movw x && not (has_movw device)) || (is_lpmx x && not (has_lpmx device))))))
 
 -- what the device lacks is no instruction on it
 abbrev pub on_device : Device → Option Instr → Option Instr

@@ -50,6 +50,16 @@ pub(crate) fn family(number: u8) -> &'static [Place]
         37 => &rows::FAMILY_37,
         38 => &rows::FAMILY_38,
         39 => &rows::FAMILY_39,
+        40 => &rows::FAMILY_40,
+        41 => &rows::FAMILY_41,
+        42 => &rows::FAMILY_42,
+        43 => &rows::FAMILY_43,
+        44 => &rows::FAMILY_44,
+        45 => &rows::FAMILY_45,
+        46 => &rows::FAMILY_46,
+        47 => &rows::FAMILY_47,
+        48 => &rows::FAMILY_48,
+        49 => &rows::FAMILY_49,
         _ => &[],
     }
 }

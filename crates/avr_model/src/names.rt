@@ -13,7 +13,7 @@ pub struct Name {
 }
 
 /// The name of each device in texts, by its place in the table; filled up with zeros.
-pub const CLASSES: [[u8; LONGEST]; 73] = [
+pub const CLASSES: [[u8; LONGEST]; 90] = [
     [
         b'a', b't', b'm', b'e', b'g', b'a', b'4', b'8', b'p', b'a', 0, 0,
     ],
@@ -207,6 +207,47 @@ pub const CLASSES: [[u8; LONGEST]; 73] = [
     ],
     [b'a', b't', b't', b'i', b'n', b'y', b'8', b'7', 0, 0, 0, 0],
     [b'a', b't', b't', b'i', b'n', b'y', b'8', b'8', 0, 0, 0, 0],
+    [
+        b'a', b't', b'9', b'0', b's', b'2', b'3', b'1', b'3', 0, 0, 0,
+    ],
+    [
+        b'a', b't', b'9', b'0', b's', b'2', b'3', b'3', b'3', 0, 0, 0,
+    ],
+    [
+        b'a', b't', b'9', b'0', b's', b'4', b'4', b'1', b'4', 0, 0, 0,
+    ],
+    [
+        b'a', b't', b'9', b'0', b's', b'4', b'4', b'3', b'3', 0, 0, 0,
+    ],
+    [
+        b'a', b't', b'9', b'0', b's', b'4', b'4', b'3', b'4', 0, 0, 0,
+    ],
+    [
+        b'a', b't', b'9', b'0', b's', b'8', b'5', b'1', b'5', 0, 0, 0,
+    ],
+    [
+        b'a', b't', b'9', b'0', b's', b'8', b'5', b'3', b'5', 0, 0, 0,
+    ],
+    [
+        b'a', b't', b'm', b'e', b'g', b'a', b'3', b'2', b'4', b'p', b'b', 0,
+    ],
+    [
+        b'a', b't', b'm', b'e', b'g', b'a', b'3', b'2', b'8', b'p', b'b', 0,
+    ],
+    [b'a', b't', b't', b'i', b'n', b'y', b'1', b'3', 0, 0, 0, 0],
+    [b'a', b't', b't', b'i', b'n', b'y', b'2', b'2', 0, 0, 0, 0],
+    [
+        b'a', b't', b't', b'i', b'n', b'y', b'2', b'3', b'1', b'3', 0, 0,
+    ],
+    [
+        b'a', b't', b't', b'i', b'n', b'y', b'2', b'3', b'1', b'3', b'a', 0,
+    ],
+    [b'a', b't', b't', b'i', b'n', b'y', b'2', b'4', 0, 0, 0, 0],
+    [b'a', b't', b't', b'i', b'n', b'y', b'2', b'5', 0, 0, 0, 0],
+    [b'a', b't', b't', b'i', b'n', b'y', b'2', b'6', 0, 0, 0, 0],
+    [
+        b'a', b't', b't', b'i', b'n', b'y', b'2', b'6', b'1', 0, 0, 0,
+    ],
 ];
 
 /// The name of every place behind the table.
@@ -215,7 +256,7 @@ pub const LAST_CLASS: [u8; LONGEST] = [
 ];
 
 /// All names, with the devices that they mean.
-pub const NAMES: [Name; 139] = [
+pub const NAMES: [Name; 161] = [
     Name {
         text: [
             b'a', b't', b'm', b'e', b'g', b'a', b'4', b'8', b'p', b'a', 0, 0,
@@ -1003,5 +1044,127 @@ pub const NAMES: [Name; 139] = [
     Name {
         text: [b'a', b't', b't', b'i', b'n', b'y', b'8', b'8', 0, 0, 0, 0],
         place: 72,
+    },
+    Name {
+        text: [
+            b'a', b't', b'9', b'0', b's', b'2', b'3', b'1', b'3', 0, 0, 0,
+        ],
+        place: 73,
+    },
+    Name {
+        text: [
+            b'a', b't', b'9', b'0', b's', b'2', b'3', b'3', b'3', 0, 0, 0,
+        ],
+        place: 74,
+    },
+    Name {
+        text: [
+            b'a', b't', b'9', b'0', b's', b'4', b'4', b'1', b'4', 0, 0, 0,
+        ],
+        place: 75,
+    },
+    Name {
+        text: [
+            b'a', b't', b'9', b'0', b's', b'4', b'4', b'3', b'3', 0, 0, 0,
+        ],
+        place: 76,
+    },
+    Name {
+        text: [
+            b'a', b't', b'9', b'0', b's', b'4', b'4', b'3', b'4', 0, 0, 0,
+        ],
+        place: 77,
+    },
+    Name {
+        text: [
+            b'a', b't', b'9', b'0', b's', b'8', b'5', b'1', b'5', 0, 0, 0,
+        ],
+        place: 78,
+    },
+    Name {
+        text: [
+            b'a', b't', b'9', b'0', b's', b'8', b'5', b'3', b'5', 0, 0, 0,
+        ],
+        place: 79,
+    },
+    Name {
+        text: [
+            b'a', b't', b'm', b'e', b'g', b'a', b'3', b'2', b'4', b'p', b'b', 0,
+        ],
+        place: 80,
+    },
+    Name {
+        text: [
+            b'a', b't', b'm', b'e', b'g', b'a', b'3', b'2', b'8', b'p', b'b', 0,
+        ],
+        place: 81,
+    },
+    Name {
+        text: [b'a', b't', b't', b'i', b'n', b'y', b'1', b'3', 0, 0, 0, 0],
+        place: 82,
+    },
+    Name {
+        text: [
+            b'a', b't', b't', b'i', b'n', b'y', b'1', b'3', b'a', 0, 0, 0,
+        ],
+        place: 82,
+    },
+    Name {
+        text: [b'a', b't', b't', b'i', b'n', b'y', b'2', b'2', 0, 0, 0, 0],
+        place: 83,
+    },
+    Name {
+        text: [
+            b'a', b't', b'9', b'0', b's', b'2', b'3', b'2', b'3', 0, 0, 0,
+        ],
+        place: 83,
+    },
+    Name {
+        text: [
+            b'a', b't', b'9', b'0', b's', b'2', b'3', b'4', b'3', 0, 0, 0,
+        ],
+        place: 83,
+    },
+    Name {
+        text: [
+            b'a', b't', b't', b'i', b'n', b'y', b'2', b'3', b'1', b'3', 0, 0,
+        ],
+        place: 84,
+    },
+    Name {
+        text: [
+            b'a', b't', b't', b'i', b'n', b'y', b'2', b'3', b'1', b'3', b'a', 0,
+        ],
+        place: 85,
+    },
+    Name {
+        text: [b'a', b't', b't', b'i', b'n', b'y', b'2', b'4', 0, 0, 0, 0],
+        place: 86,
+    },
+    Name {
+        text: [
+            b'a', b't', b't', b'i', b'n', b'y', b'2', b'4', b'a', 0, 0, 0,
+        ],
+        place: 86,
+    },
+    Name {
+        text: [b'a', b't', b't', b'i', b'n', b'y', b'2', b'5', 0, 0, 0, 0],
+        place: 87,
+    },
+    Name {
+        text: [b'a', b't', b't', b'i', b'n', b'y', b'2', b'6', 0, 0, 0, 0],
+        place: 88,
+    },
+    Name {
+        text: [
+            b'a', b't', b't', b'i', b'n', b'y', b'2', b'6', b'1', 0, 0, 0,
+        ],
+        place: 89,
+    },
+    Name {
+        text: [
+            b'a', b't', b't', b'i', b'n', b'y', b'2', b'6', b'1', b'a', 0, 0,
+        ],
+        place: 89,
     },
 ];
