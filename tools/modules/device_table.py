@@ -1,8 +1,8 @@
 """The table of devices, written by tests/devices/rows."""
 
-# A line for each class of equal devices: its name, the words of flash, the first and the last address of SRAM, the bytes of the stack pointer,
-# the words of a vector, the groups of instructions, the last vector, the watchdog's vector, the place with the bit that moves the vectors, the number of its list of
-# vectors, and its other names. `-` stands for none.
+# A line for each class of equal devices: its name, the words of flash, the first and the last address of SRAM, the bytes of the stack
+# pointer, the words of a vector, the groups of instructions, the last vector, the watchdog's vector, the place with the bit that moves the
+# vectors, the number of its list of vectors, and its other names. `-` stands for none.
 CLASSES = """\
 atmega48pa 2048 0100 02FF 2 1 mul,movw,lpmx,break 26 7 - 0 atmega48 atmega48a atmega48p
 atmega88pa 4096 0100 04FF 2 1 mul,movw,lpmx,break 26 7 MCUCR=0055.02 0 ata6612c atmega88 atmega88a atmega88p
