@@ -96,8 +96,8 @@ count_small d = let most = devices_are_alike.most_vectors d in let some = device
 pub place_vector : (d : Device) (p : Place) → Contains (places d) p → is_vector d p.vector ≡ true
 place_vector d p (k, lt, is) = ap (λ (q : Place). is_vector d q.vector) (sym is) ∙ (places_are_apart.each d k p lt).0
 
-not_core : (d : Device) (p : Place) → Contains (places d) p → is_core p.address ≡ false
-not_core d p (k, lt, is) = ap (λ (q : Place). is_core q.address) (sym is) ∙ (places_are_apart.each d k p lt).1.0
+not_core : (d : Device) (p : Place) → Contains (places d) p → is_core d p.address ≡ false
+not_core d p (k, lt, is) = ap (λ (q : Place). is_core d q.address) (sym is) ∙ (places_are_apart.each d k p lt).1.0
 
 -- the place at which a loop is
 pub item_vector : (d : Device) (ps : List Place) (k : ℕ) (e : Place) → ps ≡ places d → k < length ps → is_vector d (get_or ps k e).vector ≡ true
@@ -280,12 +280,12 @@ no_held d address bit h = none_or_some (held_of d address bit) (λ v e.
     true_and_false (f.0.address == address) (eq-eqb f.0.address address (cover_parts address bit f.0 f.1.1.0).0)
     (none_there (λ (q : Place). q.address == address) (places d) f.0 h f.1.0.0))
 
-pub core : (d : Device) (address : ℕ) → is_core address ≡ true → has_enables d address ≡ false
+pub core : (d : Device) (address : ℕ) → is_core d address ≡ true → has_enables d address ≡ false
 unfolding has_enables
 core d address h = elim (cases_Bool (list_any (λ (q : Place). q.address == address) (places d))) [
   | inl some ↦
       let f = any_found (λ (q : Place). q.address == address) (places d) some in
       let same : f.0.address ≡ address = eqb-true f.0.address address f.1.1 in
-      absurd (true_and_false (is_core address) h (ap is_core (sym same) ∙ not_core d f.0 f.1.0))
+      absurd (true_and_false (is_core d address) h (ap (is_core d) (sym same) ∙ not_core d f.0 f.1.0))
   | inr none ↦ none
 ]
