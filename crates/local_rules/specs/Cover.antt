@@ -3,10 +3,10 @@ use Rattle.std.specs.Prelude.{ℕ, ◌+◌, ◌^◌, ◌%◌, ◌≡◌, ◌≢�
 use Rattle.avr_model.specs.declared.device.Device.{Device}
 use Rattle.avr_model.specs.declared.effect.Effect.{Effect}
 use Rattle.avr_model.specs.declared.instruction.Instr.{Instr}
-use Rattle.avr_model.specs.Devices.{io_end, size_of, ramend, wrapped, limit_of, depth_of, device_of}
+use Rattle.avr_model.specs.Devices.{io_end, size_of, ramend, wrapped, limit_of, depth_of, device_of, back_of, has_sph}
 use Rattle.avr_model.specs.Sreg.{flag}
 use Rattle.avr_model.specs.Vectors.{enable_count}
-use Rattle.avr_model.specs.State.{State, plus16}
+use Rattle.avr_model.specs.State.{State, plus_sp}
 use Rattle.avr_model.specs.Effects.{effect_of, calling, popped_word}
 use Rattle.avr_model.specs.Step.{after, all_inside, protected_write, unlisted_transfer, is_guarding}
 use Rattle.sp_domain.specs.Tags.{Origin, LessHolds, HasByteNumbers}
@@ -44,13 +44,13 @@ HighFitsKind Call (Tag k) = k < 65536
 HighFitsKind (Vector v) (Known h) = ⊥
 HighFitsKind (Vector v) (Tag k) = k < 65536
 
-abbrev pub FormFitsKind : Kind → SpForm → Type 0
-FormFitsKind kind (Closed offset) = ⊤
-FormFitsKind kind (Open offset h) = HighFitsKind kind h
+abbrev pub FormFitsKind : Device → Kind → SpForm → Type 0
+FormFitsKind device kind (Closed offset) = ⊤
+FormFitsKind device kind (Open offset h) = (has_sph device ≡ true) × HighFitsKind kind h
 
--- a half-written stack pointer: in the root its high byte is known, elsewhere it has a tag
-abbrev pub FormFits : NodeKey → Type 0
-FormFits k = FormFitsKind k.inst.kind k.sp
+-- a half-written stack pointer: there is SPH, and in the root its high byte is known, elsewhere it has a tag
+abbrev pub FormFits : Device → NodeKey → Type 0
+FormFits device k = FormFitsKind device k.inst.kind k.sp
 
 -- The parts of a key are in range for the device: a word address and an offset that its texts admit, an enable bit for each vector, a form
 -- that the instance's kind permits, and a byte if one is picked.
@@ -58,7 +58,7 @@ pub record IsKey (device : Device) (k : NodeKey) : Type 0 where
   pub word : k.pc < limit_of device
   pub small : offset_of k.sp ≤ depth_of device
   pub masks : k.masks < 2 ^ enable_count device
-  pub fits : FormFits k
+  pub fits : FormFits device k
   pub pick : PickFits k.pick
 
 -- A node of the analysis of a device: its key is in range, its state is formed for the key's offset, numbers in tags are in range, and in
@@ -67,7 +67,7 @@ pub record IsNodeIn (device : Device) (followed : Bool) (k : NodeKey) (s : AbsSt
   pub word : k.pc < limit_of device
   pub small : offset_of k.sp ≤ depth_of device
   pub masks : k.masks < 2 ^ enable_count device
-  pub fits : FormFits k
+  pub fits : FormFits device k
   pub pick : PickFits k.pick
   pub formed : IsFormed s (offset_of k.sp)
   pub tags : TagsFit s
@@ -83,7 +83,7 @@ IsNode device k s = IsNodeIn device false k s
 -- ---- where the machine is
 
 -- The machine is at the node in a frame with this origin, and the state and its facts on pairs hold. The base of the root's frame is the
--- top of the device's SRAM. If `may`, the frame's slots lie in SRAM or above it, so none is an enable bit.
+-- top of the device's SRAM, and no base is above it. If `may`, the frame's slots lie in SRAM or above it, so none is an enable bit.
 pub record InFrameIn (followed may : Bool) (m : State) (o : Origin) (k : NodeKey) (s : AbsState) : Type 0 where
   pub machine : IsMachine m
   pub node : IsNodeIn m.device followed k s
@@ -91,7 +91,7 @@ pub record InFrameIn (followed may : Bool) (m : State) (o : Origin) (k : NodeKey
   pub stands : Stands o s m
   pub facts : HoldsAt s.facts m.registers m.sreg
   pub root : k.inst.kind ≡ Root → o.base ≡ ramend m.device
-  pub base_word : o.base < 65536
+  pub top : o.base ≤ ramend m.device
   pub room : may ≡ true → offset_of k.sp + io_end m.device ≤ o.base
 
 -- a closed offset is at most the base, and then the stack pointer stays in SRAM
@@ -129,7 +129,7 @@ pub record IsReturn (may : Bool) (m : State) (b1 b2 : ℕ) (x : Exit) (e : Effec
   pub registers : e.registers ≡ []
   pub flags : e.sreg % 128 ≡ m.sreg % 128
   pub i : flag e.sreg 7 ≡ x.i
-  pub sp : e.sp ≡ plus16 m.sp 2
+  pub sp : e.sp ≡ plus_sp m.device m.sp (back_of m.device)
   pub closed : e.is_open ≡ false
   pub enables : EnablesAre may e.enables x.masks
   pub stores : e.stores ≡ []

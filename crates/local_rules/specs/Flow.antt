@@ -1,8 +1,8 @@
 -- Jumps, branches, skips, calls, returns, pushes and pops. Source: own.
-use Rattle.std.specs.Prelude.{ℕ, zero, suc, ◌+◌, ◌-◌, ◌==◌, Bool, true, false, nat_lt, nat_le, min, max, if◌then◌else◌, List, [], ◌∷◌, ◌++◌, map, filter, take, length, Option, Some, None}
+use Rattle.std.specs.Prelude.{ℕ, zero, suc, ◌+◌, ◌-◌, ◌==◌, Bool, true, false, nat_lt, nat_le, min, max, if◌then◌else◌, List, [], ◌∷◌, ◌++◌, map, filter, take, length, replicate, Option, Some, None}
 use Rattle.avr_model.specs.declared.device.Device.{Device}
 use Rattle.avr_model.specs.declared.assumption.Entry.{Entry}
-use Rattle.avr_model.specs.Devices.{Program, size_of, width, limit_width}
+use Rattle.avr_model.specs.Devices.{Program, size_of, width, limit_width, back_of}
 use Rattle.avr_model.specs.Image.{word_at}
 use Rattle.avr_model.specs.Table.{length_of}
 use Rattle.avr_model.specs.Assumptions.{jump_line, lists}
@@ -164,11 +164,12 @@ push_row scratch at r = at_closed at.key.sp at.key.pc (pushing scratch at r)
 abbrev pub pop_row : Site → ℕ → Raw
 pop_row at d = at_closed at.key.sp at.key.pc (popping at d)
 
--- a call of the next word only makes room on the stack, and stays in its frame
+-- a call of the next word only makes room on the stack, for a return address, and stays in its frame
 abbrev pub making_room : Site → ℕ → ℕ → Raw
 making_room at target offset =
-    if_room at.device (offset + 2) at.key.pc
-    (one (record (at_word at.key target) { sp = Closed (offset + 2) }) (record at.state { slots = at.state.slots ++ Free ∷ Free ∷ [] }))
+    if_room at.device (offset + back_of at.device) at.key.pc
+    (one (record (at_word at.key target) { sp = Closed (offset + back_of at.device) })
+    (record at.state { slots = at.state.slots ++ replicate (back_of at.device) Free }))
 
 abbrev pub room_row : Site → ℕ → Raw
 room_row at target = at_closed at.key.sp at.key.pc (making_room at target)

@@ -17,6 +17,7 @@ use Rattle.sp_domain.specs.declared.tags.CarryTag.TheVariants as carry
 use Rattle.sp_domain.specs.Tags.{high_moved, byte_more, byte_less, carry_of, high_more}
 use Rattle.abs_state.specs.declared.state.AbsState.{AbsState}
 use Rattle.local_rules.specs.declared.computed.Computed.{Computed}
+use Rattle.local_rules.specs.HighBytes.{SpView, carry_number, seen_high}
 use Rattle.local_rules.specs.Registers.{value, bits, carry_bit, borrow_tag, sum_tagged, step_tagged, difference_after, binary_after, immediate_after, unary_after}
 
 -- ---- the operands of a sum
@@ -68,8 +69,10 @@ abbrev pub framed_add : AbsState → ℕ → ℕ → Computed
 framed_add s d r =
     sum_tagged s d (bits s r) Zero (more_tag (tag_followed s d r) (number_added s d r), sum_tag (tag_followed s d r) (number_added s d r))
 
-abbrev pub framed_adc : AbsState → ℕ → ℕ → Computed
-framed_adc s d r = sum_tagged s d (bits s r) (carry_bit s) (high_more_tag (tag_followed s d r) (number_added s d r) s.flags.carry, carry.None)
+abbrev pub framed_adc : SpView → AbsState → ℕ → ℕ → Computed
+framed_adc view s d r =
+    sum_tagged s d (bits s r) (carry_bit s)
+    (high_more_tag (seen_high view (carry_number s.flags.carry) (value s (followed d r))) (number_added s d r) s.flags.carry, carry.None)
 
 abbrev pub framed_sub : AbsState → ℕ → TriByte → Option ℕ → Computed
 framed_sub s d b number = difference_after s d (bits s d, b) (Zero, false) (less_tag (value s d).tag number, borrow_tag (value s d).tag number)
@@ -77,27 +80,27 @@ framed_sub s d b number = difference_after s d (bits s d, b) (Zero, false) (less
 abbrev pub framed_step : AbsState → Bool → ℕ → Computed
 framed_step s up d = step_tagged s up d (high_moved (value s d).tag up 1)
 
-abbrev pub framed_binary : AbsState → BinaryOp → ℕ → ℕ → Option Computed
-framed_binary s binary.Cpc d r = binary_after s binary.Cpc d r
-framed_binary s binary.Sbc d r = binary_after s binary.Sbc d r
-framed_binary s binary.Add d r = Some (framed_add s d r)
-framed_binary s binary.Cpse d r = binary_after s binary.Cpse d r
-framed_binary s binary.Cp d r = binary_after s binary.Cp d r
-framed_binary s binary.Sub d r = Some (framed_sub s d (bits s r) (byte_constant (bits s r)))
-framed_binary s binary.Adc d r = Some (framed_adc s d r)
-framed_binary s binary.And d r = binary_after s binary.And d r
-framed_binary s binary.Eor d r = binary_after s binary.Eor d r
-framed_binary s binary.Or d r = binary_after s binary.Or d r
-framed_binary s binary.Mov d r = binary_after s binary.Mov d r
-framed_binary s binary.Mul d r = binary_after s binary.Mul d r
+abbrev pub framed_binary : SpView → AbsState → BinaryOp → ℕ → ℕ → Option Computed
+framed_binary view s binary.Cpc d r = binary_after view s binary.Cpc d r
+framed_binary view s binary.Sbc d r = binary_after view s binary.Sbc d r
+framed_binary view s binary.Add d r = Some (framed_add s d r)
+framed_binary view s binary.Cpse d r = binary_after view s binary.Cpse d r
+framed_binary view s binary.Cp d r = binary_after view s binary.Cp d r
+framed_binary view s binary.Sub d r = Some (framed_sub s d (bits s r) (byte_constant (bits s r)))
+framed_binary view s binary.Adc d r = Some (framed_adc view s d r)
+framed_binary view s binary.And d r = binary_after view s binary.And d r
+framed_binary view s binary.Eor d r = binary_after view s binary.Eor d r
+framed_binary view s binary.Or d r = binary_after view s binary.Or d r
+framed_binary view s binary.Mov d r = binary_after view s binary.Mov d r
+framed_binary view s binary.Mul d r = binary_after view s binary.Mul d r
 
-abbrev pub framed_immediate : AbsState → ImmediateOp → ℕ → ℕ → Computed
-framed_immediate s immediate.Cpi d n = immediate_after s immediate.Cpi d n
-framed_immediate s immediate.Sbci d n = immediate_after s immediate.Sbci d n
-framed_immediate s immediate.Subi d n = framed_sub s d (byte_known n) (Some n)
-framed_immediate s immediate.Ori d n = immediate_after s immediate.Ori d n
-framed_immediate s immediate.Andi d n = immediate_after s immediate.Andi d n
-framed_immediate s immediate.Ldi d n = immediate_after s immediate.Ldi d n
+abbrev pub framed_immediate : SpView → AbsState → ImmediateOp → ℕ → ℕ → Computed
+framed_immediate view s immediate.Cpi d n = immediate_after view s immediate.Cpi d n
+framed_immediate view s immediate.Sbci d n = immediate_after view s immediate.Sbci d n
+framed_immediate view s immediate.Subi d n = framed_sub s d (byte_known n) (Some n)
+framed_immediate view s immediate.Ori d n = immediate_after view s immediate.Ori d n
+framed_immediate view s immediate.Andi d n = immediate_after view s immediate.Andi d n
+framed_immediate view s immediate.Ldi d n = immediate_after view s immediate.Ldi d n
 
 abbrev pub framed_unary : AbsState → UnaryOp → ℕ → Computed
 framed_unary s unary.Com d = unary_after s unary.Com d
@@ -115,11 +118,11 @@ framed_unary s unary.Dec d = framed_step s false d
 abbrev pub is_followed : Bool → ℕ → ℕ → Bool
 is_followed line d r = line && not (d == r)
 
-abbrev pub binary_at : Bool → AbsState → BinaryOp → ℕ → ℕ → Option Computed
-binary_at line s op d r = if is_followed line d r then framed_binary s op d r else binary_after s op d r
+abbrev pub binary_at : SpView → Bool → AbsState → BinaryOp → ℕ → ℕ → Option Computed
+binary_at view line s op d r = if is_followed line d r then framed_binary view s op d r else binary_after view s op d r
 
-abbrev pub immediate_at : Bool → AbsState → ImmediateOp → ℕ → ℕ → Computed
-immediate_at line s op d n = if line then framed_immediate s op d n else immediate_after s op d n
+abbrev pub immediate_at : SpView → Bool → AbsState → ImmediateOp → ℕ → ℕ → Computed
+immediate_at view line s op d n = if line then framed_immediate view s op d n else immediate_after view s op d n
 
 abbrev pub unary_at : Bool → AbsState → UnaryOp → ℕ → Computed
 unary_at line s op d = if line then framed_unary s op d else unary_after s op d

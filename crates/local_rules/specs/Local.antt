@@ -45,6 +45,7 @@ use Rattle.pair_rules.specs.Refined.{refined}
 use Rattle.pair_cuts.specs.Cuts.{flag_cut, bit_cut, equal_cut, pick_cut}
 use Rattle.local_rules.specs.Faults.{least}
 use Rattle.local_rules.specs.Raw.{Raw, nowhere, fails, all_of, untracked_if, too_deep_if, at_word, next, further, going_to, going_on, setting}
+use Rattle.local_rules.specs.HighBytes.{SpView, view_of}
 use Rattle.local_rules.specs.Registers.{value, bits, set, going_with, going_by, before, pair_copied, bit_loaded, bit_stored, product_row, wide_row, pair_moved, flag_row}
 use Rattle.local_rules.specs.FrameLines.{binary_at, immediate_at, unary_at}
 use Rattle.local_rules.specs.Permitted.{may_be}
@@ -56,7 +57,7 @@ use Rattle.local_rules.specs.declared.pointers.Pointed.{Pointed}
 -- ---- registers
 
 abbrev pub immediate_row : Bool → Site → ImmediateOp → ℕ → ℕ → Raw
-immediate_row line at op d n = going_with at (immediate_at line at.state op d n)
+immediate_row line at op d n = going_with at (immediate_at (view_of at) line at.state op d n)
 
 abbrev pub unary_row : Bool → Site → UnaryOp → ℕ → Raw
 unary_row line at op d = going_with at (unary_at line at.state op d)
@@ -66,7 +67,7 @@ abbrev pub equal_skip : Program → Site → ℕ → ℕ → Raw
 equal_skip words at d r = skip_if words at (byte_equal (bits at.state d) (bits at.state r))
 
 abbrev pub binary_row : Task → Site → BinaryOp → ℕ → ℕ → Raw
-binary_row task at op d r = going_by at (binary_at (is_frame task.assumptions at.key.pc) at.state op d r) (equal_skip task.flash at d r)
+binary_row task at op d r = going_by at (binary_at (view_of at) (is_frame task.assumptions at.key.pc) at.state op d r) (equal_skip task.flash at d r)
 
 -- ---- loads and stores
 
@@ -88,14 +89,14 @@ step_before pointer.XPlus = 0
 step_before pointer.MinusX = 65535
 
 -- the registers with the pointer as after the instruction
-abbrev pub pointer_moved : Pointer → AbsState → List AbsByte
-pointer_moved pointer.ZPlus s = pair_moved s 30 true 1
-pointer_moved pointer.MinusZ s = pair_moved s 30 false 1
-pointer_moved pointer.YPlus s = pair_moved s 28 true 1
-pointer_moved pointer.MinusY s = pair_moved s 28 false 1
-pointer_moved pointer.X s = s.registers
-pointer_moved pointer.XPlus s = pair_moved s 26 true 1
-pointer_moved pointer.MinusX s = pair_moved s 26 false 1
+abbrev pub pointer_moved : SpView → Pointer → AbsState → List AbsByte
+pointer_moved view pointer.ZPlus s = pair_moved view s 30 true 1
+pointer_moved view pointer.MinusZ s = pair_moved view s 30 false 1
+pointer_moved view pointer.YPlus s = pair_moved view s 28 true 1
+pointer_moved view pointer.MinusY s = pair_moved view s 28 false 1
+pointer_moved view pointer.X s = s.registers
+pointer_moved view pointer.XPlus s = pair_moved view s 26 true 1
+pointer_moved view pointer.MinusX s = pair_moved view s 26 false 1
 
 -- The register gets the byte that is read; no successor if nothing can be read.
 abbrev pub loading : Site → List AbsByte → ℕ → Option AbsByte → Raw
@@ -127,7 +128,7 @@ known_write at is_out a r =
 
 abbrev pub store_row : Task → Site → Pointer → ℕ → Raw
 store_row task at p r =
-    pointer_write task at.state (pointer_register p) (step_before p) (register_write at (record at.state { registers = pointer_moved p at.state }) r)
+    pointer_write task at.state (pointer_register p) (step_before p) (register_write at (record at.state { registers = pointer_moved (view_of at) p at.state }) r)
 
 -- Sets or clears one bit of an I/O address. Other enable bits stay as in the key.
 abbrev pub bit_row : Site → ℕ → ℕ → Bool → Raw
@@ -167,18 +168,18 @@ flow_row task scratch at _ = going_on at
 
 -- loads, stores and I/O
 abbrev pub memory_row : Task → Bool → Site → Instr → Raw
-memory_row task scratch at (i.Ldd d b q) = pointer_load task.assumptions at at.state.registers d (pointed at.state (base_register b) q)
+memory_row task scratch at (i.Ldd d b q) = pointer_load task.assumptions at at.state.registers d (pointed (view_of at) at.state (base_register b) q)
 memory_row task scratch at (i.Std b q r) = pointer_write task at.state (base_register b) q (register_write at at.state r)
 memory_row task scratch at (i.Lds d a) = read_row task.assumptions at 2 d a
 memory_row task scratch at (i.Sts a r) = known_write at false a r
-memory_row task scratch at (i.Ld d p) = pointer_load task.assumptions at (pointer_moved p at.state) d (pointed at.state (pointer_register p) (step_before p))
+memory_row task scratch at (i.Ld d p) = pointer_load task.assumptions at (pointer_moved (view_of at) p at.state) d (pointed (view_of at) at.state (pointer_register p) (step_before p))
 memory_row task scratch at (i.St p r) = store_row task at p r
 memory_row task scratch at (i.LpmZ d) = lpm_row task.flash at at.state.registers d
-memory_row task scratch at (i.LpmZPlus d) = lpm_row task.flash at (pair_moved at.state 30 true 1) d
+memory_row task scratch at (i.LpmZPlus d) = lpm_row task.flash at (pair_moved (view_of at) at.state 30 true 1) d
 memory_row task scratch at i.Lpm = lpm_row task.flash at at.state.registers 0
 -- `elpm` gives any byte
 memory_row task scratch at (i.ElpmZ d) = setting at (set at.state d unknown) at.state.flags
-memory_row task scratch at (i.ElpmZPlus d) = setting at (slice_set (pair_moved at.state 30 true 1) d unknown) at.state.flags
+memory_row task scratch at (i.ElpmZPlus d) = setting at (slice_set (pair_moved (view_of at) at.state 30 true 1) d unknown) at.state.flags
 memory_row task scratch at i.Elpm = setting at (set at.state 0 unknown) at.state.flags
 memory_row task scratch at (i.Pop d) = pop_row at d
 memory_row task scratch at (i.Push r) = push_row (scratch || has_scratch task.assumptions at.key.pc) at r
@@ -241,7 +242,7 @@ storing task at p r (Some moved) = pointer_write task at.state (pointer_register
 abbrev pub paired_store : Task → Site → Pointer → ℕ → Raw
 paired_store task at p r =
     storing task at p r
-    (refined (marks task.flash) task.flash (i.St p r) at.state (record (before (i.St p r) at.state) { registers = pointer_moved p at.state }))
+    (refined (marks task.flash) task.flash (i.St p r) at.state (record (before (i.St p r) at.state) { registers = pointer_moved (view_of at) p at.state }))
 
 -- branches on flags 0 to 6
 abbrev pub paired_branch : ℕ → Node → ℕ → ℕ → Raw → Raw

@@ -5,7 +5,7 @@ use Rattle.avr_model.specs.declared.device.Device.{Device}
 use Rattle.avr_model.specs.Devices.{Program, words_of, io_end, ramend, device_of}
 use Rattle.avr_model.specs.Image.{byte_at}
 use Rattle.avr_model.specs.Vectors.{enable_of, held_of, is_ivsel}
-use Rattle.avr_model.specs.State.{SPL, SPH, SREG, low, high, plus16, minus16}
+use Rattle.avr_model.specs.State.{SPL, SREG, is_sph, low, high, plus16, minus16}
 use Rattle.bit_domain.specs.declared.bits.Tri.{Tri}
 use Rattle.bit_domain.specs.declared.bits.Tri.TheVariants.{Zero, One, Any}
 use Rattle.bit_domain.specs.declared.bytes.TriByte.{TriByte}
@@ -29,6 +29,7 @@ use Rattle.mask_states.specs.declared.keys.SpForm.{SpForm}
 use Rattle.mask_states.specs.declared.keys.SpForm.TheVariants.{Closed, Open}
 -- the address that a pointer gives: a number, base - k, or both
 use Rattle.local_rules.specs.declared.pointers.Pointed.{Pointed}
+use Rattle.local_rules.specs.HighBytes.{SpView}
 use Rattle.local_rules.specs.Registers.{value, bits, with_bits}
 
 -- ---- at an address
@@ -106,7 +107,7 @@ unfoldable pub read_at : Device → Bool → NodeKey → AbsState → ℕ → Ab
 read_at device may k s a =
     if nat_lt a 0x20 then value s a
     else (if a == SPL then sp_low device k.inst.kind k.sp
-    else (if a == SPH then sp_high device k.inst.kind k.sp
+    else (if is_sph device a then sp_high device k.inst.kind k.sp
     else (if a == SREG then sreg_value k s
     else (if nat_le a (io_end device) then untagged (io_bits device may k.masks a)
     else slot_read device k.inst.kind s a))))
@@ -131,11 +132,11 @@ lowered up None = None
 lowered up (Some k) = Some (minus16 k up)
 
 -- the pair plus a number, modulo 65,536: base - k plus the number is base - (k - number)
-abbrev pub pointed : AbsState → ℕ → ℕ → Pointed
-pointed s r up =
+abbrev pub pointed : SpView → AbsState → ℕ → ℕ → Pointed
+pointed view s r up =
     record {
       constant = raised up (pair_constant s r);
-      frame = lowered up (frame_of (value s r).tag (value s (r + 1)).tag);
+      frame = lowered up (frame_of (value s r).tag (high_tag_of view s r));
     }
 
 -- the value by the number alone: without a tag; of registers and I/O the bits alone, a slot keeps its range

@@ -40,6 +40,7 @@ use Rattle.local_rules.specs.Site.{Site}
 use Rattle.local_rules.specs.declared.computed.Computed.{Computed}
 use Rattle.abs_state.specs.FlagsSet.{sets_flags, sets_carry}
 use Rattle.local_rules.specs.Raw.{Raw, setting, next, one}
+use Rattle.local_rules.specs.HighBytes.{SpView, view_of, low_number, carry_number, seen_high}
 
 -- ---- operands and results
 
@@ -158,8 +159,10 @@ or_nothing d r b = if d == r then byte_known 0 else b
 abbrev pub sub_after : AbsState → ℕ → TriByte → TriByte → Option ℕ → Computed
 sub_after s d a b number = difference_after s d (a, b) (Zero, false) (low_tag (value s d).tag number, borrow_tag (value s d).tag number)
 
-abbrev pub sbc_after : AbsState → ℕ → TriByte → Option ℕ → Computed
-sbc_after s d b number = difference_after s d (bits s d, b) (carry_bit s, true) (high_tag (value s d).tag number s.flags.carry, carry.None)
+abbrev pub sbc_after : SpView → AbsState → ℕ → TriByte → Option ℕ → Computed
+sbc_after view s d b number =
+    difference_after s d (bits s d, b) (carry_bit s, true)
+    (high_tag (seen_high view (carry_number s.flags.carry) (value s d)) number s.flags.carry, carry.None)
 
 -- ---- bit by bit
 
@@ -210,20 +213,24 @@ pair_copied s d r = both_set (set_pair s.registers d (value s r) (value s (r + 1
 abbrev pub down_by : Bool → ℕ → ℕ
 down_by up n = if up then minus16 0 n else n
 
-abbrev pub pair_tags : AbsState → ℕ → Bool → ℕ → Tag × Tag
-pair_tags s d up n = pair_below (value s d).tag (value s (d + 1)).tag (down_by up n)
+-- the tag of register r + 1 beside register r
+abbrev pub high_tag_of : SpView → AbsState → ℕ → Tag
+high_tag_of view s r = seen_high view (low_number (value s r).tag) (value s (r + 1))
 
-abbrev pub pair_moved : AbsState → ℕ → Bool → ℕ → List AbsByte
-pair_moved s d up n =
+abbrev pub pair_tags : SpView → AbsState → ℕ → Bool → ℕ → Tag × Tag
+pair_tags view s d up n = pair_below (value s d).tag (high_tag_of view s d) (down_by up n)
+
+abbrev pub pair_moved : SpView → AbsState → ℕ → Bool → ℕ → List AbsByte
+pair_moved view s d up n =
     let p = abs_wide up (bits s d, bits s (d + 1)) n s.flags.bits in
-    set_pair s.registers d (with_bits (pair_tags s d up n).0 p.0.0) (with_bits (pair_tags s d up n).1 p.0.1)
+    set_pair s.registers d (with_bits (pair_tags view s d up n).0 p.0.0) (with_bits (pair_tags view s d up n).1 p.0.1)
 
-abbrev pub wide_after : AbsState → Bool → ℕ → ℕ → Computed
-wide_after s up d n =
-    both_set (pair_moved s d up n) (with_carry (abs_wide up (bits s d, bits s (d + 1)) n s.flags.bits).1 carry.None)
+abbrev pub wide_after : SpView → AbsState → Bool → ℕ → ℕ → Computed
+wide_after view s up d n =
+    both_set (pair_moved view s d up n) (with_carry (abs_wide up (bits s d, bits s (d + 1)) n s.flags.bits).1 carry.None)
 
 abbrev pub wide_row : Site → Bool → ℕ → ℕ → Raw
-wide_row at up d n = going_with at (wide_after at.state up d n)
+wide_row at up d n = going_with at (wide_after (view_of at) at.state up d n)
 
 -- ---- flags
 
@@ -259,13 +266,13 @@ bit_stored s d b = both_set s.registers (with_carry (byte_with s.flags.bits 6 (t
 
 -- ---- by the operation
 
-abbrev pub immediate_after : AbsState → ImmediateOp → ℕ → ℕ → Computed
-immediate_after s immediate.Cpi d n = compare_after s (bits s d, byte_known n) (Zero, false) (carry.Less d n)
-immediate_after s immediate.Sbci d n = sbc_after s d (byte_known n) (Some n)
-immediate_after s immediate.Subi d n = sub_after s d (bits s d) (byte_known n) (Some n)
-immediate_after s immediate.Ori d n = logic_after s logic.Or d (bits s d, byte_known n) false
-immediate_after s immediate.Andi d n = logic_after s logic.And d (bits s d, byte_known n) false
-immediate_after s immediate.Ldi d n = register_set s d (known n)
+abbrev pub immediate_after : SpView → AbsState → ImmediateOp → ℕ → ℕ → Computed
+immediate_after view s immediate.Cpi d n = compare_after s (bits s d, byte_known n) (Zero, false) (carry.Less d n)
+immediate_after view s immediate.Sbci d n = sbc_after view s d (byte_known n) (Some n)
+immediate_after view s immediate.Subi d n = sub_after s d (bits s d) (byte_known n) (Some n)
+immediate_after view s immediate.Ori d n = logic_after s logic.Or d (bits s d, byte_known n) false
+immediate_after view s immediate.Andi d n = logic_after s logic.And d (bits s d, byte_known n) false
+immediate_after view s immediate.Ldi d n = register_set s d (known n)
 
 abbrev pub unary_after : AbsState → UnaryOp → ℕ → Computed
 unary_after s unary.Com d = com_after s d
@@ -278,16 +285,16 @@ unary_after s unary.Ror d = shift_after s shift.Ror d
 unary_after s unary.Dec d = step_after s false d
 
 -- all instructions of two registers but `cpse`
-abbrev pub binary_after : AbsState → BinaryOp → ℕ → ℕ → Option Computed
-binary_after s binary.Cpc d r = Some (compare_after s (bits s d, bits s r) (carry_bit s, true) (less_kept (byte_constant (bits s d)) (byte_constant (bits s r)) s.flags.carry))
-binary_after s binary.Sbc d r = Some (sbc_after s d (bits s r) (byte_constant (bits s r)))
-binary_after s binary.Add d r = Some (sum_after s d (bits s r) Zero)
-binary_after s binary.Cpse d r = None
-binary_after s binary.Cp d r = Some (compare_after s (bits s d, bits s r) (Zero, false) (less_than d (byte_constant (bits s r))))
-binary_after s binary.Sub d r = Some (sub_after s d (or_nothing d r (bits s d)) (or_nothing d r (bits s r)) (byte_constant (bits s r)))
-binary_after s binary.Adc d r = Some (sum_after s d (bits s r) (carry_bit s))
-binary_after s binary.And d r = Some (logic_after s logic.And d (bits s d, bits s r) (d == r))
-binary_after s binary.Eor d r = Some (logic_after s logic.Eor d (or_nothing d r (bits s d), or_nothing d r (bits s r)) false)
-binary_after s binary.Or d r = Some (logic_after s logic.Or d (bits s d, bits s r) (d == r))
-binary_after s binary.Mov d r = Some (register_set s d (value s r))
-binary_after s binary.Mul d r = Some (product_after s product.Mul d r)
+abbrev pub binary_after : SpView → AbsState → BinaryOp → ℕ → ℕ → Option Computed
+binary_after view s binary.Cpc d r = Some (compare_after s (bits s d, bits s r) (carry_bit s, true) (less_kept (byte_constant (bits s d)) (byte_constant (bits s r)) s.flags.carry))
+binary_after view s binary.Sbc d r = Some (sbc_after view s d (bits s r) (byte_constant (bits s r)))
+binary_after view s binary.Add d r = Some (sum_after s d (bits s r) Zero)
+binary_after view s binary.Cpse d r = None
+binary_after view s binary.Cp d r = Some (compare_after s (bits s d, bits s r) (Zero, false) (less_than d (byte_constant (bits s r))))
+binary_after view s binary.Sub d r = Some (sub_after s d (or_nothing d r (bits s d)) (or_nothing d r (bits s r)) (byte_constant (bits s r)))
+binary_after view s binary.Adc d r = Some (sum_after s d (bits s r) (carry_bit s))
+binary_after view s binary.And d r = Some (logic_after s logic.And d (bits s d, bits s r) (d == r))
+binary_after view s binary.Eor d r = Some (logic_after s logic.Eor d (or_nothing d r (bits s d), or_nothing d r (bits s r)) false)
+binary_after view s binary.Or d r = Some (logic_after s logic.Or d (bits s d, bits s r) (d == r))
+binary_after view s binary.Mov d r = Some (register_set s d (value s r))
+binary_after view s binary.Mul d r = Some (product_after s product.Mul d r)

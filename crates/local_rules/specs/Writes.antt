@@ -2,10 +2,10 @@
 use Rattle.std.specs.Prelude.{ℕ, ◌+◌, ◌*◌, ◌-◌, ◌%◌, ◌==◌, ◌&&◌, Bool, true, false, not, nat_lt, nat_le, if◌then◌else◌, List, [], ◌∷◌, ◌++◌, map, filter, Option, Some, None, slice_set}
 use Rattle.avr_model.specs.declared.device.Device.{Device}
 use Rattle.avr_model.specs.declared.assumption.Entry.{Entry}
-use Rattle.avr_model.specs.Devices.{size_of, ramend}
+use Rattle.avr_model.specs.Devices.{size_of, ramend, has_sph}
 use Rattle.avr_model.specs.Assumptions.{store_line, is_fixed_site}
 use Rattle.avr_model.specs.Masks.{admits_enables}
-use Rattle.avr_model.specs.State.{SPL, SPH, SREG, low, high, minus16}
+use Rattle.avr_model.specs.State.{SPL, SREG, is_sph, low, high, minus16}
 use Rattle.bit_domain.specs.declared.bits.Tri.{Tri}
 use Rattle.bit_domain.specs.declared.bits.Tri.TheVariants.{Zero, One, Any}
 use Rattle.bit_domain.specs.TriByte.{tri_at, has, byte_with, byte_constant}
@@ -31,6 +31,7 @@ use Rattle.local_rules.specs.declared.local.Node.{Node}
 use Rattle.local_rules.specs.declared.local.NodeFault.TheVariants.{UntrackedSp, TooDeep, UnknownPointer}
 use Rattle.local_rules.specs.Raw.{Raw, moves_to, one, two, fails, all_of}
 use Rattle.abs_state.specs.Ended.{ended, written_hull}
+use Rattle.local_rules.specs.HighBytes.{view_by}
 use Rattle.local_rules.specs.Registers.{bits, with_bits, forgetting}
 use Rattle.local_rules.specs.Site.{Task}
 use Rattle.local_rules.specs.Reads.{pointed}
@@ -66,6 +67,11 @@ abbrev pub tagged_offset : ℕ → Tag → Option ℕ
 tagged_offset k (tag.SpLo j) = if (j == k % 256) && nat_lt k 0x8000 then Some k else None
 tagged_offset k _ = None
 
+-- Without SPH the low byte is all of the stack pointer. An offset is below 0x80; a greater number would be above the base.
+abbrev pub byte_offset : Tag → Option ℕ
+byte_offset (tag.SpLo j) = if nat_lt j 0x80 then Some j else None
+byte_offset _ = None
+
 -- the offset at which a low byte closes the pair
 abbrev pub root_closing : Device → SpForm → Option ℕ → Option ℕ
 root_closing device (Closed offset) l = root_offset device (high (ramend device - offset)) l
@@ -77,10 +83,13 @@ frame_closing (Closed offset) t = tagged_offset offset t
 frame_closing (Open offset (Known h)) t = None
 frame_closing (Open offset (Tagged k)) t = tagged_offset k t
 
+abbrev pub tag_closing : Device → SpForm → Tag → Option ℕ
+tag_closing device sp t = if has_sph device then frame_closing sp t else byte_offset t
+
 abbrev pub closing_offset : Device → Kind → SpForm → AbsByte → Option ℕ
 closing_offset device Root sp v = root_closing device sp (byte_constant v.bits)
-closing_offset device Call sp v = frame_closing sp v.tag
-closing_offset device (Vector n) sp v = frame_closing sp v.tag
+closing_offset device Call sp v = tag_closing device sp v.tag
+closing_offset device (Vector n) sp v = tag_closing device sp v.tag
 
 -- Slots are cut at the new offset, or free ones are added up to it.
 abbrev pub closing : Device → Option ℕ → NodeKey → AbsState → ℕ → Raw
@@ -141,7 +150,7 @@ unfoldable pub written_at : ByteWrite → Bool → ℕ → Raw
 written_at w is_out a =
     if nat_lt a 0x20 then one w.key (register_written w.state a w.value)
     else (if a == SPL then closing w.device (closing_offset w.device w.key.inst.kind w.key.sp w.value) w.key w.state w.pc
-    else (if a == SPH then opening (high_part w.key.inst.kind w.value) w.key w.state w.pc
+    else (if is_sph w.device a then opening (high_part w.key.inst.kind w.value) w.key w.state w.pc
     else (if a == SREG then sreg_written (tri_at w.value.bits 7) w.key (put_flags w.state (flags_written w.value)) is_out
     else masks_written w.device w.key w.state a w.value)))
 
@@ -169,7 +178,7 @@ is_own_slot (Some d) offset = nat_lt d offset
 -- slot of the running frame, and it permits an address at which the byte may set such a bit.
 unfoldable pub may_wake : List Entry → AbsState → ℕ → ℕ → ByteWrite → Bool
 may_wake A was r up w =
-    admits_enables w.device A w.pc && not (is_own_slot (pointed was r up).frame (offset_of w.key.sp))
+    admits_enables w.device A w.pc && not (is_own_slot (pointed (view_by w.device w.key) was r up).frame (offset_of w.key.sp))
     && may_enable_other w.device A (λ a. permits_number was r (minus16 a up)) w.value.bits
 
 -- the node in which each vector that isn't barred may be enabled
@@ -190,5 +199,5 @@ unfixed_write A was r up w =
 abbrev pub pointer_write : Task → AbsState → ℕ → ℕ → ByteWrite → Raw
 pointer_write task was r up w =
     if is_fixed_site task.flash task.assumptions w.pc
-    then fixed_write (pointed was r up).constant w
+    then fixed_write (pointed (view_by w.device w.key) was r up).constant w
     else unfixed_write task.assumptions was r up w
