@@ -3,7 +3,7 @@ use Rattle.std.specs.Prelude.{ℕ, ◌+◌, ◌^◌, ◌%◌, ◌≡◌, ◌≢�
 use Rattle.avr_model.specs.declared.device.Device.{Device}
 use Rattle.avr_model.specs.declared.effect.Effect.{Effect}
 use Rattle.avr_model.specs.declared.instruction.Instr.{Instr}
-use Rattle.avr_model.specs.Devices.{io_end, size_of, ramend, wrapped, limit_of, depth_of, device_of, back_of, has_sph}
+use Rattle.avr_model.specs.Devices.{io_end, size_of, ramend, wrapped, limit_of, depth_of, back_of, has_sph}
 use Rattle.avr_model.specs.Sreg.{flag}
 use Rattle.avr_model.specs.Vectors.{enable_count}
 use Rattle.avr_model.specs.State.{State, plus_sp}

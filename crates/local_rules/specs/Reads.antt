@@ -30,7 +30,7 @@ use Rattle.mask_states.specs.declared.keys.SpForm.TheVariants.{Closed, Open}
 -- the address that a pointer gives: a number, base - k, or both
 use Rattle.local_rules.specs.declared.pointers.Pointed.{Pointed}
 use Rattle.local_rules.specs.HighBytes.{SpView}
-use Rattle.local_rules.specs.Registers.{value, bits, with_bits}
+use Rattle.local_rules.specs.Registers.{value, bits, with_bits, high_tag_of}
 
 -- ---- at an address
 
