@@ -23,7 +23,7 @@ use Rattle.mask_states.specs.declared.keys.High.TheVariants as high
 use Rattle.mask_states.specs.declared.keys.SpForm.{SpForm}
 use Rattle.mask_states.specs.declared.keys.SpForm.TheVariants.{Closed, Open}
 use Rattle.mask_states.specs.Keys.{offset_of, PickFits}
-use Rattle.local_rules.specs.Cover.{FormFitsKind, IsKey}
+use Rattle.local_rules.specs.Cover.{HighFitsKind, FormFitsKind, IsKey}
 use Rattle.certificate.specs.declared.version.Version.{Version}
 use Rattle.certificate.specs.declared.version.Version.TheVariants.{One, Two, Three}
 use Rattle.certificate.specs.Versions.{PickIsOf}
@@ -42,7 +42,7 @@ form_offset : (device : Device) (root : Bool) (f : SpForm) → IsSpForm device r
 form_offset device root (Closed offset) h = h
 form_offset device root (Open offset x) h = h.0
 
-high_fits : (kd : Kind) (offset : ℕ) (x : High) → IsHigh (is_root kd) x → FormFitsKind kd (Open offset x)
+high_fits : (kd : Kind) (offset : ℕ) (x : High) → IsHigh (is_root kd) x → HighFitsKind kd x
 high_fits Root offset (high.Known byte) h = h
 high_fits Root offset (high.Tag k) h = h
 high_fits Call offset (high.Known byte) h = h
@@ -50,11 +50,11 @@ high_fits Call offset (high.Tag k) h = h
 high_fits (Vector v) offset (high.Known byte) h = h
 high_fits (Vector v) offset (high.Tag k) h = h
 
-form_fits : (device : Device) (kd : Kind) (f : SpForm) → IsSpForm device (is_root kd) f → FormFitsKind kd f
+form_fits : (device : Device) (kd : Kind) (f : SpForm) → IsSpForm device (is_root kd) f → FormFitsKind device kd f
 form_fits device kd (Closed offset) h = tt
-form_fits device kd (Open offset x) h = high_fits kd offset x h.1
+form_fits device kd (Open offset x) h = (h.1.0, high_fits kd offset x h.1.1)
 
-is_high : (kd : Kind) (offset : ℕ) (x : High) → FormFitsKind kd (Open offset x) → IsHigh (is_root kd) x
+is_high : (kd : Kind) (offset : ℕ) (x : High) → HighFitsKind kd x → IsHigh (is_root kd) x
 is_high Root offset (high.Known byte) h = h
 is_high Root offset (high.Tag k) h = h
 is_high Call offset (high.Known byte) h = h
@@ -62,9 +62,9 @@ is_high Call offset (high.Tag k) h = h
 is_high (Vector v) offset (high.Known byte) h = h
 is_high (Vector v) offset (high.Tag k) h = h
 
-is_form : (device : Device) (kd : Kind) (f : SpForm) → offset_of f ≤ depth_of device → FormFitsKind kd f → IsSpForm device (is_root kd) f
+is_form : (device : Device) (kd : Kind) (f : SpForm) → offset_of f ≤ depth_of device → FormFitsKind device kd f → IsSpForm device (is_root kd) f
 is_form device kd (Closed offset) small h = small
-is_form device kd (Open offset x) small h = (small, is_high kd offset x h)
+is_form device kd (Open offset x) small h = (small, (h.0, is_high kd offset x h.1))
 
 -- ---- the pick
 

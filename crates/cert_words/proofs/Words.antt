@@ -12,7 +12,7 @@ use Rattle.std.proofs.lemmas.Option.{cond_some, same_Some as some_is, none-some}
 use Rattle.basics.specs.Lists.{chosen}
 use Rattle.basics.specs.Numbers.{at_most_from_test, test_from_at_most}
 use Rattle.avr_model.specs.declared.device.Device.{Device}
-use Rattle.avr_model.specs.Devices.{depth_of}
+use Rattle.avr_model.specs.Devices.{depth_of, has_sph}
 use Rattle.sb_base.specs.Digits.{hex_digits}
 use Rattle.line_reading.specs.Letters.{letter_at, digits_at, is_end}
 use Rattle.line_reading.specs.Words.{WordLaws, IsWord}
@@ -451,9 +451,9 @@ high_length true (high.Tag j) h = absurd h
 high_length false (high.Known byte) h = absurd h
 high_length false (high.Tag j) h = omega (arith, length_hex j 4)
 
-open_take : WordLaws → (device : Device) (root : Bool) (bs : List ℕ) (f : SpForm) → open_in device root bs ≡ Some f → (111 ∷ bs ≡ form_word f) × IsSpForm device root f
+open_take : WordLaws → (device : Device) (root : Bool) (bs : List ℕ) (f : SpForm) → has_sph device ≡ true → open_in device root bs ≡ Some f → (111 ∷ bs ≡ form_word f) × IsSpForm device root f
 unfolding open_in
-open_take k device root bs f e = elim (chosen (nat_lt (length bs) (high_size root)) _ _ (Some f) e) [
+open_take k device root bs f sph e = elim (chosen (nat_lt (length bs) (high_size root)) _ _ (Some f) e) [
   | inl h ↦ absurd (none-some f h.1)
   | inr h ↦
       let i = length bs - high_size root in
@@ -462,7 +462,7 @@ open_take k device root bs f e = elim (chosen (nat_lt (length bs) (high_size roo
       let number = offset_take k device (take i bs) n.0 n.1 in
       let byte = high_take k root (drop i bs) g.0 g.1 in
       let P : SpForm → Type 0 = λ y. (111 ∷ bs ≡ form_word y) × IsSpForm device root y in
-      subst P (some_is (Open n.0 g.0) f g.2) (ap (front 111) (sym (take-append-drop i bs) ∙ ap₂ (λ (xs ys : List ℕ). xs ++ ys) number.0 byte.0), (number.1, byte.1))
+      subst P (some_is (Open n.0 g.0) f g.2) (ap (front 111) (sym (take-append-drop i bs) ∙ ap₂ (λ (xs ys : List ℕ). xs ++ ys) number.0 byte.0), (number.1, (sph, byte.1)))
 ]
 
 open_again : WordLaws → (device : Device) (root : Bool) (n : ℕ) (h : High) → n ≤ depth_of device → IsHigh root h → open_in device root (decimal n ++ high_text h) ≡ Some (Open n h)
@@ -489,8 +489,11 @@ form_take k device root w f e =
           let n = map_some (offset_in device l.0.1) (λ x. Closed x) f h.1 in
           let number = offset_take k device l.0.1 n.0 n.1 in
           subst P n.2 (first ∙ ap₂ front (eqb-true l.0.0 99 h.0) number.0, number.1)
-      | inr h ↦ elim (chosen (l.0.0 == 111) _ _ (Some f) h.1) [
-        | inl g ↦ let t = open_take k device root l.0.1 f g.1 in (first ∙ ap (λ (x : ℕ). x ∷ l.0.1) (eqb-true l.0.0 111 g.0) ∙ t.0, t.1)
+      | inr h ↦ elim (chosen ((l.0.0 == 111) && has_sph device) _ _ (Some f) h.1) [
+        | inl g ↦
+            let both = and_parts (l.0.0 == 111) (has_sph device) g.0 in
+            let t = open_take k device root l.0.1 f both.1 g.1 in
+            (first ∙ ap (λ (x : ℕ). x ∷ l.0.1) (eqb-true l.0.0 111 both.0) ∙ t.0, t.1)
         | inr g ↦ absurd (none-some f g.1)
       ]
     ]
@@ -498,7 +501,7 @@ form_take k device root w f e =
 form_again : WordLaws → (device : Device) (root : Bool) (f : SpForm) → IsSpForm device root f → form_in device root (form_word f) ≡ Some f
 unfolding form_in
 form_again k device root (Closed offset) h = rw (offset_again k device offset h) refl
-form_again k device root (Open offset h) g = rw (open_again k device root offset h g.0 g.1) refl
+form_again k device root (Open offset h) g = rw (g.1.0, open_again k device root offset h g.0 g.1.1) refl
 
 -- ---- no space and no line feed
 
@@ -562,7 +565,7 @@ form_is_word : WordLaws → (device : Device) (root : Bool) (f : SpForm) → IsS
 form_is_word k device root (Closed offset) h = joined_word (codes "c") (decimal offset) ((refl, tt), (refl, tt)) (k.dec_word offset (omega (arith, h, depth_room device)))
 form_is_word k device root (Open offset h) g =
     joined_word (codes "o") (decimal offset ++ high_text h) ((refl, tt), (refl, tt))
-    (joined_word (decimal offset) (high_text h) (k.dec_word offset (omega (arith, g.0, depth_room device))) (high_is_word k root h g.1))
+    (joined_word (decimal offset) (high_text h) (k.dec_word offset (omega (arith, g.0, depth_room device))) (high_is_word k root h g.1.1))
 
 -- ---- all of them
 

@@ -1,7 +1,7 @@
 -- The values, flags, slots and forms that a node may have in the root's frame, and in other frames.
 use Rattle.std.specs.Prelude.{◌≡◌, ◌<◌, ◌≤◌, ⊤, Bool, true, false}
 use Rattle.avr_model.specs.declared.device.Device.{Device}
-use Rattle.avr_model.specs.Devices.{depth_of}
+use Rattle.avr_model.specs.Devices.{depth_of, has_sph}
 use Rattle.bit_domain.specs.declared.bits.Tri.TheVariants.{Any}
 use Rattle.bit_domain.specs.declared.bytes.TriByte.{TriByte}
 use Rattle.bit_domain.specs.TriByte.{tri_at}
@@ -57,4 +57,4 @@ IsHigh false (high.Tag k) = k < 65536
 
 abbrev pub IsSpForm : Device → Bool → SpForm → Type 0
 IsSpForm device root (Closed offset) = offset ≤ depth_of device
-IsSpForm device root (Open offset h) = (offset ≤ depth_of device) × IsHigh root h
+IsSpForm device root (Open offset h) = (offset ≤ depth_of device) × ((has_sph device ≡ true) × IsHigh root h)

@@ -5,7 +5,7 @@ use Rattle.std.specs.Int.{bit_at}
 use Rattle.std.specs.Int.RustNames.{bit_and}
 use Rattle.std.specs.Str.{bytes_eq}
 use Rattle.avr_model.specs.declared.device.Device.{Device}
-use Rattle.avr_model.specs.Devices.{depth_of}
+use Rattle.avr_model.specs.Devices.{depth_of, has_sph}
 use Rattle.line_reading.specs.Reading.{◌>>=◌, dec_at}
 use Rattle.line_reading.specs.Letters.{letter_at, digits_at, is_end}
 use Rattle.bit_domain.specs.declared.bytes.TriByte.{TriByte}
@@ -159,4 +159,4 @@ open_in device root bs =
 
 unfoldable pub form_in : Device → Bool → List ℕ → Option SpForm
 form_in device root w =
-    letter_at w >>= λ l. if l.0 == 99 then option_map (λ n. Closed n) (offset_in device l.1) else (if l.0 == 111 then open_in device root l.1 else None)
+    letter_at w >>= λ l. if l.0 == 99 then option_map (λ n. Closed n) (offset_in device l.1) else (if (l.0 == 111) && has_sph device then open_in device root l.1 else None)

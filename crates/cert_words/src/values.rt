@@ -259,7 +259,7 @@ fn open_of(device: Device, text: &[u8], root: bool) -> Option<SpForm>
     Some(SpForm::Open(offset, high))
 }
 
-// The form of the stack pointer of a word.
+// The form of the stack pointer of a word. Without SPH none is half-written.
 #[tactic(auto, unfolding(crate::specs::Reading::form_in))]
 pub(crate) fn sp_form_of(device: Device, word: &[u8], root: bool) -> Option<SpForm>
     ensures exact { result ≡ form_in device root word.now }
@@ -269,7 +269,7 @@ pub(crate) fn sp_form_of(device: Device, word: &[u8], root: bool) -> Option<SpFo
     let letter = letters.next()?;
     if letter == b'c' {
         Some(SpForm::Closed(offset_of(device, letters.rest())?))
-    } else if letter == b'o' {
+    } else if letter == b'o' && device.has_sph() {
         open_of(device, letters.rest(), root)
     } else {
         None
