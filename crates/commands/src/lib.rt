@@ -6,7 +6,7 @@ mod line;
 mod reading;
 mod size;
 
-pub use command::{Command, Request, Work};
+pub use command::{Command, Request, Topic, Work};
 pub use line::CommandLine;
 pub use reading::called;
 pub use size::{ChoiceCount, Size};
