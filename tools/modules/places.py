@@ -239,8 +239,8 @@ def words_of(elf, keep):
 
 
 def is_of(elf, keep, place):
-    if keep.name == START_UP:
-        return place.key == START_UP
+    if keep.name in (START_UP, fuses.KEPT):
+        return place.key == keep.name
     if not place.words:
         return keep.line is None and place.key.partition(" ")[0] == keep.name
     if place.key == START_UP or keep.line is None and keep.name.endswith("_vect"):
