@@ -100,7 +100,7 @@ def table() -> Iterator[Tuple[str, List[str]]]:
     """Yields each name that the compiler takes, with the words of its line of the table."""
     for line in CLASSES.splitlines():
         row = line.split()
-        yield from ((name, row) for name in (row[0], *row[10:]))
+        yield from ((name, row) for name in (row[0], *row[11:]))
 
 
 NAMES = dict(table())
