@@ -95,6 +95,7 @@ fn guide_of(
         bytes,
         takes: Candidates::new(takes),
         bound: certificate.bound(),
+        back: flash.device().back(),
     })
 }
 
