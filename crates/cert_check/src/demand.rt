@@ -110,7 +110,13 @@ fn add_recur(
         None => Ok(()),
         Some(depth) => {
             let root = number_of(instances, &InstKey::root());
-            add_below(demands, instances, root, u32::from(depth) + u32::from(back), inst)
+            add_below(
+                demands,
+                instances,
+                root,
+                u32::from(depth) + u32::from(back),
+                inst,
+            )
         }
     }
 }

@@ -1,7 +1,7 @@
 -- The named instance: settled ones never are, and one more instance.
 use Rattle.std.specs.Option.{is_some}
 use Rattle.std.specs.List.{Contains}
-use Rattle.std.proofs.Common.{true, ◌≡◌, ◌≢◌, ◌∙◌, ℕ, zero, suc, ◌+◌, ◌<◌, ◌≤◌, Option, Some, None, List, length, replicate, slice_get, slice_index, refl, sym, ap, subst, arith, ◌⊎◌, ⊎_elim}
+use Rattle.std.proofs.Common.{true, ◌≡◌, ◌≢◌, ◌∙◌, ℕ, zero, suc, ◌+◌, ◌<◌, ◌≤◌, Option, Some, None, List, length, replicate, slice_get, slice_index, refl, sym, ap, subst, arith, ⊎_elim}
 use Rattle.std.proofs.lemmas.Option.{slice_get_within}
 use Rattle.basics.specs.Numbers.{before_or_last}
 use Rattle.nesting_bound.specs.declared.found.Found.{Found}

@@ -90,7 +90,7 @@ small_table back gs table graph sound j x is =
     let s = sound.small j x is in
     (omega (arith, s.0, count_le table, sound.same, graph.few), s.1)
 
-module _ (back : ℕ) (gs : List GraphInst) (table : List (Option Found)) (graph : IsGraph gs) (sound : IsSoundTable back gs table) (i : ℕ) (inst : GraphInst) (within : i < length gs) (here : slice_get gs i ≡ Some inst) (missing : at table i ≡ None) where
+module _ (back : ℕ) (byte : back < 256) (gs : List GraphInst) (table : List (Option Found)) (graph : IsGraph gs) (sound : IsSoundTable back gs table) (i : ℕ) (inst : GraphInst) (within : i < length gs) (here : slice_get gs i ≡ Some inst) (missing : at table i ≡ None) where
   same_inst : (e : Entered) → EntersAlong gs i e → Contains inst.entered e
   same_inst e enters = let is : enters.inst ≡ inst = let a = enters.is in cc in subst (λ x. Contains x.entered e) is enters.has
 

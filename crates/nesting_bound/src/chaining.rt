@@ -96,7 +96,9 @@ fn best_edge(
             Some(old) => is_before(instances, entered, &old),
         };
         let below = read(needs, entered.into as usize);
-        if first && u64::from(entered.offset) + u64::from(back) + u64::from(below) == u64::from(need) {
+        if first
+            && u64::from(entered.offset) + u64::from(back) + u64::from(below) == u64::from(need)
+        {
             best = Some(*entered);
         }
     }

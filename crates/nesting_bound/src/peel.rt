@@ -41,7 +41,9 @@ fn settle(inst: &GraphInst, table: &[Option<Found>], back: u8) -> Option<Found>
             Some(x) => {
                 found = Found {
                     rank: found.rank.max(x.rank + 1),
-                    need: found.need.max(u32::from(entered.offset) + u32::from(back) + x.need),
+                    need: found
+                        .need
+                        .max(u32::from(entered.offset) + u32::from(back) + x.need),
                 };
             }
         }

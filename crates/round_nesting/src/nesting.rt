@@ -141,7 +141,13 @@ impl Nesting {
         if !self.has_root {
             return Ok(NestingVerdict::Nests);
         }
-        let judged = judge_noted(self.alloc, &self.others, &self.spots, &self.entrances, device)?;
+        let judged = judge_noted(
+            self.alloc,
+            &self.others,
+            &self.spots,
+            &self.entrances,
+            device,
+        )?;
         self.covered = judged.allowances.cover(&self.spots, &self.entrances);
         self.allowances = judged.allowances;
         Ok(judged.verdict)

@@ -127,7 +127,11 @@ pub static ROWS: [(&str, &[Row]); 1] = [(
         Row(LARGE, &[Note::Node(ROOT, 0)], NestingVerdict::Nests),
         // a need of exactly the SRAM of the ATmega48PA, and one more; then of exactly that of the ATmega328P
         Row(SMALL, &[Note::Node(ROOT, 512)], NestingVerdict::Nests),
-        Row(SMALL, &[Note::Node(ROOT, 513)], NestingVerdict::TooDeep(513)),
+        Row(
+            SMALL,
+            &[Note::Node(ROOT, 513)],
+            NestingVerdict::TooDeep(513),
+        ),
         Row(LARGE, &[Note::Node(ROOT, 2_048)], NestingVerdict::Nests),
         Row(
             LARGE,

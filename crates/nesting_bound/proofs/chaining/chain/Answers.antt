@@ -13,5 +13,6 @@ returns-in-Ends c =
 pub links-preserved : goal.links-preserved
 links-preserved c =
     let turned = turned_way c.args.back c.args.graph.now.instances c.as_slice-instances.result.now c.args.composed.now.needs c.as_slice-needs.result.now c.links.inst c.goes_on.result c.in-Enters.entered c.as_slice-instances.ensures c.as_slice-needs.ensures c.in-Enters.is c.goes_on.ensures in
-    subst (IsOnWay c.args.back c.args.graph.now.instances c.args.composed.now.needs c.in-Enters.entered.into (c.links.above + (c.in-Enters.entered.offset + c.args.back))) (sym c.in_ok-push-in-Enters.ensures.items)
-    (goes_here c.args.back c.args.graph.now.instances c.args.composed.now.needs c.links.inst c.links.above c.links.links.items c.links.invariant c.in-Enters.entered turned.0 turned.1 c.requires.graph c.requires.places)
+    subst (λ back. IsOnWay c.args.back c.args.graph.now.instances c.args.composed.now.needs c.in-Enters.entered.into (c.links.above + (c.in-Enters.entered.offset + back)) c.push-in-Enters.new.self.items) (sym c.from.ensures)
+    (subst (IsOnWay c.args.back c.args.graph.now.instances c.args.composed.now.needs c.in-Enters.entered.into (c.links.above + (c.in-Enters.entered.offset + c.args.back))) (sym c.in_ok-push-in-Enters.ensures.items)
+    (goes_here c.args.back c.args.graph.now.instances c.args.composed.now.needs c.links.inst c.links.above c.links.links.items c.links.invariant c.in-Enters.entered turned.0 turned.1 c.requires.graph c.requires.places))
