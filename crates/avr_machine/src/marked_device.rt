@@ -1,7 +1,7 @@
 //! A device with marks of the data addresses at which its vectors are enabled or moved, and with the shape of its stack.
 
-ghost use Rattle.std.specs.Prelude.{◌≡◌, ◌≤◌, ◌||◌, ℕ, false, slice_index_or};
-ghost use Rattle.avr_model.specs.Devices.{back_of, has_sph};
+ghost use Rattle.std.specs.Prelude.{◌≡◌, ◌≤◌, ◌+◌, ◌||◌, ℕ, false, slice_index_or};
+ghost use Rattle.avr_model.specs.Devices.{back_of, has_sph, sp_count};
 ghost use Rattle.avr_model.specs.State.{plus_sp, minus_sp};
 ghost use Rattle.avr_model.specs.Vectors.{has_enables};
 ghost use Rattle.vector_table.specs.Moving.{has_ivsel};
@@ -47,6 +47,13 @@ fn mark_ivsel(device: Device, marks: &mut [bool; MARKS])
     }
 }
 
+// The greatest number that the stack pointer can hold.
+fn greatest_sp(device: Device) -> u16
+    ensures { result + 1 ≡ sp_count device }
+{
+    if device.has_sph() { 0xFFFF } else { 0xFF }
+}
+
 impl MarkedDevice {
     /// The device with its marks.
     pub fn new(device: Device) -> MarkedDevice
@@ -61,7 +68,7 @@ impl MarkedDevice {
             device,
             marks,
             back: device.back(),
-            top: if device.has_sph() { 0xFFFF } else { 0xFF },
+            top: greatest_sp(device),
         }
     }
 
@@ -84,6 +91,7 @@ impl MarkedDevice {
     }
 
     /// The number of bytes in which a word address is pushed, 2 or 3.
+    #[tactic(auto, using(crate::proofs::Popping::least_back, crate::proofs::Popping::most_back))]
     #[inline(always)]
     pub fn back(&self) -> u8
         ensures exact { result ≡ back_of self.now }
@@ -102,6 +110,7 @@ impl MarkedDevice {
     }
 
     /// The stack pointer this many addresses further up, modulo the numbers that it can hold.
+    #[tactic(auto, using(crate::proofs::Popping::up))]
     #[inline(always)]
     pub fn plus_sp(&self, sp: u16, count: u8) -> u16
         ensures { result ≡ plus_sp self.now sp count }
@@ -110,6 +119,7 @@ impl MarkedDevice {
     }
 
     /// The stack pointer this many addresses further down, modulo the numbers that it can hold.
+    #[tactic(auto, using(crate::proofs::Popping::down))]
     #[inline(always)]
     pub fn minus_sp(&self, sp: u16, count: u8) -> u16
         ensures { result ≡ minus_sp self.now sp count }

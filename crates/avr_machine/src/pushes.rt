@@ -125,7 +125,13 @@ impl Processor {
         let sp = self.device.minus_sp(self.sp, count);
         let is_scratch = flash.is_scratch(self.pc);
         let refused = self.refused(flash, assumptions, unlisted, self.wrap(target));
-        self.push_step(!is_scratch, refused, &pushes[..usize::from(count)], sp, target)
+        self.push_step(
+            !is_scratch,
+            refused,
+            &pushes[..usize::from(count)],
+            sp,
+            target,
+        )
     }
 
     /// The word in Z, and the word of flash that it stands for if the site does not list it.
