@@ -6,7 +6,7 @@ from typing import Dict, FrozenSet, Iterator, List, Optional, Set, Tuple
 import opcodes
 import records
 from causes import Cause
-from devices import CORE, Device
+from devices import Device
 from elf import CODE_END, Elf
 from lines import Lines
 from node_values import Nodes, pointer, stored
@@ -20,7 +20,7 @@ STS = 0x9200
 
 def core(device: Device) -> Dict[int, str]:
     """The registers of the core by their addresses."""
-    found = {CORE[name]: name for name in REGISTERS}
+    found = {device.core[name]: name for name in REGISTERS if name in device.core}
     return {**found, device.moving.address: device.moving.registers[0]} if device.moving else found
 
 
