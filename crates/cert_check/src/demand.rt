@@ -81,7 +81,7 @@ fn add_below(
 ) -> Result<(), AllocError>
     requires instances { AreInstances instances.now }
     requires there { Contains (inst_keys instances.now) into.now }
-    requires low { fall < 65536 }
+    requires low { fall < 131072 }
     ensures { Grows result demands.old.items demands.new.items (below_demand instances.now inst fall into.now) }
 {
     let into = number_of(instances, into);
@@ -132,7 +132,7 @@ fn add_entry(
 ) -> Result<(), AllocError>
     requires instances { AreInstances instances.now }
     requires there { Contains (inst_keys instances.now) edge.now.to.inst }
-    requires low { fall < 65536 }
+    requires low { fall < 131072 }
     ensures { Grows result demands.old.items demands.new.items (entry_demand assumptions.now instances.now inst fall edge.now) }
 {
     if is_entry(edge.kind) {
@@ -155,7 +155,7 @@ fn add_entries(
 ) -> Result<(), AllocError>
     requires instances { AreInstances instances.now }
     requires there { (e : edge_type.Edge) → Contains edges.now e → Contains (inst_keys instances.now) e.to.inst }
-    requires low { fall < 65536 }
+    requires low { fall < 131072 }
     ensures { Grows result demands.old.items demands.new.items (flat_map (entry_demand assumptions.now instances.now inst fall) edges.now) }
 {
     for at in 0..edges.len() {
