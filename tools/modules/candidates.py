@@ -4,6 +4,7 @@ import copy
 import functools
 
 import opcodes
+import records
 from elf import Symbol
 from library_names import is_library
 from nameless import nameless
@@ -115,13 +116,19 @@ def of_pointer(elf, device, site):
     return addressed(elf, device) if slot is None else taken_elsewhere(elf) | slots(elf).get(slot, set())
 
 
+def recorded(elf, found):
+    """Those of the functions found whose address is taken by the linker's records too; all where the file has none."""
+    known = records.taken(elf)
+    return found if known is None else found & known
+
+
 def targets(elf, device, site):
     """Where the indirect transfer at a word may go by all that the file tells; `exit` where it tells nothing."""
     symbol = elf.symbol_at(2 * site)
     if symbol and symbol.name == "__tablejump2__":
         begin, end = elf.all.get("__dtors_start", 0), elf.all.get("__dtors_end", 0)
         return or_none(constructors, elf) | or_none(tables, elf) | {elf.word(at // 2) for at in range(begin, end, 2)}
-    found = table_of_jumps(elf, site) or of_flash_table(elf, site) or of_pointer(elf, device, site)
+    found = table_of_jumps(elf, site) or of_flash_table(elf, site) or recorded(elf, of_pointer(elf, device, site))
     return found or {it.address // 2 for name in ("exit", "_exit") for it in elf.named(name)}
 
 

@@ -34,6 +34,10 @@ CURES = {
         "`refused 2` elsewhere",
         "a function that calls itself, directly or indirectly",
         "rewrite it as a loop; or `recursion FUNCTION N`, if at most N activations stand on the stack at a time"),
+    "sketch": (
+        "`refused 2` or `3` of an Arduino sketch, where functions are called through pointers",
+        "the sketch was built without `-flto`, so the compiler leaves calls through pointers that it could resolve",
+        "`-flto` for compiling and linking, as Arduino's IDE builds; with the core's USB code (Leonardo, Micro) this helps some sketches only"),
     "merged": (
         "`refused 3` of a handler that calls a handler",
         "the compiler has merged handlers with equal bodies, and the `reti` of the one that is called lets interrupts in",
@@ -150,6 +154,7 @@ OUT_SREG, IN_SREG, OUT_SPH, OUT_SPL, RETI = 0xBE0F, 0xB60F, 0xBE0E, 0xBE0D, 0x95
 NEAR = 8  # words around a write of SPL
 STDIO = ("fputc", "fgetc", "fputs", "fputs_P", "puts", "puts_P", "fread", "fwrite", "ungetc")
 JUMPERS = ("setjmp", "longjmp")
+SKETCH = ("setup", "loop")  # what the `main` of Arduino's core calls; with -flto both become parts of it, or local
 
 
 def of_jump(elf, name):
@@ -165,6 +170,26 @@ def of_recursion(elf, device, word):
     symbol = elf.symbol_at(2 * word)
     calls = [at for at, _ in opcodes.words_of(elf, symbol) if opcodes.call_target(elf, at) == word] if symbol else []
     return "put" if calls and any(elf.named(it) for it in STDIO) and word in candidates.addressed(elf, device) else "recursion"
+
+
+def is_sketch(elf):
+    """Whether the file is an Arduino sketch that was built without -flto: `main` calls global functions of these names."""
+    called = {opcodes.call_target(elf, at) for it in elf.named("main") for at, _ in opcodes.words_of(elf, it)}
+    return all(any(it.is_global and it.address // 2 in called for it in elf.named(name)) for name in SKETCH)
+
+
+def calls_by_pointer(elf, lines, entry):
+    """Whether a function, or one that it enters by name, calls through a pointer whose list the tool wrote."""
+    functions = candidates.reached(elf, entry) | {entry}
+    return any(kind == "jump" and (symbol := elf.symbol_at(2 * site)) and symbol.address // 2 in functions for site, kind in lines.written())
+
+
+def needs_optimiser(elf, lines, number, word):
+    """Whether a refusal of a sketch most likely comes of calls through pointers that the compiler resolves with -flto."""
+    if not is_sketch(elf) or number == "2" and word in candidates.reached(elf, word):
+        return False
+    entry = word if number == "2" else opcodes.jump_target(elf, word)
+    return entry is not None and calls_by_pointer(elf, lines, entry)
 
 
 def is_body(opcode):
@@ -262,6 +287,8 @@ def cure(elf, device, refusal, lines):
     name = symbol.name if symbol else ""
     if number == "1":
         return of_jump(elf, name), word
+    if number in "23" and needs_optimiser(elf, lines, number, word):
+        return "sketch", word
     if number == "3":
         return of_re_entry(elf, word), word
     if number == "5":

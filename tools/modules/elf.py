@@ -21,10 +21,11 @@ class NoElf(Exception):
 
 
 class Symbol:
-    """A symbol of code: its name, byte address, size in bytes (0: not told), whether it is a function, and its source file where it is local."""
+    """A symbol of code: its name, byte address, size in bytes (0: not told), whether it is a function, its source file where it is local, and
+    whether other files see it."""
 
-    def __init__(self, name, address, size, is_function, file):
-        self.name, self.address, self.size, self.is_function, self.file = name, address, size, is_function, file
+    def __init__(self, name, address, size, is_function, file, is_global=False):
+        self.name, self.address, self.size, self.is_function, self.file, self.is_global = name, address, size, is_function, file, is_global
 
     def end(self):
         return self.address + self.size
@@ -115,7 +116,7 @@ class Elf:
                     if kind == OBJECT:
                         self.objects[name] = address, size
                     if address < CODE_END and section != ABSOLUTE and kind in (0, FUNCTION) and not name.startswith((".", *BOUNDS)):
-                        self.code.append(Symbol(name, address, size, kind == FUNCTION, file if info >> 4 == 0 else ""))
+                        self.code.append(Symbol(name, address, size, kind == FUNCTION, file if info >> 4 == 0 else "", info >> 4 == 1))
         self.code.sort(key=lambda it: (it.address, not it.is_function, it.name))
         self.addresses = [it.address for it in self.code]
         self.starts = sorted(set(self.addresses))

@@ -12,6 +12,7 @@ from typing import Callable, Dict, Iterable, List, Optional, Set, Tuple
 import candidates
 import causes
 import core_registers
+import mask_cost
 import opcodes
 import recursion
 import scratch
@@ -111,6 +112,7 @@ class Mending(Analysis):
         self.told_of: Tuple[object, Optional[List[str]]] = None, None  # the last answer of `told`, and of what
         self.lists = Lists()
         self.before_masks = self.lines
+        self.told_of_masks: Optional[str] = None  # what the line costs, or why it was left out
         self.scratched: Dict[Tuple[str, int, Optional[int]], Optional[int]] = {}
 
     def copy(self) -> "Mending":
@@ -139,7 +141,9 @@ class Mending(Analysis):
             self.mend()
         if self.certificate:
             widen(self)
-        if self.certificate and not self.reads_masks():
+        if self.certificate and self.reads_masks():
+            mask_cost.weigh(self)
+        elif self.certificate:
             self.trim()
 
     def reads_masks(self) -> bool:

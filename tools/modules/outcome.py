@@ -60,6 +60,7 @@ class Accepted:
     lists: Lists  # of calls through pointers
     recursions: List[Any] = field(default_factory=list)  # of the spec, with the depths that they came to
     seen: Optional[int] = None
+    told_of_masks: Optional[str] = None  # what the line `masks` costs, or why it was left out
     flagged: Optional[str] = None
     stop: Any = None  # the flagged step of a trial run
     bound: int = 0
@@ -154,7 +155,9 @@ def tell_premises(found: Accepted, program: Any, certificate: str) -> None:
     if found.written:
         found.rests_on.append(f"lines of its own (--plain leaves them out, --write-spec FILE keeps them): {len(found.written)}")
         found.rests_on += [f"assumed: {it}" for it in found.written]
-    if found.firmware.device.moving and found.firmware.device.is_first() and not found.own.has_masks():
+    if found.told_of_masks:
+        found.rests_on.append(found.told_of_masks)
+    elif found.firmware.device.moving and found.firmware.device.is_first() and not found.own.has_masks():
         found.rests_on.append(NOT_MOVED)
     found.rests_on += narrower(found.firmware, found.lists, found.own)
     if reads_inputs(found.firmware.elf, found.firmware.device):
@@ -185,7 +188,8 @@ def attain(found: Accepted, program: Any, certificate: str, witness: str) -> Non
 
 def take(firmware: Firmware, spec: str, given: str, work: Mending, words: Any, folder: str) -> Accepted:
     """Judges the certificate that was found, and gathers what is told of it."""
-    found = Accepted(firmware, spec, given, list(written(firmware, work.lines)), work.certificate, work.lines, work.lists, work.recursions, work.deepest)
+    found = Accepted(firmware, spec, given, list(written(firmware, work.lines)), work.certificate, work.lines, work.lists, work.recursions, work.deepest,
+                     work.told_of_masks)
     if work.stop:
         found.flagged, found.stop = flagged(firmware, work), work.stop
     program, certificate = work.program(), os.path.join(folder, "certificate")
