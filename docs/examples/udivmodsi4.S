@@ -1,7 +1,7 @@
 ; Divides r25:r24:r23:r22 by r21:r20:r19:r18, both without sign: the quotient is in r21:r20:r19:r18, the remainder in r25:r24:r23:r22.
 ; It stands for the routine of the same name in libgcc where it is linked as an object file: `avr-gcc .. udivmodsi4.S`.
-; avr-gcc's code takes r1 for 0. A count in r1 that ends at 0 leaves it so, but an analysis that keeps bits and ranges can't know it behind
-; the loop; this routine says so by a `clr r1` at its end. T, r0, r26, r27, r30 and r31 may hold anything behind it, as behind libgcc's.
+; avr-gcc's code takes r1 for 0. A count in r1 that ends at 0 leaves it so, but an analysis that keeps bits and ranges cannot know it after
+; the loop. So this routine ends with `clr r1`. T, r0, r26, r27, r30 and r31 may hold anything afterwards, as with libgcc's routine.
 
     .text
     .global __udivmodsi4

@@ -31,7 +31,7 @@ class Cause:
     def __str__(self):
         names = " ".join(self.device.register_name(it) for it in sorted(self.addresses)) + (" .." if self.more else "")
         written = [f"a protected register ({names})"] * bool(self.addresses) + ["a pushed byte"] * self.live
-        told = ["may write " + ", or ".join(written)] * bool(written) + ["may go to a word that its `jump` line doesn't list"] * self.transfer
+        told = ["may write " + ", or ".join(written)] * bool(written) + ["may go to a word that its `jump` line does not list"] * self.transfer
         return ", and ".join(told)
 
 

@@ -13,7 +13,7 @@ CURES = {
     "tables": (
         "`refused 1 .. ijmp` in `__tablejump2__`",
         "a `switch` that jumps through a table of more than 64 entries, or by an index of more than eight bits",
-        "`-fno-jump-tables`, for the libraries too; where one function alone has such a table, `jump __tablejump2__ 1 @tables`"),
+        "`-fno-jump-tables`, for the libraries too; if only one function has such a table, `jump __tablejump2__ 1 @tables`"),
     "constructors": (
         "the same, in a C++ program without such tables",
         "the start-up code calls the constructors of static objects",
@@ -40,24 +40,24 @@ CURES = {
         "`-flto` for compiling and linking, as Arduino's IDE builds; with the core's USB code (Leonardo, Micro) this helps some sketches only"),
     "merged": (
         "`refused 3` of a handler that calls a handler",
-        "the compiler has merged handlers with equal bodies, and the `reti` of the one that is called lets interrupts in",
+        "the compiler has merged handlers with equal bodies, and the `reti` of the called one enables interrupts",
         "`-fno-ipa-icf`"),
     "by name": (
         "`refused 3` of a handler that calls a handler beside other code",
-        "the source calls a handler by its name, whose `reti` lets interrupts in",
+        "the source calls a handler by its name, and its `reti` enables interrupts",
         "a function for what both do, which each handler calls"),
     "kept flags": (
         "`refused 3` of a handler whose code writes SREG with a byte from memory",
-        "`SREG = old` where `old` stands in memory, such as the frame: its bit I isn't known there, so it may let interrupts in",
+        "`SREG = old` with `old` in memory, such as the frame: its bit I is not known there, so it may enable interrupts",
         "`old` in a register: not `volatile`, its address not taken; in a handler, where interrupts are off, neither `cli()` nor `SREG = old` is needed"),
     "noblock": (
         "`refused 3` of a handler that begins with `sei`",
         "`ISR_NOBLOCK`, which re-enables its own interrupt immediately",
-        "`ISR(X_vect) { mask; sei(); ..; cli(); unmask }`: clears its own enable bit before it lets interrupts in, and sets it after `cli()`"),
+        "`ISR(X_vect) { mask; sei(); ..; cli(); unmask }`: clears its own enable bit before `sei()`, and sets it after `cli()`"),
     "re-entry": (
         "`refused 3` of another handler",
         "it executes `sei` while its own interrupt is enabled",
-        "clear its own enable bit before; where that is done through a pointer that is constant, `prove FUNCTION N` for these stores"),
+        "clear its own enable bit first; if a constant pointer does that, `prove FUNCTION N` for these stores"),
     "prologues": (
         "`refused 4 .. out 0x3E, r29` in `__epilogue_restores__`",
         "`-mcall-prologues`, with which avr-libc's printf family, `strtol`, `qsort`, `dtostrf` and time functions are built too",
@@ -67,8 +67,8 @@ CURES = {
         "32-bit division (`__udivmodsi4`) or `sscanf` beside such a function: libgcc counts r1 down to 0, which bits and ranges do not show after the loop",
         "`pairs`; or `docs/examples/udivmodsi4.S` linked in, in place of libgcc's routine; or `sscanf` left out"),
     "zero register": (
-        "the same with both, where a function computes with r1 and doesn't clear it",
-        "r1, which compiled code takes to be 0, isn't known as 0: avr-libc's `sqrt` shifts a bit through it until it is 0",
+        "the same with both, if a function computes with r1 and does not clear it",
+        "r1, which compiled code takes to be 0, is not known as 0: avr-libc's `sqrt` shifts a bit through it until it is 0",
         "`clr r1` after each call: `float root = sqrt(x); __asm__ volatile (\"clr r1\");`"),
     "two tables": (
         "`refused 2` or `4` with `jump __tablejump2__ 1 @tables`",
@@ -76,11 +76,11 @@ CURES = {
         "`-fno-jump-tables`"),
     "unhandled": (
         "`refused 4 .. out 0x3E, r29` in `__init`",
-        "a vector that may be enabled has no handler: avr-libc's default for it begins the program anew, on the stack as it is",
-        "a handler for it, or for all that have none: `ISR(BADISR_vect) { for (;;) ; }`; where none of them ever comes, `never @unhandled`"),
+        "a vector that may be enabled has no handler: avr-libc's default for it restarts the program, on the stack as it is",
+        "a handler for it, or for all that have none: `ISR(BADISR_vect) { for (;;) ; }`; if none of them ever comes, `never @unhandled`"),
     "begins anew": (
-        "the same, where a function jumps to address 0",
-        "the program begins anew by a jump to 0, on the stack as it is",
+        "the same, if a function jumps to address 0",
+        "the program restarts by a jump to 0, on the stack as it is",
         "a reset by the watchdog: `wdt_enable(WDTO_15MS); for (;;) ;`"),
     "high byte": (
         "`refused 4 .. out 0x3E, r29` after `dec r29`, `inc r29` or `subi r29`",
@@ -95,7 +95,7 @@ CURES = {
         "a switch of stacks, as a system with tasks does",
         "none: a bound is of one stack"),
     "low byte first": (
-        "`refused 4` where SPL was written before SPH",
+        "`refused 4` after a write of SPL before SPH",
         "start-up code written by hand, which writes SPL before SPH",
         "SPH first, then SPL, as avr-libc's start-up code does"),
     "tiny": (
@@ -103,17 +103,17 @@ CURES = {
         "`-mtiny-stack`, with which a frame is made by the low byte of the stack pointer alone",
         "build without `-mtiny-stack`"),
     "joined": (
-        "`refused 2` of a function that calls itself by no name, `4`, `5` or `6` elsewhere, where an `icall` or `ijmp` has no `jump` line",
+        "`refused 2` of a function that no direct call leads back to; `4`, `5` or `6` elsewhere, if an `icall` or `ijmp` has no `jump` line",
         "a pointer that is one of some constants: their bits may join to a word that none of them is",
         "`jump FUNCTION N TARGET ..` for each such transfer"),
     "unfollowed": (
         "`refused 4` at another instruction",
         "`setjmp` and `longjmp`, a context switch, or assembly that moves the stack pointer",
-        "none: such code isn't accepted"),
+        "none: such code is not accepted"),
     "written flash": (
         "`refused 5 .. opcode 95E8`",
         "`spm`: a boot loader, or a program that writes its flash",
-        "none: such code isn't accepted"),
+        "none: such code is not accepted"),
     "device": (
         "`refused 5 .. opcode 940C` or `940E`",
         "`jmp` or `call` on a device that has none: the file was linked for another one",
@@ -128,11 +128,11 @@ CURES = {
         "end the function with an endless loop"),
     "deep": (
         "`refused 6`",
-        "the stack doesn't fit in SRAM: one frame at W, or at 0000 all that nests; or a loop pushes without an end",
-        "smaller or static arrays; fewer handlers that let others in"),
+        "the stack does not fit in SRAM: one frame at W, or at 0000 all that nests; or a loop pushes without an end",
+        "smaller or static arrays; fewer handlers that enable interrupts"),
     "masks": (
         "`refused 7`",
-        "masks of interrupts are written by pointers that `store` lines let go to several registers, or with bytes that aren't known",
+        "interrupt masks are written through pointers that `store` lines let go to several registers, or with unknown bytes",
         "`-flto`, with which the compiler sees the registers; constants in the masks"),
     "array": (
         "`refused 8` in a loop",
@@ -144,7 +144,7 @@ CURES = {
         "`free FUNCTION N` for the store; `-fno-builtin-memcpy` helps with some"),
     "proved": (
         "`refused 8` at a site with a `prove` line",
-        "the pointer of the store isn't known",
+        "the pointer of the store is not known",
         "a `store` line with the registers in place of the `prove` line"),
 }
 REFUSAL = re.compile(r"refused (\d) (\S+)(?: of (\d+))?(?: at ([0-9A-F]{4}))?(?: (.*))?$")

@@ -86,4 +86,4 @@ def lines(firmware: Any, work: Any) -> Iterator[str]:
         symbol = firmware.elf.symbol_at(2 * entry)
         name = name_of(firmware.elf, symbol) if symbol else None
         if name:
-            yield f"recursion {name} {count}  # as many as trial runs saw: write the most that there can be, and why"
+            yield f"recursion {name} {count}  # as many as simulated runs reached: write the greatest number possible, and why"

@@ -100,7 +100,7 @@ def table() -> Iterator[Tuple[str, List[str]]]:
     """Yields each name that the compiler takes, with the words of its line of the table."""
     for line in CLASSES.splitlines():
         row = line.split()
-        yield from ((name, row) for name in (row[0], *row[10:]))
+        yield from ((name, row) for name in (row[0], *row[11:]))
 
 
 NAMES = dict(table())
@@ -128,7 +128,7 @@ def device_of(elf: Any, path: str, asked: Optional[str]) -> Tuple[Optional[str],
     if asked and not wanted:
         raise Misuse(f"--device {asked}: stackbound knows {unknown(asked)}")
     if linked_for is None and not wanted:
-        raise Misuse(f"{path} doesn't say for which device it was linked: give --device")
+        raise Misuse(f"{path} does not say for which device it was linked: give --device")
     device = wanted if linked_for is None else named(linked_for)
     if device is None:
         raise Misuse(f"{path} was linked for {linked_for}, and stackbound knows {unknown(linked_for)}")

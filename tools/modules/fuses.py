@@ -4,7 +4,7 @@ from typing import Any, Iterator, NamedTuple, Tuple
 
 FUSES = "fuses"  # a kind of places
 KEPT = "@fuses"  # by which a line `keeps` of a spec names them
-CONDITION = "the chip's fuses aren't programmed as the file's .fuse section says"
+CONDITION = "the chip's fuses are not programmed as the file's .fuse section says"
 BOOTS = "the chip starts in the boot section, and the bound takes it to start at 0"
 OLDER = "the chip works as an older one, {}, and the bound takes it to be an {}"
 LOW, HIGH, EXTENDED = range(3)  # bytes of the section

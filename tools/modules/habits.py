@@ -28,7 +28,7 @@ def in_words(fault):
     if isinstance(fault, FileNotFoundError):
         return f"no such file: {fault.filename}"
     if isinstance(fault, UnicodeDecodeError):
-        return f"a text isn't UTF-8: {fault.reason} at byte {fault.start}"
+        return f"a text is not UTF-8: {fault.reason} at byte {fault.start}"
     if isinstance(fault, OSError) and fault.strerror:
         return f"{fault.filename}: {fault.strerror}" if fault.filename is not None else fault.strerror
     return str(fault)

@@ -13,4 +13,4 @@ def check(outcome, spec):
             if not any(nodes.may_write(word, address) for word in line.places):
                 name = outcome.firmware.device.register_name(address)
                 raise SpecFault(f"line {line.number}: no store that `{line.text}` names may write {name}: it names another store than was meant, "
-                                "or one that never runs (where the compiler has put it into other functions, -gdwarf-2 tells)")
+                                "or one that never runs (build with -g if the compiler may have inlined it)")

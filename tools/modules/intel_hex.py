@@ -19,7 +19,7 @@ FUSES, FUSES_END = 0x820000, 0x830000
 NOT_FLASH = 0x800000
 HEAD = re.compile(rb"\s*:[0-9A-Fa-f]{10}")
 LOST = ("HEX: this file has no names, no source lines and no sections: places are word addresses, and static data is what the start-up code clears and copies; "
-        "the ELF file from which it was made tells more")
+        "the ELF file from which it was made says more")
 
 
 class Record(NamedTuple):
@@ -41,7 +41,7 @@ def bytes_of(text: str) -> bytes:
     if text[:1] != ":":
         raise ValueError("a record begins with `:`")
     if len(text) % 2 == 0 or not re.fullmatch(r"[0-9A-Fa-f]*", text[1:]):
-        raise ValueError("behind `:` stand pairs of hexadecimal digits alone")
+        raise ValueError("after `:` there are only pairs of hexadecimal digits")
     found = bytes.fromhex(text[1:])
     if len(found) < 5:
         raise ValueError("a record has five bytes at least: length, address, type and checksum")
@@ -60,7 +60,7 @@ def kind_of(found: bytes) -> int:
     if kind != DATA and found[0] != LENGTHS[kind]:
         raise ValueError(f"a record of type {kind:02X} has {LENGTHS[kind]} bytes of data, and this one has {found[0]}")
     if kind == DATA and int.from_bytes(found[1:3], "big") + found[0] > 0x10000:
-        raise ValueError("the bytes go on behind the end of their 65,536")
+        raise ValueError("the bytes go on beyond the end of their 65,536")
     return kind
 
 
@@ -73,7 +73,7 @@ def records(path: str, text: str) -> Iterator[Record]:
             continue
         try:
             if is_ended:
-                raise ValueError("a record behind the end record")
+                raise ValueError("a record after the end record")
             found = bytes_of(line)
             kind = kind_of(found)
         except ValueError as fault:
@@ -85,7 +85,7 @@ def records(path: str, text: str) -> Iterator[Record]:
         elif kind == DATA:
             yield Record(number, base + int.from_bytes(found[1:3], "big"), found[4:-1])
     if not is_ended:
-        raise NoElf(f"{path}: line {number}: the end record `:00000001FF` is wanted behind it: the file is cut off")
+        raise NoElf(f"{path}: line {number}: the end record `:00000001FF` is missing after it: the file is cut off")
 
 
 class Image(Elf):
@@ -129,7 +129,7 @@ class Image(Elf):
         for it in self.records:
             end = it.address + len(it.data)
             if it.data and end > size and not NOT_FLASH < it.address:
-                raise NoElf(f"{self.path}: line {it.line}: address {max(it.address, size):04X} lies behind the flash of {self.chip.name}, whose last is {size - 1:04X}")
+                raise NoElf(f"{self.path}: line {it.line}: address {max(it.address, size):04X} lies beyond the flash of {self.chip.name}, whose last is {size - 1:04X}")
 
     def static_end(self) -> Optional[int]:
         """The data address behind what the start-up code fills; None where it fills nothing."""

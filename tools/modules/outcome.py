@@ -20,7 +20,7 @@ from telling import flagged, lines_for, narrower, others, written
 from trials import INPUTS, reads_inputs
 from widening import Lists
 
-NOT_MOVED = "IVSEL isn't looked at, since the line `masks` doesn't stand: the bound takes the interrupt vectors to be at 0"
+NOT_MOVED = "IVSEL is not checked without the line `masks`: the bound takes the interrupt vectors to be at 0"
 
 
 class Part:
@@ -124,7 +124,7 @@ def tell_bound(found: Accepted, program: Any, certificate: str, words: Any) -> N
     elif words.limit is not None:
         found.keeps, found.rule = found.bound <= words.limit, f"the limit is {words.limit} bytes"
     elif words.margin is not None:
-        found.keeps, found.rule = margin >= words.margin, f"{words.margin} bytes are to be left"
+        found.keeps, found.rule = margin >= words.margin, f"{words.margin} bytes must be left"
 
 
 def tell_chain(found: Accepted, program: Any, certificate: str) -> None:
@@ -163,7 +163,7 @@ def tell_premises(found: Accepted, program: Any, certificate: str) -> None:
     if reads_inputs(found.firmware.elf, found.firmware.device):
         found.rests_on.append(INPUTS)
     if lines is None:
-        found.rests_on.append("This stackbound doesn't list the places where a step may be flagged; the tool `flagged` finds some.")
+        found.rests_on.append("This stackbound does not list the places where a step may be flagged; the tool `flagged` finds some.")
 
 
 def accept(found: Accepted, program: Any, certificate: str, text: str) -> str:

@@ -93,7 +93,7 @@ def chain_colours(outcome, colours):
 def chain(outcome, colours):
     yield "<h2>The deepest chain</h2>"
     if not outcome.chain:
-        yield "<p>This stackbound has no command that tells the chain.</p>"
+        yield "<p>This stackbound has no command that prints the chain.</p>"
         return
     parts = [(it.count, colour, it.text) for it, colour in zip(outcome.chain, chain_colours(outcome, colours))]
     yield from bar(parts)
@@ -142,7 +142,7 @@ def places(outcome):
     yield (f"<h2>Where a step may be flagged<small>{len(unjudged(outcome, False))} to review, {len(outcome.entries)} in all, "
            f"{sum(it.judged is not None for it in outcome.entries)} judged</small></h2>")
     if not outcome.entries:
-        yield "<p>Nowhere: the bound holds of every run.</p>"
+        yield "<p>Nowhere: the bound holds for every run.</p>"
         return
     yield "<table>"
     yield from (place_row(it) for it in sorted(outcome.entries, key=lambda it: it.judged is not None))

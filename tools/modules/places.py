@@ -164,7 +164,7 @@ class Look:
             names = self.cores[word]
             yield f"may write {' '.join(names)}, whose {'address stands' if len(names) == 1 else 'addresses stand'} in this file"
         if kind in (CALLS, WHOLE):
-            yield from (f"its pointer is {it:04X} here, which its list doesn't have" for it in self.unlisted(word))
+            yield from (f"its pointer is {it:04X} here, which its list does not have" for it in self.unlisted(word))
             if word in self.outcome.lists.why and not self.unlisted(word):
                 yield self.outcome.lists.why[word]
                 if kind == CALLS and not has_records(self.elf):
@@ -189,7 +189,7 @@ def entry_of_vector(outcome, word):
     vector = outcome.firmware.handler(outcome.firmware.device.vector_at(word))
     is_given, device = outcome.own.is_given(word, "never"), outcome.firmware.device
     why = "no header names its enable bit" if device.is_open(device.vector_at(word)) else "may be enabled"
-    entry = Place(vector, f"{vector}: " + ("a `never` line says that it isn't entered" if is_given else f"it has no handler, and {why}"))
+    entry = Place(vector, f"{vector}: " + ("a `never` line says that it is not entered" if is_given else f"it has no handler, and {why}"))
     entry.kinds[word] = GIVEN if is_given else VECTORS
     return entry
 
@@ -239,8 +239,8 @@ def words_of(elf, keep):
 
 
 def is_of(elf, keep, place):
-    if keep.name == START_UP:
-        return place.key == START_UP
+    if keep.name in (START_UP, fuses.KEPT):
+        return place.key == keep.name
     if not place.words:
         return keep.line is None and place.key.partition(" ")[0] == keep.name
     if place.key == START_UP or keep.line is None and keep.name.endswith("_vect"):

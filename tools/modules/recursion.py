@@ -40,7 +40,7 @@ class Recursion:
 def read(elf: Any, number: int, words: List[str], why: str) -> Recursion:
     """A line `recursion FUNCTION N`."""
     if len(words) != 3:
-        raise SpecFault("`recursion FUNCTION N` is wanted")
+        raise SpecFault("expected `recursion FUNCTION N`")
     if not words[2].isdecimal() or int(words[2]) < 1 or int(words[2]) > LEAST_GREATEST:
         raise SpecFault(f"{words[2]} is no number of activations: 1 to {LEAST_GREATEST}")
     return Recursion(number, words[1], sorted({it.address // 2 for it in functions(elf, words[1])}), int(words[2]), why)
@@ -193,8 +193,8 @@ def text_of_stop(firmware: Any, recursions: List[Recursion], stop: Any) -> Optio
     found = line_at(recursions, stop.other) if stop.kind == "transfer" else None
     if found is None:
         return None
-    return (f"FLAGGED: a trial run enters {found.name} while {found.count} of it stand on the stack, at {stop.word:04X} {firmware.place(stop.word)}: "
-            f"{found.count} is too small in `recursion {found.name} {found.count}`; the bound speaks of what comes before")
+    return (f"FLAGGED: a simulated run calls {found.name} while {found.count} of it stand on the stack, at {stop.word:04X} {firmware.place(stop.word)}: "
+            f"{found.count} is too small in `recursion {found.name} {found.count}`; the bound covers only what comes before")
 
 
 def name_of_entry(firmware: Any, entry: int) -> str:

@@ -13,9 +13,9 @@ from trials import handled
 
 OUT_SREG, RETI, SBI = 0xBE0F, 0x9518, 0x9A00
 MOST_REASONS, NEAR, GUARD = 8, 5, 6
-SET_AGAIN = ("its own enable bit is set again before it ends, while interrupts are let in",
-             "set the bit again only behind its `cli()`, or where it can't run; a bound asks that no step does so meanwhile, whatever variables say")
-STAYS = ("it lets interrupts in while its own vector counts as enabled, which nothing in the handler changes", "let no interrupts in while this handler runs")
+SET_AGAIN = ("its own enable bit is set again before it ends, while interrupts are enabled",
+             "set the bit again only after its `cli()`, or where it cannot run; no step may set it meanwhile, whatever variables say")
+STAYS = ("it enables interrupts while its own vector counts as enabled, which nothing in the handler changes", "do not enable interrupts while this handler runs")
 
 
 class Step:
@@ -153,9 +153,9 @@ def stays_enabled(device: Device, vector: int) -> str:
     """Why a vector stays enabled whatever a handler does; nothing where its enable bit is known."""
     row = device.rows[vector]
     if device.is_open(vector):
-        return f"no enable bit of {device.vectors[vector]} is known, so that it counts as always enabled"
+        return f"no enable bit of {device.vectors[vector]} is known, so it counts as always enabled"
     names = " and ".join(device.register_name(it.address) for it in row.places)
-    return f"{device.vectors[vector]} has several enable bits ({names}), so that it counts as enabled once one was set, also where it is cleared" if row.stays else ""
+    return f"{device.vectors[vector]} has several enable bits ({names}), so it counts as enabled once one was set, even after it is cleared" if row.stays else ""
 
 
 def of_re_entry(firmware: Firmware, work: Any, vector: int) -> Iterator[str]:
@@ -167,7 +167,7 @@ def of_re_entry(firmware: Firmware, work: Any, vector: int) -> Iterator[str]:
     graph = steps(firmware, work)
     own = reached(graph, entry)
     opened = list(openers(firmware, own, entry))
-    yield from (f"{firmware.function(at)} lets interrupts in (`{text}`) at {firmware.place(at)}" for at, text in opened)
+    yield from (f"{firmware.function(at)} enables interrupts (`{text}`) at {firmware.place(at)}" for at, text in opened)
     if stays := stays_enabled(device, vector):
         yield stays
         return
@@ -181,7 +181,7 @@ def of_re_entry(firmware: Firmware, work: Any, vector: int) -> Iterator[str]:
         why = "" if not by else ", which may come meanwhile," if function == by else f", called by {by}, which may come meanwhile,"
         yield f"{function}{why} sets {name} again at {firmware.place(at)}"
     if any(is_guarded(elf, at) for at in [*(at for at, _ in opened), *(at for at, *_ in sets)]):
-        yield "values of variables aren't followed, so a flag that guards this doesn't count"
+        yield "values of variables are not followed, so a flag that guards this does not count"
 
 
 def of_cause(firmware: Firmware, name: str) -> Iterator[str]:
@@ -189,7 +189,7 @@ def of_cause(firmware: Firmware, name: str) -> Iterator[str]:
     elf = firmware.elf
     for symbol in {it.address: it for it in reversed(elf.code)}.values():
         if name == "zero register" and not symbol.name.startswith("__") and not registers.keeps_zero(elf, symbol):
-            yield f"{firmware.name(symbol)} computes with r1 and doesn't clear it"
+            yield f"{firmware.name(symbol)} computes with r1 and does not clear it"
         for at, _ in opcodes.words_of(elf, symbol) if name == "begins anew" and symbol.is_function else ():
             if 0 in (opcodes.jump_target(elf, at), opcodes.call_target(elf, at)):
                 yield f"{firmware.name(symbol)} goes to address 0 at {firmware.place(at)}"

@@ -84,11 +84,11 @@ def told(outcome):
 def verdict(outcome, words):
     """What is printed in front where the growth or a place fails."""
     if outcome.grows_too_much:
-        yield f"TOO MUCH: the bound has grown by {outcome.difference.grown()} bytes, and {words.grow} are the most"
+        yield f"TOO MUCH: the bound has grown by {outcome.difference.grown()} bytes, and --grow permits {words.grow}"
     if outcome.firmware.lost:
         yield outcome.firmware.lost
     if outcome.heap:
-        yield f"HEAP: {outcome.heap} is linked, and takes from the same room, which this doesn't count"
+        yield f"HEAP: {outcome.heap} is linked, and the heap takes from the same room, which is not counted"
     if words.judged and (left := places.unjudged(outcome, True)):
         yield f"NOT JUDGED: {len(left)} of the {len(outcome.entries)} entries below"
 

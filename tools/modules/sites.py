@@ -41,7 +41,7 @@ def numbered(elf, kind, name, number):
     """The word of the N-th site, counted from 1, of this kind in a function."""
     test, what = SITES.get(kind, STORES)
     if copies_of(elf, name) and not any(named(elf, name)):
-        raise SpecFault(f"{name} stands within other functions alone: write `{name} *` in place of its number")
+        raise SpecFault(f"all code of {name} is inlined in other functions: write `{name} *` in place of its number")
     found = opcodes.sites(elf, function(elf, name), test)
     if not number.isdecimal() or not 1 <= int(number) <= len(found):
         raise SpecFault(f"{name} has {counted(len(found), what)}, and no number {number}")
@@ -106,7 +106,7 @@ def frames(elf, name):
     """The words of the `frame` lines of a function, or of all that give a frame back in the firmware."""
     if name == "@frames":
         found = {word for symbol in elf.code for word in frames_of(elf, symbol)}
-        what = "the firmware has no frame that is given back by `add` and `adc`, or moved by its high byte alone"
+        what = "the firmware has no frame that is released by `add` and `adc`, or moved by its high byte alone"
     else:
         found = words_of(elf, name, opcodes.is_frame_site)
         what = f"{name} has no `add`, `adc`, `sub`, `subi`, `inc` or `dec`"

@@ -72,7 +72,7 @@ def is_unhandled(elf, device, vector):
 def vectors(elf, device, name):
     """The words of a vector by its name in avr-libc, or of each that has no handler."""
     if device is None:
-        raise SpecFault("the file doesn't say for which device it was linked: give --device")
+        raise SpecFault("the file does not say for which device it was linked: give --device")
     if name == "@unhandled":
         found = {it for it in device.vectors if is_unhandled(elf, device, it)}
         if not found:
@@ -116,7 +116,7 @@ def read_line(elf, device, words):
     if kind not in FORMS:
         raise SpecFault(f"{kind} is none of {', '.join(NAMED)}, recursion and keeps")
     if not is_of_form(kind, rest):
-        raise SpecFault(f"`{kind} {FORMS[kind]}".rstrip() + "` is wanted")
+        raise SpecFault(f"expected `{kind} {FORMS[kind]}".rstrip() + "`")
     if kind in (PAIRS, MASKS):
         return kind, {NOWHERE}, set()
     if kind == "never":
@@ -135,9 +135,9 @@ def read_keep(elf, number, words, why):
     """A line `keeps`, whose function has to be there."""
     rest = words[1:]
     if not (len(rest) == 2 and rest[1] == "*" or len(rest) == 1 and (rest[0] in (START_UP, FUSES_KEPT) or AT_LINE.match(rest[0]))):
-        raise SpecFault(f"`keeps FUNCTION:LINE`, `keeps FUNCTION *`, `keeps {START_UP}` or `keeps {FUSES_KEPT}` is wanted")
+        raise SpecFault(f"expected `keeps FUNCTION:LINE`, `keeps FUNCTION *`, `keeps {START_UP}` or `keeps {FUSES_KEPT}`")
     if not why:
-        raise SpecFault("a line `keeps` says behind # why the place keeps the bound")
+        raise SpecFault("a line `keeps` says after # why the place keeps the bound")
     name, line = (rest[0], None) if rest[-1] in ("*", START_UP, FUSES_KEPT) else AT_LINE.match(rest[0]).groups()
     vector = elf.chip.vector_named(name)
     if line is not None:
@@ -192,5 +192,5 @@ def assumptions(elf, text, device=None):
     """The text of the assumption file that a spec makes of this firmware; of lines `recursion` alone the analysis makes lines."""
     spec = Spec(elf, text, device)
     for it in spec.recursions:
-        raise SpecFault(f"line {it.number}: a line `recursion` has its depth by an analysis, which stackcheck does")
+        raise SpecFault(f"line {it.number}: a line `recursion` needs an analysis for its depth, which stackcheck makes")
     return spec.text()

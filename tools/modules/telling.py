@@ -126,9 +126,9 @@ def flagged(firmware, work):
         return told
     if stop.kind == "transfer" and work.lines.has(stop.other, "never") and not work.lines.is_given(stop.other, "never"):
         vector = firmware.device.vector_at(stop.other)
-        return (f"FLAGGED: a trial run takes {firmware.device.vectors[vector]}, which is enabled and has no handler, at {firmware.place(stop.word)}: the program begins "
-                "anew there, and the bound speaks of what comes before; write a handler, or don't enable it")
-    told = f"FLAGGED: a trial run ends with {text_of_stop(firmware, stop)}; the bound speaks of what comes before; "
+        return (f"FLAGGED: in a simulated run {firmware.device.vectors[vector]}, enabled but without a handler, fires at {firmware.place(stop.word)}: the program "
+                "restarts there, and the bound covers only what comes before; write a handler, or do not enable it")
+    told = f"FLAGGED: a simulated run stops with {text_of_stop(firmware, stop)}; the bound covers only what comes before; "
     found = line_that_admits(firmware, work, stop)
     if found is None:
         return told + why_not(firmware, stop)

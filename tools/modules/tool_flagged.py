@@ -70,5 +70,5 @@ def main():
         return 3
     if reads_inputs(firmware.elf, firmware.device):
         print(INPUTS)
-    print(f"{count} found by trying; this tool finds some places, and not all")
+    print(f"{count} found; the search is incomplete")
     return 1 if count else 0

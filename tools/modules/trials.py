@@ -17,7 +17,7 @@ FLAGGED = ("live", "protected", "transfer", "moved")
 BYTES = (0x00, 0xFF, 0x55, 0xAA, 0x01, 0x20)
 LONG = 60_000  # steps of a run of the tool `flagged`
 MOST_TAKES = 40
-INPUTS = "trial runs read bytes of inputs where `elpm` reads flash, so that a step that they flag isn't told"
+INPUTS = "simulated runs read input bytes where `elpm` reads flash, so their flagged steps are not reported"
 DEVICE_LINES, MOST_RECEIVED = 32, 64
 
 
@@ -250,7 +250,7 @@ class Trials:
     def short(self, number: int) -> Optional[Stop]:
         """The stop of a run of those behind a bound, by its number."""
         kind = KINDS[number % len(KINDS)]
-        progress.at(f"trial run {number + 1}")
+        progress.at(f"simulated run {number + 1}")
         return self.polled(kind) if kind.what == "polls" or not self.has_simulate else self.asked(kind)
 
     def first_flagged(self, scope: Scope, count: Optional[int] = None, begin: int = 0) -> Tuple[int, Optional[Stop]]:

@@ -42,7 +42,7 @@ def of_language(outcome: Accepted) -> Optional[str]:
 def holds(outcome: Accepted) -> str:
     """Of which runs the bound holds."""
     if outcome.premises is None:
-        return "for every run up to its first flagged step; this stackbound doesn't list where that may be"
+        return "for every run up to its first flagged step; this stackbound does not list where that may be"
     conditions = [*recursion.conditions(outcome.recursions), *(condition(outcome, kind, count) for kind in ORDINARY if (count := count_of(outcome, (kind,))))]
     language = of_language(outcome)
     given = " that keeps to the lines of the spec" if count_of(outcome, (GIVEN,)) else ""

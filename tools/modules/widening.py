@@ -16,14 +16,14 @@ if TYPE_CHECKING:
 
 MOST_TRIED = 8  # lists that are tried one by one where they aren't accepted together
 ROUNDS = 4  # in which functions that are reached only then bring further lists
-RECORDED = "its list has every function whose address is taken, as the linker's records tell"
-SEARCHED = "its list has every function whose address is taken, as far as a search in this file tells"
+RECORDED = "its list has every function whose address is taken, by the linker's records"
+SEARCHED = "its list has every function whose address is taken, as far as a search of this file finds"
 NONE = "with every function whose address may be taken there is no bound"
-UNNAMED = "the file has no names, so that no search tells every function whose address is taken"
-UNTRIED = "whether there is a bound with every function whose address may be taken wasn't tried"
-PLAIN = ", but for those in tables of virtual functions alone, which it doesn't read"
+UNNAMED = "the file has no names, so no search finds every function whose address is taken"
+UNTRIED = "a bound with every function whose address may be taken was not tried"
+PLAIN = ", except those in tables of virtual functions alone, which it does not read"
 TOO_MANY = "{} functions have their address taken, and a list has at most {}"
-RECORDS = "link with -Wl,--emit-relocs: then the linker's records tell every function whose address is taken"
+RECORDS = "link with -Wl,--emit-relocs: then the linker's records name every function whose address is taken"
 
 
 @dataclass
