@@ -150,6 +150,11 @@ CURES = {
 REFUSAL = re.compile(r"refused (\d) (\S+)(?: of (\d+))?(?: at ([0-9A-F]{4}))?(?: (.*))?$")
 
 
+def parts(refusal):
+    """The number, the name, the vector, the word and the instruction of a refusal; None for what it has not."""
+    return REFUSAL.match(refusal).groups()
+
+
 OUT_SREG, IN_SREG, OUT_SPH, OUT_SPL, RETI = 0xBE0F, 0xB60F, 0xBE0E, 0xBE0D, 0x9518
 NEAR = 8  # words around a write of SPL
 STDIO = ("fputc", "fgetc", "fputs", "fputs_P", "puts", "puts_P", "fread", "fwrite", "ungetc")
@@ -281,7 +286,7 @@ def goes_through_tables(elf, lines):
 
 def cure(elf, device, refusal, lines):
     """The name of the row of CURES for a refusal under some lines, and the word that it names (None where it names none)."""
-    number, _, _, place, text = REFUSAL.match(refusal).groups()
+    number, _, _, place, text = parts(refusal)
     word, text = int(place, 16) if place else None, text or ""
     symbol = elf.symbol_at(2 * word) if place else None
     name = symbol.name if symbol else ""

@@ -9,7 +9,7 @@ import re
 from typing import Any, Dict, Iterator, List, NamedTuple, Optional
 
 import start_up
-from devices import DEFAULT, named
+from devices import DEFAULT, of_class
 from elf import CODE_END, FLASH, Elf, NoElf
 from firmware import Firmware
 
@@ -101,7 +101,7 @@ class Image(Elf):
             self.records = list(records(path, file.read()))
         self.put_all()
         self.read_symbols()
-        self.take_for(named(DEFAULT))
+        self.take_for(of_class(DEFAULT))
 
     def put_all(self) -> None:
         """Places the bytes, of which no two may stand at one address."""

@@ -16,7 +16,7 @@ import mask_cost
 import opcodes
 import recursion
 import scratch
-from cures import REFUSAL
+from cures import REFUSAL, parts
 from firmware import Firmware
 from lines import Lines
 from node_values import Nodes
@@ -187,7 +187,7 @@ class Mending(Analysis):
         for _ in range(ROUNDS):
             if self.analyse_once():
                 return True
-            if not self.at_refusal(self.refusal):
+            if self.refusal is None or not self.at_refusal(self.refusal):
                 return False
         return False
 
@@ -318,7 +318,7 @@ class Mending(Analysis):
         told = causes.by_word(self.device, self.told() or [])
         if not told:
             return False
-        nodes = Nodes(self.elf, self.certificate)
+        nodes = Nodes(self.elf, self.certificate or "")
         fixed = [word for word, it in told.items() if it.addresses and nodes.fixed(word) and self.is_open(word, "prove")]
         if self.add_all(fixed, "prove", {}):
             return True
@@ -336,15 +336,15 @@ class Mending(Analysis):
         if not sites:
             return False
 
-        def add(chosen: Iterable[int]) -> Callable[[Lines], None]:
-            return lambda lines: [lines.add(it, kind, items.get(it, ())) for it in chosen] and None
+        def add(chosen: Iterable[int]) -> Callable[[Lines], object]:
+            return lambda lines: [lines.add(it, kind, items.get(it, ())) for it in chosen]
 
         self.tried |= {(it, kind) for it in sites}
         if self.attempt(add(sites)):
             return True
         return len(sites) > 1 and any([self.attempt(add([it])) for it in sites[:MOST_TRIED]])
 
-    def attempt(self, change: Callable[[Lines], None]) -> bool:
+    def attempt(self, change: Callable[[Lines], object]) -> bool:
         """Goes on with changed lines, and those that cure what comes of them, where there is a bound then."""
         other = self.copy()
         change(other.lines)
@@ -412,7 +412,7 @@ class Mending(Analysis):
         if self.stop.kind == "live":
             return self.lines.add(self.scratch_for(self.stop), scratch.KIND)
         kind = self.admit(self.stop)
-        if kind == "jump":
+        if kind == "jump" and self.stop.other is not None:
             self.pinned.add((self.stop.word, self.stop.other))
         if kind == "store" and self.reads_masks():
             self.follow_enables(self.stop.word)
@@ -428,8 +428,8 @@ class Mending(Analysis):
 
     def at_refusal(self, text: str) -> bool:
         """Adds lines of the kind that most likely cures a refusal; whether something was added."""
-        number, _, _, place, _ = REFUSAL.match(text).groups()
-        word = int(place, 16) if place else None
+        number, _, _, place, _ = parts(text)
+        word = int(place or "0", 16)
         if number == "1":
             return self.add_targets([word, *candidates.indirect(self.elf)])
         if number == "8":

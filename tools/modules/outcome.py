@@ -91,14 +91,15 @@ Outcome = Union[Accepted, Refused]
 
 def refuse(firmware: Firmware, spec: str, given: str, work: Mending) -> Refused:
     """Tells a refusal: its places, cause and cure, and the lines of a spec that may cure it where this tool wrote none."""
-    found = Refused(firmware, spec, given, list(written(firmware, work.lines)), work.refusal)
-    name, word = cures.cure(firmware.elf, firmware.device, work.refusal, work.lines)
+    refusal = work.refusal or ""
+    found = Refused(firmware, spec, given, list(written(firmware, work.lines)), refusal)
+    name, word = cures.cure(firmware.elf, firmware.device, refusal, work.lines)
     _, found.cause, found.cure = cures.CURES[name]
     if word is not None:
-        vector = cures.REFUSAL.match(work.refusal).group(3)
+        vector = cures.parts(refusal)[2]
         found.places.append(f"{word:04X} " + (firmware.handler(int(vector)) if vector else firmware.place(word)))
     found.places += others(firmware, work, name, word)
-    found.reasons = refusals.reasons(firmware, work, work.refusal) or list(refusals.of_cause(firmware, name))
+    found.reasons = refusals.reasons(firmware, work, refusal) or list(refusals.of_cause(firmware, name))
     found.cause, found.cure = refusals.overriding(name, found.reasons) or (found.cause, found.cure)
     found.cure_lines = lines_for(firmware, work, name) or list(cycles.lines(firmware, work))
     return found
@@ -188,12 +189,12 @@ def attain(found: Accepted, program: Any, certificate: str, witness: str) -> Non
 
 def take(firmware: Firmware, spec: str, given: str, work: Mending, words: Any, folder: str) -> Accepted:
     """Judges the certificate that was found, and gathers what is told of it."""
-    found = Accepted(firmware, spec, given, list(written(firmware, work.lines)), work.certificate, work.lines, work.lists, work.recursions, work.deepest,
-                     work.told_of_masks)
+    made = work.certificate or ""
+    found = Accepted(firmware, spec, given, list(written(firmware, work.lines)), made, work.lines, work.lists, work.recursions, work.deepest, work.told_of_masks)
     if work.stop:
         found.flagged, found.stop = flagged(firmware, work), work.stop
     program, certificate = work.program(), os.path.join(folder, "certificate")
-    witness = accept(found, program, certificate, work.certificate)
+    witness = accept(found, program, certificate, made)
     if witness == "open" and work.deepest is not None and work.deepest >= found.bound:
         found.witness, found.deepest = "attained", work.deepest_run  # a run of `simulate` is one of those of which `check` speaks
     elif not words.no_attain and work.sought != work.certificate:

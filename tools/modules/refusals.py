@@ -5,7 +5,7 @@ from typing import Any, Dict, Iterator, List, Optional, Set, Tuple
 import candidates
 import opcodes
 import registers
-from cures import REFUSAL
+from cures import parts
 from devices import Device
 from firmware import Firmware
 from telling import line_of_spec
@@ -197,7 +197,7 @@ def of_cause(firmware: Firmware, name: str) -> Iterator[str]:
 
 def reasons(firmware: Firmware, work: Any, refusal: str) -> List[str]:
     """What leads to a refusal here: of recursion the way back, of a re-entry the places that let it in."""
-    number, _, vector, place, _ = REFUSAL.match(refusal).groups()
+    number, _, vector, place, _ = parts(refusal)
     if not firmware.elf.code:
         return []
     found: Iterator[str] = iter(())

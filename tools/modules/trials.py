@@ -220,7 +220,8 @@ class Trials:
     def polled(self, kind: Kind) -> Optional[Stop]:
         """The stop of a schedule without interrupts, in which the inputs are one byte after the other."""
         found, last = self.turned(kind), ""
-        lines, counts = ["schedule 1", f"fill {found[0]:02X}"], []
+        lines = ["schedule 1", f"fill {found[0]:02X}"]
+        counts: List[int] = []
         for number in range(kind.steps // kind.period):
             pair = f"{found[number % len(found)]:02X} {found[(number // 3 + 1) % len(found)]:02X}"
             if pair == last:  # two neighbours differ

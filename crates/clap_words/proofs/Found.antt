@@ -1,10 +1,9 @@
 -- What is read from what clap found.
-use Rattle.std.proofs.Common.{◌≡◌, ◌⊎◌, inl, inr, List, Bool, true, false, refl, ap, sym, ◌∙◌, codes, Option, Some, None}
+use Rattle.std.proofs.Common.{◌≡◌, inl, inr, Bool, true, false, refl, codes, Option, Some, None}
 use Rattle.std.specs.Prelude.{Box, option_map}
 use Rattle.std.specs.Borrow.{Bor}
 use Rattle.std.specs.Box.{box_value}
-use Rattle.std.proofs.lemmas.Option.{none-some}
-use Rattle.clap.specs.Words.{Text, Row, subcommand_rows}
+use Rattle.clap.specs.Words.{Text, subcommand_rows}
 use Rattle.clap.specs.declared.parser.matches.SubCommand.{SubCommand}
 use Rattle.clap.specs.declared.parser.matches.ArgMatches.TheViews.{out-SubCommand}
 use Rattle.commands.specs.Views.{text_of}

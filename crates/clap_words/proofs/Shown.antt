@@ -1,6 +1,6 @@
 -- Rows, and the line that their texts show.
-use Rattle.std.proofs.Common.{◌≡◌, ◌||◌, ◌&&◌, ◌⊎◌, inl, inr, List, [], ◌∷◌, ◌++◌, Bool, true, false, refl, ap, sym, subst, ◌∙◌, codes, Option, Some, None, cond}
-use Rattle.std.specs.Prelude.{find, fold, option_map, option_and_then, slice_get}
+use Rattle.std.proofs.Common.{◌≡◌, inl, inr, List, [], ◌∷◌, ◌++◌, Bool, true, false, refl, ap, sym, subst, ◌∙◌, codes, Option, Some, None, cond}
+use Rattle.std.specs.Prelude.{find, fold, option_and_then, slice_get}
 use Rattle.std.specs.List.{list_all}
 use Rattle.std.specs.Str.{bytes_eq}
 use Rattle.std.proofs.lemmas.Slice.Eq.{bytes_eq-Decides}
@@ -8,7 +8,7 @@ use Rattle.std.proofs.lemmas.Bool.{or_parts, and_parts}
 use Rattle.clap.specs.declared.parser.matches.ValueSource.TheVariants.{CommandLine, DefaultValue}
 use Rattle.clap.specs.declared.builder.value_parser.Reading.{Reading}
 use Rattle.clap.specs.declared.builder.value_parser.Reading.TheVariants.{AsWritten}
-use Rattle.clap.specs.Words.{Text, Rule, Row, first_of, one_of, read_as}
+use Rattle.clap.specs.Words.{Text, Rule, Row, first_of, one_of}
 use Rattle.clap.specs.Walk.{has_row, row_text, with_default, default_rows, more_values, reading_by}
 use Rattle.commands.specs.Options.{Valued, Assume, Steps, Device, Trials}
 use Rattle.commands.specs.Commands.{Line, empty_line}

@@ -1,5 +1,5 @@
 -- What a level that fails nowhere found is a line.
-use Rattle.std.proofs.Common.{◌≡◌, ◌≢◌, ℕ, ◌==◌, suc, ◌||◌, ◌&&◌, not, nat_lt, List, [], ◌∷◌, ◌++◌, Bool, true, false, refl, ap, ap₂, sym, subst, ◌∙◌, codes, Option, Some, None, cond, is_some, is_none, fold}
+use Rattle.std.proofs.Common.{◌≡◌, ℕ, ◌==◌, suc, ◌||◌, ◌&&◌, not, List, [], ◌∷◌, ◌++◌, Bool, true, false, refl, ap, sym, subst, ◌∙◌, codes, Option, Some, None, cond, is_some, fold}
 use Rattle.std.specs.Prelude.{⊤, if◌then◌else◌}
 use Rattle.std.specs.List.{list_any}
 use Rattle.std.specs.Option.{option_map_or}
@@ -7,9 +7,7 @@ use Rattle.std.specs.Str.{bytes_eq}
 use Rattle.std.proofs.lemmas.Slice.Eq.{bytes_eq-Decides}
 use Rattle.std.proofs.lemmas.Bool.{or_parts}
 use Rattle.basics.specs.Booleans.{and_with_false}
-use Rattle.clap.specs.Words.{Shape, Text, Rule, Row, Kinds, first_of, one_of}
-use Rattle.clap.specs.Kinds.{or_else}
-use Rattle.clap.specs.Lexer.{long_of}
+use Rattle.clap.specs.Words.{Shape, Text, Rule, Row, Kinds}
 use Rattle.clap.specs.Walk.{Held, Waiting, Walk, walk, nothing_held, idle, option, value, walked, has_row, settled, reacted, pushed, arg_by_id, arg_by_index, arg_by_long, takes_values, takes_several, is_pending}
 use Rattle.clap.specs.Faults.{use_fault, settle_fault, react_fault, long_fault, positional_fault, step_fault, stray_fault, turn_fault, word_fault, walk_fault}
 use Rattle.clap.specs.declared.error.kind.ErrorKind.{ErrorKind}
@@ -18,7 +16,7 @@ use Rattle.commands.specs.Commands.{Line, empty_line, named, waiting, with_value
 use Rattle.clap_words.specs.Lines.{is_option, is_refused}
 use Rattle.clap_words.proofs.Pieces.{Mark, Json, Why, option_name, spelled, mark_name, mark_spelled, value_of, valued, is_marked, marked, with_mark}
 use Rattle.clap_words.proofs.Levels.{none_of, both_none, LevelPasses}
-use Rattle.clap_words.proofs.Steps.{at, begun, no_dashes, no_long, no_short, dashes, name_walked, value_walked, option_walked, flag_walked, option_long, mark_long, no_option_dashes, no_mark_dashes}
+use Rattle.clap_words.proofs.Steps.{at, begun, name_walked, value_walked, option_walked, flag_walked, option_long, mark_long, no_option_dashes, no_mark_dashes}
 use Rattle.clap_words.proofs.Going.{IsWordLevel, IsPositional, IsOption, IsFlag, IsStrict, AllowsWords, rows_at}
 use Rattle.clap_words.proofs.Rows.{new_row}
 use Rattle.clap_words.proofs.Shown.{Shows, no_text, none_read, mark_text, told, shows_first, shows_second, shows_given, shows_marked, shows_nothing}

@@ -14,7 +14,7 @@ use Rattle.clap.specs.Simple.{built, names_of, Shape}
 use Rattle.clap.proofs.OnLiterals.{clap_on_literals}
 use Rattle.commands.specs.Options.{Valued, Assume, Steps, Device, Trials}
 use Rattle.commands.specs.declared.line.Permitted.{Permitted}
-use Rattle.commands.specs.Commands.{Work, Command, Line, empty_line, then_words, device_in, no_options, device_option, plain_options, steps_options, trials_options, json_options, why_options, permits, asks, work_in, measured, called, whole, command_of}
+use Rattle.commands.specs.Commands.{Work, Command, Line, empty_line, then_words, device_in, no_options, device_option, plain_options, steps_options, trials_options, json_options, why_options, permits, asks, work_in, measured, called, whole, command_named}
 use Rattle.clap_words.specs.Lines.{line_app, is_option, is_refused, TellsLine}
 use Rattle.clap_words.proofs.Levels.{built_takes_named, level_fails, level_found, none_of, both_none}
 use Rattle.clap_words.proofs.Pieces.{Piece, Named, Given, Marked, Mark, Json, Why, spelled, mark_spelled, value_of, is_marked, all_words, AreFit, Cut, cut_words}
@@ -108,24 +108,24 @@ whole_good word words (Some l) x e h = by l.waits refl h where
   by None is h = called_good word words l x is e h
   by (Some v) is h = absurd (none-some x h)
 
-good_words : (ws : List (List ℕ)) (x : Command) → command_of ws ≡ Some x → IsGood ws
+good_words : (ws : List (List ℕ)) (x : Command) → command_named ws ≡ Some x → IsGood ws
 good_words [] x h = absurd (none-some x h)
 good_words (word ∷ words) x h = whole_good word words (then_words (Some empty_line) words) x refl h
 
 -- words that `clap` does not accept are no command
-pub not_taken : (ws : List (List ℕ)) → takes line_app ws ≢ true → None ≡ command_of ws
-not_taken ws n = by (command_of ws) refl where
-  by : (o : Option Command) → command_of ws ≡ o → None ≡ command_of ws
+pub not_taken : (ws : List (List ℕ)) → takes line_app ws ≢ true → None ≡ command_named ws
+not_taken ws n = by (command_named ws) refl where
+  by : (o : Option Command) → command_named ws ≡ o → None ≡ command_named ws
   by None e = sym e
   by (Some x) e = absurd (n (good_words ws x e).taken)
 
 -- words of which one is refused are no command
-pub not_free : (ws : List (List ℕ)) → list_any is_refused ws ≡ true → None ≡ command_of ws
-not_free ws n = by (command_of ws) refl where
+pub not_free : (ws : List (List ℕ)) → list_any is_refused ws ≡ true → None ≡ command_named ws
+not_free ws n = by (command_named ws) refl where
   true_is_false : true ≡ false → ⊥
   true_is_false e = cc
 
-  by : (o : Option Command) → command_of ws ≡ o → None ≡ command_of ws
+  by : (o : Option Command) → command_named ws ≡ o → None ≡ command_named ws
   by None e = sym e
   by (Some x) e = absurd (true_is_false (sym n ∙ (good_words ws x e).free))
 
@@ -141,7 +141,7 @@ pub record IsTold (ws : List Text) : Type 0 where
   pub line : Line
   pub found : subcommand_of line_app ws ≡ Some (name, rows)
   pub shows : TellsLine rows line
-  pub command : called name line ≡ command_of ws
+  pub command : called name line ≡ command_named ws
 
 told_at : (name : Text) (has : AllowsWords) (k : IsKnown name has) (word : Text) (ws : List Text) → list_any is_refused ws ≡ false → fault_of line_app (word ∷ ws) ≡ [] → bytes_eq name word ≡ true → IsTold (word ∷ ws)
 told_at name has k word ws free e is = subst (λ (w : Text). fault_of line_app (w ∷ ws) ≡ [] → IsTold (w ∷ ws)) ((bytes_eq-Decides name word).0 is) here e where

@@ -4,14 +4,14 @@ ghost use Rattle.std.specs.Prelude.{◌≡◌, IfOk, List, Some, map};
 ghost use Rattle.std.specs.Option.{option_map};
 ghost use Rattle.std.specs.List.{list_any};
 ghost use Rattle.clap.specs.Words.{Row, Text, found_of, rows_of, subcommand_rows_of};
-ghost use Rattle.commands.specs.Commands.{Line, called, command_of};
+ghost use Rattle.commands.specs.Commands.{Line, called, topic_of, topic_in, command_named, command_of};
 ghost use Rattle.commands.specs.Views.{command_seen, line_of};
 ghost use Rattle.clap_words.specs.Lines.{TellsLine, is_option, is_refused};
 
 use crate::line::line_command;
 use clap::ArgMatches;
 use clap::error::ErrorKind;
-use commands::{Command, CommandLine, called};
+use commands::{Command, CommandLine, Topic, called};
 use std::alloc::{AllocError, Global};
 
 // Whether the word is an option.
@@ -73,13 +73,10 @@ fn command_in<'a>(matches: &ArgMatches<'a>) -> Option<Command<'a>>
     }
 }
 
-/// The command that the words are, if any. Words that are empty, or begin with `-` and are no option, are refused first. `clap` parses
-/// the rest, and numbers and the device are read from what it found.
-pub fn command_of<'a>(
-    alloc: Global,
-    words: &'a [&'a str],
-) -> Result<Option<Command<'a>>, AllocError>
-    ensures { IfOk result (λ o. option_map command_seen o ≡ command_of (map (λ w. w.now) words.entry.now)) }
+// The command whose name is the first word. Words that are empty, or begin with `-` and are no option, are refused first. `clap` parses
+// the rest, and numbers and the device are read from what it found.
+fn command_named<'a>(alloc: Global, words: &'a [&'a str]) -> Result<Option<Command<'a>>, AllocError>
+    ensures { IfOk result (λ o. option_map command_seen o ≡ command_named (map (λ w. w.now) words.entry.now)) }
 {
     if has_refused(words) {
         return Ok(None);
@@ -93,5 +90,41 @@ pub fn command_of<'a>(
                 Ok(None)
             }
         }
+    }
+}
+
+// What the word asks of the program itself.
+fn topic_of(word: &str) -> Option<Topic>
+    ensures { result ≡ topic_of word.now }
+{
+    if word == "--help" {
+        Some(Topic::Help)
+    } else if word == "--version" {
+        Some(Topic::Version)
+    } else {
+        None
+    }
+}
+
+// What the words ask of it: one word alone does.
+fn topic_in(words: &[&str]) -> Option<Topic>
+    ensures { result ≡ topic_in (map (λ w. w.now) words.now) }
+{
+    match words {
+        [word] => topic_of(word),
+        _ => None,
+    }
+}
+
+/// The command that the words are, if any.
+pub fn command_of<'a>(
+    alloc: Global,
+    words: &'a [&'a str],
+) -> Result<Option<Command<'a>>, AllocError>
+    ensures { IfOk result (λ o. option_map command_seen o ≡ command_of (map (λ w. w.now) words.entry.now)) }
+{
+    match topic_in(words) {
+        Some(topic) => Ok(Some(Command::About(topic))),
+        None => command_named(alloc, words),
     }
 }

@@ -7,6 +7,8 @@ use Rattle.avr_model.specs.Devices.{M328}
 use Rattle.avr_model.specs.Names.{device_named}
 use Rattle.sb_base.specs.declared.digits.DigitFault.{DigitFault}
 use Rattle.sb_base.specs.Digits.{dec_answer}
+use Rattle.commands.specs.declared.command.Topic.{Topic}
+use Rattle.commands.specs.declared.command.Topic.TheVariants.{Help, Version}
 use Rattle.commands.specs.declared.line.Permitted.{Permitted}
 use Rattle.commands.specs.Options.{Valued}
 use Rattle.commands.specs.Options as option
@@ -33,15 +35,17 @@ pub record Request : Type 0 where
   pub assume : Option (List ℕ)
   pub work : Work
 
--- A command: a request, or to measure the analysis on a generated image.
+-- A command: a request, to measure the analysis on a generated image, or to say what the program is.
 pub data Command : Type 0 where
   On : (request : Request) → Command
   Demo : (size : ℕ) → Command
+  About : (topic : Topic) → Command
 
--- the device of the command; `demo` has the ATmega328P
+-- the device of the command; one without a firmware has the ATmega328P
 abbrev pub device_for : Command → Device
 device_for (On request) = request.device
 device_for (Demo size) = M328
+device_for (About topic) = M328
 
 -- ---- files
 
@@ -74,6 +78,7 @@ name_of (On request) Firmware = Some request.firmware
 name_of (On request) Second = file_of request.work
 name_of (On request) Assumptions = assume_of request.work request.assume
 name_of (Demo size) role = None
+name_of (About topic) role = None
 
 -- this is the name of the command's file of this role
 abbrev pub IsFileOf : Command → Role → List ℕ → Type 0
@@ -300,8 +305,25 @@ abbrev pub whole : List ℕ → Option Line → Option Command
 whole word None = None
 whole word (Some line) = if is_none line.waits then called word line else None
 
--- The command of a list of words. The first word is its name. `--assume`, `--steps`, `--device` and `--trials` take the next word. Each
--- option occurs at most once, and only if the command has it. The remaining words are the names in order.
+-- The first word is the command's name. `--assume`, `--steps`, `--device` and `--trials` take the next word. Each option occurs at most
+-- once, and only if the command has it. The remaining words are the names in order.
+abbrev pub command_named : List (List ℕ) → Option Command
+command_named [] = None
+command_named (word ∷ words) = whole word (then_words (Some empty_line) words)
+
+-- what the words ask of the program itself: one word alone does
+abbrev pub topic_of : List ℕ → Option Topic
+topic_of word = if bytes_eq word (codes "--help") then Some Help else (if bytes_eq word (codes "--version") then Some Version else None)
+
+abbrev pub topic_in : List (List ℕ) → Option Topic
+topic_in [] = None
+topic_in (word ∷ []) = topic_of word
+topic_in (word ∷ other ∷ words) = None
+
+abbrev pub about_or : Option Topic → Option Command → Option Command
+about_or None command = command
+about_or (Some topic) command = Some (About topic)
+
+-- The command of a list of words.
 abbrev pub command_of : List (List ℕ) → Option Command
-command_of [] = None
-command_of (word ∷ words) = whole word (then_words (Some empty_line) words)
+command_of words = about_or (topic_in words) (command_named words)

@@ -1,3 +1,4 @@
+pub mod About
 pub mod Commands
 pub mod Options
 pub mod Views

@@ -6,7 +6,7 @@ use Rattle.commands.specs.declared.command.Work.{Work as Owned}
 use Rattle.commands.specs.declared.command.Work.TheVariants as owned
 use Rattle.commands.specs.declared.command.Command.{Command as OwnedCommand}
 use Rattle.commands.specs.declared.command.Command.TheVariants as command
-use Rattle.commands.specs.Commands.{Work, Check, Analyse, Run, Report, Explain, Clear, Premises, Attain, Simulate, Command, On, Demo, Line}
+use Rattle.commands.specs.Commands.{Work, Check, Analyse, Run, Report, Explain, Clear, Premises, Attain, Simulate, Command, On, Demo, About, Line}
 
 abbrev pub text_of : Option (Bor (List ℕ)) → Option (List ℕ)
 text_of None = None
@@ -29,3 +29,4 @@ work_seen (owned.Simulate devices steps) = Simulate devices.now steps
 abbrev pub command_seen : OwnedCommand → Command
 command_seen (command.On r) = On (record { device = r.device; firmware = r.firmware.now; assume = text_of r.assume; work = work_seen r.work })
 command_seen (command.Demo size) = Demo size
+command_seen (command.About topic) = About topic

@@ -80,6 +80,15 @@ pub struct Request<'a> {
     pub work: Work<'a>,
 }
 
+/// What is said of the program itself.
+#[derive(Clone, Copy)]
+pub enum Topic {
+    /// Its commands, and where the documents are.
+    Help,
+    /// Its version.
+    Version,
+}
+
 /// What the program does.
 #[derive(Clone, Copy)]
 pub enum Command<'a> {
@@ -87,6 +96,8 @@ pub enum Command<'a> {
     On(Request<'a>),
     /// Measures the analysis by the image of this size.
     Demo { size: Size },
+    /// Says what the program is.
+    About(Topic),
 }
 
 impl<'a> Command<'a> {
@@ -96,7 +107,7 @@ impl<'a> Command<'a> {
     {
         match self {
             Command::On(request) => request.device,
-            Command::Demo { .. } => Device::M328,
+            Command::Demo { .. } | Command::About(_) => Device::M328,
         }
     }
 
@@ -106,7 +117,7 @@ impl<'a> Command<'a> {
     {
         match self {
             Command::On(request) => Some(request.firmware),
-            Command::Demo { .. } => None,
+            Command::Demo { .. } | Command::About(_) => None,
         }
     }
 
@@ -116,7 +127,7 @@ impl<'a> Command<'a> {
     {
         match self {
             Command::On(request) => request.work.file(),
-            Command::Demo { .. } => None,
+            Command::Demo { .. } | Command::About(_) => None,
         }
     }
 
@@ -131,7 +142,8 @@ impl<'a> Command<'a> {
                     ..
                 },
             )
-            | Command::Demo { .. } => None,
+            | Command::Demo { .. }
+            | Command::About(_) => None,
             Command::On(request) => request.assume,
         }
     }

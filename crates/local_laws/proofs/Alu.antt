@@ -42,10 +42,12 @@ use Rattle.abs_state.specs.Formed.{CarryIsUntagged}
 use Rattle.abs_state.specs.Stands.{ByteStands, RegistersStand}
 use Rattle.abs_state.proofs.AllLaws.{bits_make_values}
 use Rattle.mask_states.specs.declared.keys.NodeKey.{NodeKey}
+use Rattle.local_rules.specs.HighBytes.{view_by, low_number, carry_number, seen_high}
 use Rattle.local_rules.specs.Raw.{setting as node_setting}
-use Rattle.local_rules.specs.Registers.{value, bits, carry_bit, with_bits, set as node_set, set_pair as node_pair, with_carry, but_carry, low_tag, borrow_tag, high_tag, swapped, product_row, down_by, pair_tags, pair_moved, wide_row, going_with, sum_tagged, sum_after, compare_after, difference_after, sub_after, sbc_after, logic_after, step_tagged, step_after, shift_after, com_after}
+use Rattle.local_rules.specs.Registers.{value, bits, carry_bit, with_bits, set as node_set, set_pair as node_pair, with_carry, but_carry, low_tag, borrow_tag, high_tag, high_tag_of, swapped, product_row, down_by, pair_tags, pair_moved, wide_row, going_with, sum_tagged, sum_after, compare_after, difference_after, sub_after, sbc_after, logic_after, step_tagged, step_after, shift_after, com_after}
 use Rattle.local_laws.proofs.Bare.{InBareFrame}
 use Rattle.local_laws.proofs.Landing.{FollowsWhere}
+use Rattle.local_laws.proofs.HighBytes.{seen_stands}
 use Rattle.local_laws.proofs.Bits.{with_flags_i, with_flags_carry, with_carry_and_zero_i, permits_flag, constant_is}
 use Rattle.local_laws.proofs.Bytes.{byte_in_list}
 use Rattle.local_laws.proofs.EffectSizes.{shift_small, wide_small}
@@ -202,13 +204,17 @@ module _ {may : Bool} (m : State) (o : Origin) (k : NodeKey) (s : AbsState) (at 
         subst (λ n. CarryHolds o (borrow_tag (value s d).tag (Some n)) (nat_lt (register m d) y)) (is l refl)
         (differences_are_true.borrow o (value s d).tag (register m d) y (register_byte d) small (register_stands m o k s at d).tag)
 
+    -- what is read of a register beside the low byte that C is of
+    abbrev carried : ℕ → Tag
+    carried d = seen_high (view_by m.device k) (carry_number s.flags.carry) (value s d)
+
     high_holds : (d y : ℕ) (number : Option ℕ) → y < 256 → ((l : ℕ) → number ≡ Some l → y ≡ l)
-        → TagHolds o (high_tag (value s d).tag number s.flags.carry) (difference_of (register m d) y (carry m))
+        → TagHolds o (high_tag (carried d) number s.flags.carry) (difference_of (register m d) y (carry m))
     high_holds d y None small is = tt
     high_holds d y (Some l) small is =
-        subst (λ n. TagHolds o (high_tag (value s d).tag (Some n) s.flags.carry) (difference_of (register m d) y (carry m))) (is l refl)
-        (differences_are_true.high o (value s d).tag (register m d) y s.flags.carry (carry m) (register_byte d) small at.node.carry_bytes
-        (register_stands m o k s at d).tag at.stands.flags.carry)
+        subst (λ n. TagHolds o (high_tag (carried d) (Some n) s.flags.carry) (difference_of (register m d) y (carry m))) (is l refl)
+        (differences_are_true.high o (carried d) (register m d) y s.flags.carry (carry m) (register_byte d) small at.node.carry_bytes
+        (seen_stands m o k s at (carry_number s.flags.carry) d) at.stands.flags.carry)
 
     pub carry_may : Permits (carry_bit s) (from_bool (carry m))
     carry_may = permits_flag s.flags.bits m.sreg 0 flag_bits
@@ -224,7 +230,7 @@ module _ {may : Bool} (m : State) (o : Origin) (k : NodeKey) (s : AbsState) (at 
         (borrow_names_none (value s d).tag number)
 
     pub sbc_covered : (d y : ℕ) (b : TriByte) (number : Option ℕ) → y < 256 → Has b y → ((l : ℕ) → number ≡ Some l → y ≡ l)
-        → FollowsWhere may m o s.facts k guarded b1 b2 (difference_effect m d (register m d) y (carry m) true) (going_with (site_at m.device k s) (sbc_after s d b number))
+        → FollowsWhere may m o s.facts k guarded b1 b2 (difference_effect m d (register m d) y (carry m) true) (going_with (site_at m.device k s) (sbc_after (view_by m.device k) s d b number))
     sbc_covered d y b number small has is =
         difference_covered d (register m d) y (bits s d) b (carry m) (carry_bit s) true _ carry_tag.None (register_byte d) small (register_bits d) has carry_may (high_holds d y number small is) tt tt
 
@@ -349,17 +355,22 @@ module _ {may : Bool} (m : State) (o : Origin) (k : NodeKey) (s : AbsState) (at 
     pub pair_small : (d : ℕ) → pair m d < 65536
     pair_small d = omega (arith, register_byte d, register_byte (d + 1))
 
-    pub pair_holds : (d : ℕ) → PairHolds o (value s d).tag (value s (d + 1)).tag (pair m d)
+    pub pair_holds : (d : ℕ) → PairHolds o (value s d).tag (high_tag_of (view_by m.device k) s d) (pair m d)
     pair_holds d =
         record {
           low = subst (TagHolds o (value s d).tag) (sym (low_pair (register m d) (register m (d + 1)) (register_byte d))) (register_stands m o k s at d).tag;
-          high = subst (TagHolds o (value s (d + 1)).tag) (sym (high_pair (register m d) (register m (d + 1)) (register_byte d))) (register_stands m o k s at (d + 1)).tag;
+          high = subst (TagHolds o (high_tag_of (view_by m.device k) s d)) (sym (high_pair (register m d) (register m (d + 1)) (register_byte d)))
+              (seen_stands m o k s at (low_number (value s d).tag) (d + 1));
         }
 
-    moved_tags : (d : ℕ) (up : Bool) (n : ℕ) → n < 256 → PairHolds o (pair_tags s d up n).0 (pair_tags s d up n).1 (wide_of up (pair m d) n)
+    -- the tags of a pair that moves
+    abbrev tags_of : ℕ → Bool → ℕ → Tag × Tag
+    tags_of d up n = pair_tags (view_by m.device k) s d up n
+
+    moved_tags : (d : ℕ) (up : Bool) (n : ℕ) → n < 256 → PairHolds o (tags_of d up n).0 (tags_of d up n).1 (wide_of up (pair m d) n)
     moved_tags d up n small =
-        subst (PairHolds o (pair_tags s d up n).0 (pair_tags s d up n).1) (moved_is up (pair m d) n (pair_small d) small)
-        (pairs_are_true.below o (value s d).tag (value s (d + 1)).tag (pair m d) (down_by up n) (pair_small d) (pair_holds d))
+        subst (PairHolds o (tags_of d up n).0 (tags_of d up n).1) (moved_is up (pair m d) n (pair_small d) small)
+        (pairs_are_true.below o (value s d).tag (high_tag_of (view_by m.device k) s d) (pair m d) (down_by up n) (pair_small d) (pair_holds d))
 
     wide_covers : (d : ℕ) (up : Bool) (n : ℕ) → n < 256
         → CoversWord (abs_wide up (bits s d, bits s (d + 1)) n s.flags.bits) (wide_of up (pair m d) n) (flags_of_wide up (pair m d) n m.sreg)
@@ -369,17 +380,17 @@ module _ {may : Bool} (m : State) (o : Origin) (k : NodeKey) (s : AbsState) (at 
         (subst (Has (bits s (d + 1))) (sym (high_pair (register m d) (register m (d + 1)) (register_byte d))) (register_bits (d + 1))) flag_bits
 
     -- adds a small number to a pair, or subtracts it
-    pub moved_stands : (d : ℕ) (up : Bool) (n : ℕ) → n < 256 → RegistersStand o (pair_moved s d up n) (with_registers m.registers (set_pair d (wide_of up (pair m d) n)))
+    pub moved_stands : (d : ℕ) (up : Bool) (n : ℕ) → n < 256 → RegistersStand o (pair_moved (view_by m.device k) s d up n) (with_registers m.registers (set_pair d (wide_of up (pair m d) n)))
     moved_stands d up n small =
         let covers = wide_covers d up n small in
         let tags = moved_tags d up n small in
         let answer = abs_wide up (bits s d, bits s (d + 1)) n s.flags.bits in
-        pair_stands d (wide_of up (pair m d) n) (with_bits (pair_tags s d up n).0 answer.0.0) (with_bits (pair_tags s d up n).1 answer.0.1)
-        (bits_make_values.stands o (pair_tags s d up n).0 answer.0.0 (low (wide_of up (pair m d) n)) (omega arith) tags.low covers.0)
-        (bits_make_values.stands o (pair_tags s d up n).1 answer.0.1 (high (wide_of up (pair m d) n)) (omega (arith, wide_small up (pair m d) n)) tags.high covers.1)
+        pair_stands d (wide_of up (pair m d) n) (with_bits (tags_of d up n).0 answer.0.0) (with_bits (tags_of d up n).1 answer.0.1)
+        (bits_make_values.stands o (tags_of d up n).0 answer.0.0 (low (wide_of up (pair m d) n)) (omega arith) tags.low covers.0)
+        (bits_make_values.stands o (tags_of d up n).1 answer.0.1 (high (wide_of up (pair m d) n)) (omega (arith, wide_small up (pair m d) n)) tags.high covers.1)
 
     pub wide_covered : (up : Bool) (d n : ℕ) → n < 256 → FollowsWhere may m o s.facts k guarded b1 b2 (wide_effect m up d n) (wide_row (site_at m.device k s) up d n)
     wide_covered up d n small =
         sets m o k s at guarded b1 b2 (set_pair d (wide_of up (pair m d) n)) (flags_of_wide up (pair m d) n m.sreg)
-        (pair_moved s d up n) (with_carry (abs_wide up (bits s d, bits s (d + 1)) n s.flags.bits).1 carry_tag.None) (wide_i up (pair m d) n m.sreg)
+        (pair_moved (view_by m.device k) s d up n) (with_carry (abs_wide up (bits s d, bits s (d + 1)) n s.flags.bits).1 carry_tag.None) (wide_i up (pair m d) n m.sreg)
         (moved_stands d up n small) (record { entry = tt; bits = (wide_covers d up n small).2; carry = tt }) tt

@@ -1,7 +1,11 @@
 -- Nodes without their facts on pairs, as rows need and keep them. A row ends some intervals before it writes.
-use Rattle.std.proofs.Common.{◌≡◌, ◌+◌, ◌^◌, ◌<◌, ◌≤◌, Bool, true}
+use Rattle.std.proofs.Common.{◌≡◌, ◌+◌, ◌^◌, ◌<◌, ◌≤◌, ◌||◌, ap, Bool, true, false, List, arith}
 use Rattle.avr_model.specs.declared.device.Device.{Device}
-use Rattle.avr_model.specs.Devices.{io_end, ramend, limit_of, depth_of}
+use Rattle.avr_model.proofs.AllLaws.{devices_are_alike}
+use Rattle.avr_model.specs.Devices.{io_end, ramend, limit_of, depth_of, has_sph}
+use Rattle.avr_model.specs.declared.assumption.Entry.{Entry}
+use Rattle.avr_model.specs.Assumptions.{has_masks}
+use Rattle.avr_model.specs.Masks.{reads_masks}
 use Rattle.avr_model.specs.State.{State}
 use Rattle.avr_model.specs.Vectors.{enable_count}
 use Rattle.sp_domain.specs.Tags.{Origin, HasByteNumbers}
@@ -22,7 +26,7 @@ pub record IsBare (device : Device) (k : NodeKey) (s : AbsState) : Type 0 where
   pub word : k.pc < limit_of device
   pub small : offset_of k.sp ≤ depth_of device
   pub masks : k.masks < 2 ^ enable_count device
-  pub fits : FormFits k
+  pub fits : FormFits device k
   pub pick : PickFits k.pick
   pub formed : IsFormed s (offset_of k.sp)
   pub tags : TagsFit s
@@ -36,8 +40,16 @@ pub record InBareFrame (may : Bool) (m : State) (o : Origin) (k : NodeKey) (s : 
   pub stands : Stands o s m
   pub facts : HoldsAt s.facts m.registers m.sreg
   pub root : k.inst.kind ≡ Root → o.base ≡ ramend m.device
+  pub top : o.base ≤ ramend m.device
   pub base_word : o.base < 65536
   pub room : may ≡ true → offset_of k.sp + io_end m.device ≤ o.base
+  -- without SPH the list is read with `masks`
+  pub sees : has_sph m.device ≡ false → may ≡ true
+
+-- a list of a device without SPH is read with `masks`
+pub masked : (device : Device) (A : List Entry) → has_sph device ≡ false → reads_masks device A ≡ true
+unfolding reads_masks
+masked device A none = ap (λ (b : Bool). b || has_masks A) (devices_are_alike.reads device none)
 
 pub bare : {device : Device} {followed : Bool} (k : NodeKey) (s : AbsState) → IsNodeIn device followed k s → IsBare device k s
 bare k s h =
@@ -53,8 +65,9 @@ bare k s h =
       untagged = h.untagged;
     }
 
-pub bare_frame : {followed may : Bool} (m : State) (o : Origin) (k : NodeKey) (s : AbsState) → InFrameIn followed may m o k s → InBareFrame may m o k s
-bare_frame m o k s h =
+pub bare_frame : {followed may : Bool} (m : State) (o : Origin) (k : NodeKey) (s : AbsState) → (has_sph m.device ≡ false → may ≡ true) → InFrameIn followed may m o k s
+    → InBareFrame may m o k s
+bare_frame m o k s sees h =
     record {
       machine = h.machine;
       node = bare k s h.node;
@@ -62,8 +75,10 @@ bare_frame m o k s h =
       stands = h.stands;
       facts = h.facts;
       root = h.root;
-      base_word = h.base_word;
+      top = h.top;
+      base_word = omega (arith, h.top, devices_are_alike.most_bytes m.device, devices_are_alike.most_io m.device);
       room = h.room;
+      sees = sees;
     }
 
 -- with valid facts on pairs it is a node

@@ -37,6 +37,7 @@ use Rattle.mask_states.specs.Wakes.{without}
 use Rattle.local_rules.specs.Flow.{reading_zero}
 use Rattle.local_rules.specs.Permitted.{permits_number}
 use Rattle.local_rules.specs.Raw.{Raw, at_word, off_table, next, going_to as node_going_to, setting as node_setting, further as node_further}
+use Rattle.local_rules.specs.HighBytes.{SpView, view_by}
 use Rattle.local_rules.specs.Registers.{value, set as node_set, pair_moved}
 use Rattle.local_rules.specs.Reads.{read_at, kept_bits, pair_constant, pointed, read_pointed, flash_value}
 use Rattle.local_rules.specs.Writes.{written_at, pointer_write}
@@ -73,17 +74,17 @@ count_set : (registers : List ℕ) (writes : List Write) → length (with_regist
 count_set registers [] = refl
 count_set registers (w ∷ ws) = count_set (slice_set registers w.address w.byte) ws ∙ length-set registers w.address w.byte
 
-count_moved : (s : AbsState) (r : ℕ) (up : Bool) → length (pair_moved s r up 1) ≡ length s.registers
-count_moved s r up = length-set _ _ _ ∙ length-set _ _ _
+count_moved : (view : SpView) (s : AbsState) (r : ℕ) (up : Bool) → length (pair_moved view s r up 1) ≡ length s.registers
+count_moved view s r up = length-set _ _ _ ∙ length-set _ _ _
 
-count_pointer : (s : AbsState) (p : Pointer) → length (pointer_moved p s) ≡ length s.registers
-count_pointer s pointer.ZPlus = count_moved s 30 true
-count_pointer s pointer.MinusZ = count_moved s 30 false
-count_pointer s pointer.YPlus = count_moved s 28 true
-count_pointer s pointer.MinusY = count_moved s 28 false
-count_pointer s pointer.X = refl
-count_pointer s pointer.XPlus = count_moved s 26 true
-count_pointer s pointer.MinusX = count_moved s 26 false
+count_pointer : (view : SpView) (s : AbsState) (p : Pointer) → length (pointer_moved view p s) ≡ length s.registers
+count_pointer view s pointer.ZPlus = count_moved view s 30 true
+count_pointer view s pointer.MinusZ = count_moved view s 30 false
+count_pointer view s pointer.YPlus = count_moved view s 28 true
+count_pointer view s pointer.MinusY = count_moved view s 28 false
+count_pointer view s pointer.X = refl
+count_pointer view s pointer.XPlus = count_moved view s 26 true
+count_pointer view s pointer.MinusX = count_moved view s 26 false
 
 -- ---- addresses
 
@@ -180,12 +181,12 @@ module _ (task : Task) (m : State) (o : Origin) (k : NodeKey) (s : AbsState) (at
 
   load_covered : (d : ℕ) (p : Pointer) → b1 < 256 → SparesAll s.flags.carry (d ∷ moved_pair p)
       → FollowsWhere (reads_masks m.device task.assumptions) m o s.facts k (not scratch) b1 b2
-      (setting m (moved p (pair m (pointer_register p)) ++ set d (read (reads_masks m.device task.assumptions) m (address_of p (pair m (pointer_register p))) b1)) m.sreg) (pointer_load task.assumptions (site_at m.device k s) (pointer_moved p s) d (pointed s (pointer_register p) (step_before p)))
+      (setting m (moved p (pair m (pointer_register p)) ++ set d (read (reads_masks m.device task.assumptions) m (address_of p (pair m (pointer_register p))) b1)) m.sreg) (pointer_load task.assumptions (site_at m.device k s) (pointer_moved (view_by m.device k) p s) d (pointed (view_by m.device k) s (pointer_register p) (step_before p)))
   load_covered d p small spares =
-      loading_covered (moved p (pair m (pointer_register p))) (pointer_moved p s) d (read (reads_masks m.device task.assumptions) m (address_of p (pair m (pointer_register p))) b1)
-      (read_pointed m.device (reads_masks m.device task.assumptions) k s (pointed s (pointer_register p) (step_before p))) (count_pointer s p ∙ at.node.formed.count_registers) (pointer_stands m o k s at p)
+      loading_covered (moved p (pair m (pointer_register p))) (pointer_moved (view_by m.device k) p s) d (read (reads_masks m.device task.assumptions) m (address_of p (pair m (pointer_register p))) b1)
+      (read_pointed m.device (reads_masks m.device task.assumptions) k s (pointed (view_by m.device k) s (pointer_register p) (step_before p))) (count_pointer (view_by m.device k) s p ∙ at.node.formed.count_registers) (pointer_stands m o k s at p)
       (less_moved m.registers s.flags.carry (flag m.sreg 0) p (pair m (pointer_register p)) spares.1 at.stands.less) spares.0
-      (subst (λ a. IsRead o (read_pointed m.device (reads_masks m.device task.assumptions) k s (pointed s (pointer_register p) (step_before p))) (read (reads_masks m.device task.assumptions) m a b1))
+      (subst (λ a. IsRead o (read_pointed m.device (reads_masks m.device task.assumptions) k s (pointed (view_by m.device k) s (pointer_register p) (step_before p))) (read (reads_masks m.device task.assumptions) m a b1))
       (address_is p (pair m (pointer_register p)) (pair_small m o k s at (pointer_register p)))
       (pointed_stands m o k s at (pointer_register p) (step_before p) b1 small))
 
@@ -300,16 +301,16 @@ module _ (task : Task) (m : State) (o : Origin) (k : NodeKey) (s : AbsState) (at
   addressed_covered members are small (i.Sts a r) spares is told clean unflagged = register_covered members (further m 2) 2 (further_is m o k s at (not scratch) b1 b2 2) false a r clean
   addressed_covered members are small (i.Ld d p) spares is told clean unflagged = load_covered d p small spares
   addressed_covered members are small (i.St p r) spares is told clean unflagged =
-      st_covered members told p r s.flags s.facts (pointer_moved p s) s.facts spares (count_pointer s p ∙ at.node.formed.count_registers) at.node.formed.facts
+      st_covered members told p r s.flags s.facts (pointer_moved (view_by m.device k) p s) s.facts spares (count_pointer (view_by m.device k) s p ∙ at.node.formed.count_registers) at.node.formed.facts
       (number_permitted m o k s at (pointer_register p) (step_before p) (pointer_pair p)) (pointer_stands m o k s at p) unflagged.protected clean
   addressed_covered members are small (i.LpmZ d) spares is told clean unflagged = one_covered d _ _ (lpm_stands are small) spares.0
   addressed_covered members are small (i.LpmZPlus d) spares is told clean unflagged =
-      loading_covered (set_pair 30 (plus16 (pair m 30) 1)) (pair_moved s 30 true 1) d (flash_read task.flash (pair m 30) b1) (Some (flash_value task.flash (pair_constant s 30))) (count_moved s 30 true ∙ at.node.formed.count_registers)
+      loading_covered (set_pair 30 (plus16 (pair m 30) 1)) (pair_moved (view_by m.device k) s 30 true 1) d (flash_read task.flash (pair m 30) b1) (Some (flash_value task.flash (pair_constant s 30))) (count_moved (view_by m.device k) s 30 true ∙ at.node.formed.count_registers)
       (z_moved m o k s at) (less_two m.registers s.flags.carry (flag m.sreg 0) 30 31 _ _ spares.1 at.stands.less) spares.0 (lpm_stands are small)
   addressed_covered members are small i.Lpm spares is told clean unflagged = one_covered 0 _ _ (lpm_stands are small) spares.0
   addressed_covered members are small (i.ElpmZ d) spares is told clean unflagged = one_covered d _ _ (flash_by o false 0 b1 (omega arith) small) spares.0
   addressed_covered members are small (i.ElpmZPlus d) spares is told clean unflagged =
-      loading_covered (set_pair 30 (plus16 (pair m 30) 1)) (pair_moved s 30 true 1) d b1 (Some unknown) (count_moved s 30 true ∙ at.node.formed.count_registers)
+      loading_covered (set_pair 30 (plus16 (pair m 30) 1)) (pair_moved (view_by m.device k) s 30 true 1) d b1 (Some unknown) (count_moved (view_by m.device k) s 30 true ∙ at.node.formed.count_registers)
       (z_moved m o k s at) (less_two m.registers s.flags.carry (flag m.sreg 0) 30 31 _ _ spares.1 at.stands.less) spares.0 (flash_by o false 0 b1 (omega arith) small)
   addressed_covered members are small i.Elpm spares is told clean unflagged = one_covered 0 _ _ (flash_by o false 0 b1 (omega arith) small) spares.0
   addressed_covered members are small (i.In d a) spares is told clean unflagged = one_covered d _ _ (read_stands m o k s at (port a) b1 small) spares.0

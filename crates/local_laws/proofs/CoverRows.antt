@@ -43,6 +43,7 @@ use Rattle.abs_state.specs.Values.{known}
 use Rattle.abs_state.specs.Formed.{CarryIsUntagged}
 use Rattle.abs_state.proofs.AllLaws.{bits_make_values}
 use Rattle.mask_states.specs.declared.keys.NodeKey.{NodeKey}
+use Rattle.local_rules.specs.HighBytes.{view_by}
 use Rattle.local_rules.specs.Raw.{Raw, further}
 use Rattle.local_rules.specs.Registers.{value, bits, carry_bit, less_than, less_kept, going_by, binary_after}
 use Rattle.local_rules.specs.FrameLines.{is_followed, framed_binary}
@@ -116,7 +117,7 @@ module _ {may : Bool} (m : State) (o : Origin) (k : NodeKey) (s : AbsState) (at 
     unary_covered unary.Ror d spare = shift_covered m o k s at guarded b1 b2 shift.Ror d
     unary_covered unary.Dec d spare = step_covered m o k s at guarded b1 b2 false d spare
 
-    binary_covered : (words : Program) (op : BinaryOp) (d r : ℕ) → SparesAll s.flags.carry (set_by_binary op d) → FollowsWhere may m o s.facts k guarded b1 b2 (binary_effect words m op d r) (going_by (site_at m.device k s) (binary_at false s op d r) (equal_skip words (site_at m.device k s) d r))
+    binary_covered : (words : Program) (op : BinaryOp) (d r : ℕ) → SparesAll s.flags.carry (set_by_binary op d) → FollowsWhere may m o s.facts k guarded b1 b2 (binary_effect words m op d r) (going_by (site_at m.device k s) (binary_at (view_by m.device k) false s op d r) (equal_skip words (site_at m.device k s) d r))
     binary_covered words binary.Cpc d r spares =
         compare_covered m o k s at guarded b1 b2 (register m d) (register m r) (bits s d) (bits s r) (carry m) (carry_bit s) true
         (less_kept (byte_constant (bits s d)) (byte_constant (bits s r)) s.flags.carry) (register_byte m o k s at d) (register_byte m o k s at r)
@@ -172,7 +173,7 @@ module _ {may : Bool} (m : State) (o : Origin) (k : NodeKey) (s : AbsState) (at 
 
     -- the row of two registers, with pairs or without
     abbrev row_by : Program → Bool → BinaryOp → ℕ → ℕ → Raw
-    row_by words framed op d r = going_by (site_at m.device k s) (if framed then framed_binary s op d r else binary_after s op d r) (node_skipping words (site_at m.device k s) k k (byte_equal (bits s d) (bits s r)))
+    row_by words framed op d r = going_by (site_at m.device k s) (if framed then framed_binary (view_by m.device k) s op d r else binary_after (view_by m.device k) s op d r) (node_skipping words (site_at m.device k s) k k (byte_equal (bits s d) (bits s r)))
 
     binary_line_covered : (words : Program) (framed : Bool) (op : BinaryOp) (d r : ℕ) → SparesAll s.flags.carry (set_by_binary op d) → FollowsWhere may m o s.facts k guarded b1 b2 (binary_effect words m op d r) (row_by words framed op d r)
     binary_line_covered words false op d r spares = binary_covered words op d r spares

@@ -19,7 +19,7 @@ use Rattle.abs_state.specs.FlagsSet.{sets_flags, sets_carry}
 use Rattle.local_rules.specs.Registers.{before}
 use Rattle.local_rules.specs.Machine.{AreWords}
 use Rattle.local_rules.specs.Cover.{Follows, effect_by, CoversStep, InFrameIn}
-use Rattle.local_laws.proofs.Bare.{InBareFrame, bare_frame}
+use Rattle.local_laws.proofs.Bare.{InBareFrame, masked, bare_frame}
 use Rattle.local_laws.proofs.PairedStep.{paired_covered}
 use Rattle.pair_domain.specs.declared.facts.PairFacts.{PairFacts}
 use Rattle.pair_cuts.specs.Cuts.{pick_cut}
@@ -150,7 +150,7 @@ covered_on {followed = followed} device ws A m o k s b1 b2 told =
     subst
     (λ (d : Device). AreWords (image d ws) → InFrameIn followed (reads_masks d A) m o k s → b1 < 256 → b2 < 256
     → CoversStep (task_with (image d ws) A) m o k b1 b2 (instruction_at (image d ws) m.pc) (raw (task_with (image d ws) A) k s))
-    told (λ are at small other. covered ws A m o k s (bare_frame m o k s at) b1 b2 small other are)
+    told (λ are at small other. covered ws A m o k s (bare_frame m o k s (masked m.device A) at) b1 b2 small other are)
 
 pub local_parts_cover : LocalPartsCover
 local_parts_cover = record { covered = λ task m o k s b1 b2 are told at small other. covered_on (device_of task.flash) task.flash.words task.assumptions m o k s b1 b2 told are at small other }

@@ -2,7 +2,7 @@
 use Rattle.std.proofs.Common.{ℕ, ◌+◌, ◌-◌, ◌*◌, ◌/◌, ◌%◌, ◌<◌, ◌==◌, Bool, true, false, not, nat_lt, nat_le, if◌then◌else◌, List, [], ◌++◌, slice_index, arith}
 use Rattle.abs_alu.proofs.AllLaws.{logic_small, result_small, top_small}
 use Rattle.avr_model.proofs.AllLaws.{devices_are_alike}
-use Rattle.avr_model.specs.Devices.{Program, words_of, device_of, wrapped}
+use Rattle.avr_model.specs.Devices.{Program, words_of, device_of, back_of, wrapped}
 use Rattle.avr_model.specs.declared.effect.Write.{Write}
 use Rattle.avr_model.specs.declared.instruction.Instr.{Instr}
 use Rattle.avr_model.specs.declared.instruction.Instr.TheVariants as i
@@ -32,7 +32,7 @@ use Rattle.local_laws.proofs.Bytes.{below_in_list, byte_in_list}
 use Rattle.local_laws.proofs.Bits.{with_bit_small, with_flags_small, with_carry_and_zero_small}
 use Rattle.local_laws.proofs.Memory.{AreByteWrites}
 use Rattle.local_laws.proofs.Sized.{IsInstrSized}
-use Rattle.local_laws.proofs.Machine.{IsEffect, read_small}
+use Rattle.local_laws.proofs.Machine.{IsEffect, up_small, down_small, pushed_bytes, read_small}
 
 -- ---- numbers
 
@@ -100,21 +100,26 @@ module _ (m : State) (h : IsMachine m) where
   inside : (a : ℕ) → wrapped m.device a < words_of m.device
   inside a = devices_are_alike.inside m.device a
 
-  word : (n : ℕ) → wrapped m.device (m.pc + n) < 65536
-  word n = omega (arith, devices_are_alike.most m.device (m.pc + n))
-
   goes : (pc : ℕ) → IsEffect m.device (going_to m pc)
-  goes pc = record { pc = inside pc; registers = tt; sreg = h.sreg_byte; sp = h.sp_word; enables = h.enable_bits; stores = tt; pushes = tt }
+  goes pc = record { pc = inside pc; registers = tt; sreg = h.sreg_byte; sp = h.sp_fits; enables = h.enable_bits; stores = tt; pushes = tt }
 
   sets : (ws : List Write) (sreg : ℕ) → AreByteWrites ws → sreg < 256 → IsEffect m.device (setting m ws sreg)
-  sets ws sreg bytes small = record { pc = inside _; registers = bytes; sreg = small; sp = h.sp_word; enables = h.enable_bits; stores = tt; pushes = tt }
+  sets ws sreg bytes small = record { pc = inside _; registers = bytes; sreg = small; sp = h.sp_fits; enables = h.enable_bits; stores = tt; pushes = tt }
 
   stores_byte : (a b : ℕ) → b < 256 → IsEffect m.device (storing m a b)
-  stores_byte a b small = record { pc = inside _; registers = tt; sreg = h.sreg_byte; sp = h.sp_word; enables = h.enable_bits; stores = (small, tt); pushes = tt }
+  stores_byte a b small = record { pc = inside _; registers = tt; sreg = h.sreg_byte; sp = h.sp_fits; enables = h.enable_bits; stores = (small, tt); pushes = tt }
 
-  calls : (target back : ℕ) → back < 65536 → IsEffect m.device (calling m target back)
-  calls target back word =
-      record { pc = inside target; registers = tt; sreg = h.sreg_byte; sp = omega arith; enables = h.enable_bits; stores = tt; pushes = (omega arith, (omega arith, tt)) }
+  calls : (target back : ℕ) → IsEffect m.device (calling m target back)
+  calls target back =
+      record {
+        pc = inside target;
+        registers = tt;
+        sreg = h.sreg_byte;
+        sp = down_small m.device m.sp (back_of m.device);
+        enables = h.enable_bits;
+        stores = tt;
+        pushes = pushed_bytes m.device (back_of m.device) m.sp back;
+      }
 
   logic_fits : (op : Logic) (d a b : ℕ) → a < 256 → b < 256 → IsEffect m.device (logic_effect m op d a b)
   logic_fits op d a b small_a small_b =
@@ -174,30 +179,30 @@ module _ (m : State) (h : IsMachine m) where
     row_fits (i.Immediate op d n) sized = immediate_fits op d n sized
     row_fits (i.Ldd d b q) sized = sets _ _ (one_write d _ (read_small m still _ b1 h small1)) h.sreg_byte
     row_fits (i.Std b q r) sized = stores_byte _ _ (byte r)
-    row_fits (i.Lds d a) sized = record { pc = inside _; registers = (read_small m still a b1 h small1, tt); sreg = h.sreg_byte; sp = h.sp_word; enables = h.enable_bits; stores = tt; pushes = tt }
+    row_fits (i.Lds d a) sized = record { pc = inside _; registers = (read_small m still a b1 h small1, tt); sreg = h.sreg_byte; sp = h.sp_fits; enables = h.enable_bits; stores = tt; pushes = tt }
     row_fits (i.Ld d p) sized = sets _ _ (moved_and_one p _ d _ (read_small m still _ b1 h small1)) h.sreg_byte
     row_fits (i.LpmZ d) sized = sets _ _ (one_write d _ (flash_small words (pair m 30) b1 are small1)) h.sreg_byte
     row_fits (i.LpmZPlus d) sized = sets _ _ (and_one 30 (plus16 (pair m 30) 1) d _ (omega arith) (flash_small words (pair m 30) b1 are small1)) h.sreg_byte
     row_fits (i.ElpmZ d) sized = sets _ _ (one_write d _ small1) h.sreg_byte
     row_fits (i.ElpmZPlus d) sized = sets _ _ (and_one 30 (plus16 (pair m 30) 1) d _ (omega arith) small1) h.sreg_byte
     row_fits i.Elpm sized = sets _ _ (one_write 0 _ small1) h.sreg_byte
-    row_fits (i.Pop d) sized = record { pc = inside _; registers = (read_small m still _ b1 h small1, tt); sreg = h.sreg_byte; sp = omega arith; enables = h.enable_bits; stores = tt; pushes = tt }
-    row_fits (i.Sts a r) sized = record { pc = inside _; registers = tt; sreg = h.sreg_byte; sp = h.sp_word; enables = h.enable_bits; stores = (byte r, tt); pushes = tt }
-    row_fits (i.St p r) sized = record { pc = inside _; registers = moved_writes p _; sreg = h.sreg_byte; sp = h.sp_word; enables = h.enable_bits; stores = (byte r, tt); pushes = tt }
-    row_fits (i.Push r) sized = record { pc = inside _; registers = tt; sreg = h.sreg_byte; sp = omega arith; enables = h.enable_bits; stores = tt; pushes = (byte r, tt) }
+    row_fits (i.Pop d) sized = record { pc = inside _; registers = (read_small m still _ b1 h small1, tt); sreg = h.sreg_byte; sp = up_small m.device m.sp 1; enables = h.enable_bits; stores = tt; pushes = tt }
+    row_fits (i.Sts a r) sized = record { pc = inside _; registers = tt; sreg = h.sreg_byte; sp = h.sp_fits; enables = h.enable_bits; stores = (byte r, tt); pushes = tt }
+    row_fits (i.St p r) sized = record { pc = inside _; registers = moved_writes p _; sreg = h.sreg_byte; sp = h.sp_fits; enables = h.enable_bits; stores = (byte r, tt); pushes = tt }
+    row_fits (i.Push r) sized = record { pc = inside _; registers = tt; sreg = h.sreg_byte; sp = down_small m.device m.sp 1; enables = h.enable_bits; stores = tt; pushes = (byte r, tt) }
     row_fits (i.Unary op d) sized = unary_fits op d
-    row_fits (i.Bset n) sized = record { pc = inside _; registers = tt; sreg = with_bit_small m.sreg n true; sp = h.sp_word; enables = h.enable_bits; stores = tt; pushes = tt }
-    row_fits (i.Bclr n) sized = record { pc = inside _; registers = tt; sreg = with_bit_small m.sreg n false; sp = h.sp_word; enables = h.enable_bits; stores = tt; pushes = tt }
+    row_fits (i.Bset n) sized = record { pc = inside _; registers = tt; sreg = with_bit_small m.sreg n true; sp = h.sp_fits; enables = h.enable_bits; stores = tt; pushes = tt }
+    row_fits (i.Bclr n) sized = record { pc = inside _; registers = tt; sreg = with_bit_small m.sreg n false; sp = h.sp_fits; enables = h.enable_bits; stores = tt; pushes = tt }
     row_fits i.Ijmp sized = goes _
-    row_fits i.Icall sized = calls _ _ (word 1)
-    row_fits i.Ret sized = record { pc = inside _; registers = tt; sreg = h.sreg_byte; sp = omega arith; enables = h.enable_bits; stores = tt; pushes = tt }
-    row_fits i.Reti sized = record { pc = inside _; registers = tt; sreg = with_bit_small m.sreg 7 true; sp = omega arith; enables = h.enable_bits; stores = tt; pushes = tt }
+    row_fits i.Icall sized = calls _ _
+    row_fits i.Ret sized = record { pc = inside _; registers = tt; sreg = h.sreg_byte; sp = up_small m.device m.sp (back_of m.device); enables = h.enable_bits; stores = tt; pushes = tt }
+    row_fits i.Reti sized = record { pc = inside _; registers = tt; sreg = with_bit_small m.sreg 7 true; sp = up_small m.device m.sp (back_of m.device); enables = h.enable_bits; stores = tt; pushes = tt }
     row_fits i.Sleep sized = goes _
     row_fits i.Break sized = goes _
     row_fits i.Wdr sized = goes _
     row_fits i.Lpm sized = sets _ _ (one_write 0 _ (flash_small words (pair m 30) b1 are small1)) h.sreg_byte
     row_fits (i.Jmp t) sized = goes t
-    row_fits (i.Call t) sized = calls t _ (word 2)
+    row_fits (i.Call t) sized = calls t _
     row_fits (i.Adiw d n) sized = sets _ _ (pair_writes (2 * d) _ (wide_small true (pair m (2 * d)) n)) (wide_flags_small true (pair m (2 * d)) n m.sreg h.sreg_byte)
     row_fits (i.Sbiw d n) sized = sets _ _ (pair_writes (2 * d) _ (wide_small false (pair m (2 * d)) n)) (wide_flags_small false (pair m (2 * d)) n m.sreg h.sreg_byte)
     row_fits (i.Cbi a b) sized = stores_byte _ _ (with_bit_small _ b false)
@@ -205,9 +210,9 @@ module _ (m : State) (h : IsMachine m) where
     row_fits (i.Sbic a b) sized = goes _
     row_fits (i.Sbis a b) sized = goes _
     row_fits (i.In d a) sized = sets _ _ (one_write d _ (read_small m still _ b1 h small1)) h.sreg_byte
-    row_fits (i.Out a r) sized = record { pc = inside _; registers = tt; sreg = h.sreg_byte; sp = h.sp_word; enables = h.enable_bits; stores = (byte r, tt); pushes = tt }
+    row_fits (i.Out a r) sized = record { pc = inside _; registers = tt; sreg = h.sreg_byte; sp = h.sp_fits; enables = h.enable_bits; stores = (byte r, tt); pushes = tt }
     row_fits (i.Rjmp t) sized = goes _
-    row_fits (i.Rcall t) sized = calls _ _ (word 1)
+    row_fits (i.Rcall t) sized = calls _ _
     row_fits (i.Brbs n t) sized = branches (flag m.sreg n) t
     row_fits (i.Brbc n t) sized = branches (not (flag m.sreg n)) t
     row_fits (i.Bld d b) sized = sets _ _ (one_write d _ (with_bit_small _ b _)) h.sreg_byte

@@ -1,6 +1,6 @@
 -- Enable bits by keys that have what is enabled, and by keys that have what may be.
 use Rattle.std.proofs.Common.{◌≡◌, refl, sym, ◌∙◌, ap, subst, ℕ, zero, suc, ◌-◌, ◌^◌, ◌<◌, ◌≤◌, Bool, true, false, ◌&&◌, ◌||◌, nat_lt, nat_le, if◌then◌else◌, ◌==◌, List, [], ◌∷◌, Option, Some, None, arith, eqb-true, find, ⊎_elim}
-use Rattle.std.proofs.lemmas.Bool.{and_parts, cases_lt}
+use Rattle.std.proofs.lemmas.Bool.{and_parts, or_parts, cases_lt}
 use Rattle.std.proofs.lemmas.Bool.Decides.{nat_tests}
 use Rattle.std.proofs.lemmas.List.Elements.{All-head, All-tail}
 use Rattle.std.proofs.lemmas.Nat.Bits.{bit_at-lt}
@@ -12,9 +12,9 @@ use Rattle.avr_model.proofs.AllLaws.{devices_are_alike, places_are_apart}
 use Rattle.avr_model.specs.declared.device.Device.{Device}
 use Rattle.avr_model.specs.declared.rows.Place.{Place}
 use Rattle.avr_model.specs.Bits.{with_bit}
-use Rattle.avr_model.specs.Devices.{io_end}
+use Rattle.avr_model.specs.Devices.{io_end, has_sph}
 use Rattle.avr_model.specs.Sreg.{flag}
-use Rattle.avr_model.specs.State.{State, SPL, SPH, SREG, read}
+use Rattle.avr_model.specs.State.{State, SPL, SREG, is_sph, read}
 use Rattle.avr_model.specs.Step.{enables_taken}
 use Rattle.avr_model.specs.Vectors.{last_vector, enable_count, places, covers, is_bit, is_vector, is_core, is_enabled, held_of, has_enables, written_enables, io_bit, io_byte, kept_byte}
 use Rattle.vector_table.proofs.AllLaws.{enables_are_vectors, numbers_are_their_bits}
@@ -84,33 +84,42 @@ vector_small device v h =
 
 -- the address is no register, not the stack pointer, not the status register, and not in SRAM
 abbrev pub IsIo : Device → ℕ → Type 0
-IsIo device a = (nat_lt a 0x20 ≡ false) × (((a == SPL) ≡ false) × (((a == SPH) ≡ false) × (((a == SREG) ≡ false) × (nat_le a (io_end device) ≡ true))))
+IsIo device a = (nat_lt a 0x20 ≡ false) × (((a == SPL) ≡ false) × ((is_sph device a ≡ false) × (((a == SREG) ≡ false) × (nat_le a (io_end device) ≡ true))))
 
 -- a place is in I/O, at no core address, and its mask is a byte
 abbrev IsInIo : Device → Place → Type 0
-IsInIo device p = (is_vector device p.vector ≡ true) × ((is_core p.address ≡ false) × ((p.address ≤ io_end device) × (p.mask < 256)))
+IsInIo device p = (is_vector device p.vector ≡ true) × ((is_core device p.address ≡ false) × ((p.address ≤ io_end device) × (p.mask < 256)))
 
 -- no place of the list is at a core address, or behind I/O
-places_in : (device : Device) (ps : List Place) (a : ℕ) → All (IsInIo device) ps → list_any (λ (p : Place). p.address == a) ps ≡ true → (is_core a ≡ false) × (a ≤ io_end device)
+places_in : (device : Device) (ps : List Place) (a : ℕ) → All (IsInIo device) ps → list_any (λ (p : Place). p.address == a) ps ≡ true → (is_core device a ≡ false) × (a ≤ io_end device)
 places_in device [] a all h = absurd (cc)
 places_in device (p ∷ ps) a all h = by (p.address == a) refl (places_in device ps a (All-tail (IsInIo device) p ps all)) h
   where
-    by : (b : Bool) → (p.address == a) ≡ b → (list_any (λ (q : Place). q.address == a) ps ≡ true → (is_core a ≡ false) × (a ≤ io_end device))
-        → (b || list_any (λ (q : Place). q.address == a) ps) ≡ true → (is_core a ≡ false) × (a ≤ io_end device)
+    by : (b : Bool) → (p.address == a) ≡ b → (list_any (λ (q : Place). q.address == a) ps ≡ true → (is_core device a ≡ false) × (a ≤ io_end device))
+        → (b || list_any (λ (q : Place). q.address == a) ps) ≡ true → (is_core device a ≡ false) × (a ≤ io_end device)
     by true e rest found =
         let is : p.address ≡ a = eqb-true p.address a e in
         let here = All-head (IsInIo device) p ps all in
-        subst (λ (x : ℕ). (is_core x ≡ false) × (x ≤ io_end device)) is (here.1.0, here.1.1.0)
+        subst (λ (x : ℕ). (is_core device x ≡ false) × (x ≤ io_end device)) is (here.1.0, here.1.1.0)
     by false e rest found = rest found
 
-outside_core : (a : ℕ) → is_core a ≡ false → (nat_lt a 0x20 ≡ false) × (((a == SPL) ≡ false) × (((a == SPH) ≡ false) × ((a == SREG) ≡ false)))
-outside_core a h = (grind (arith, nat_tests), (grind (arith, nat_tests), (grind (arith, nat_tests), grind (arith, nat_tests))))
+swapped_and : (a b : Bool) → (a && b) ≡ false → (b && a) ≡ false
+swapped_and true b h = ap (λ x. x && true) h
+swapped_and false true h = refl
+swapped_and false false h = refl
+
+pub outside_core : (device : Device) (a : ℕ) → is_core device a ≡ false → (nat_lt a 0x20 ≡ false) × (((a == SPL) ≡ false) × ((is_sph device a ≡ false) × ((a == SREG) ≡ false)))
+outside_core device a h =
+    let one = or_parts (nat_lt a 0x20) _ h in
+    let two = or_parts (a == 0x5D) _ one.1 in
+    let three = or_parts (a == 0x5F) (has_sph device && (a == 0x5E)) two.1 in
+    (one.0, (two.0, (swapped_and (has_sph device) (a == 0x5E) three.1, three.0)))
 
 pub held_in_io : (device : Device) (a : ℕ) → has_enables device a ≡ true → IsIo device a
 unfolding has_enables
 held_in_io device a h =
     let here = places_in device (places device) a (places_are_apart.each device) h in
-    let outside = outside_core a here.0 in
+    let outside = outside_core device a here.0 in
     let inside : nat_le a (io_end device) ≡ true = grind (arith, nat_tests, here.1) in
     (outside.0, (outside.1.0, (outside.1.1.0, (outside.1.1.1, inside))))
 
@@ -137,13 +146,13 @@ first_by false x y e = absurd (cc)
 -- a read of such an address gives the byte of I/O
 pub io_read : (still : Bool) (m : State) (a input : ℕ) → IsIo m.device a → read still m a input ≡ io_byte m.device still m.enables a input
 unfolding read
-io_read still m a input h = fifth (nat_lt a 0x20) (a == SPL) (a == SPH) (a == SREG) _ _ _ _ _ h.0 h.1.0 h.1.1.0 h.1.1.1.0 ∙ first_by (nat_le a (io_end m.device)) _ _ h.1.1.1.1
+io_read still m a input h = fifth (nat_lt a 0x20) (a == SPL) (is_sph m.device a) (a == SREG) _ _ _ _ _ h.0 h.1.0 h.1.1.0 h.1.1.1.0 ∙ first_by (nat_le a (io_end m.device)) _ _ h.1.1.1.1
 
 -- a write of such an address goes to the enable bits
 pub io_written : (device : Device) (pc : ℕ) (k : NodeKey) (s : AbsState) (is_out : Bool) (a : ℕ) (v : AbsByte) → IsIo device a
     → written_at (write_at device pc k s v) is_out a ≡ masks_written device k s a v
 unfolding written_at
-io_written device pc k s is_out a v h = fifth (nat_lt a 0x20) (a == SPL) (a == SPH) (a == SREG) _ _ _ _ _ h.0 h.1.0 h.1.1.0 h.1.1.1.0
+io_written device pc k s is_out a v h = fifth (nat_lt a 0x20) (a == SPL) (is_sph device a) (a == SREG) _ _ _ _ _ h.0 h.1.0 h.1.1.0 h.1.1.1.0
 
 held_bit : (device : Device) (still : Bool) (enables a b v input : ℕ) → b < 8 → held_of device a b ≡ Some v → bit_at (io_byte device still enables a input) b ≡ bit_at enables (v - 2)
 unfolding io_byte

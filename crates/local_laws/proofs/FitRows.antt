@@ -39,6 +39,7 @@ use Rattle.local_rules.specs.Raw.{enters, fails, next, at_word, further, leaves_
 use Rattle.local_rules.specs.declared.local.NodeFault.TheVariants.{UnresolvedJump}
 use Rattle.local_rules.specs.Registers.{before, bits, value}
 use Rattle.local_rules.specs.FrameLines.{binary_at}
+use Rattle.local_rules.specs.HighBytes.{view_by}
 use Rattle.local_rules.specs.Reads.{read_at, pointed, read_pointed}
 use Rattle.local_rules.specs.Flow.{reading_zero, flag_at, words_on, targets_by, targets_at, is_half_written, site, calling, indirect_call, relative_call, at_closed, returning, ret_exit, reti_exit, pushing, popping, making_room}
 use Rattle.local_rules.specs.Local.{step_before, pointer_moved, row_of, row_at, row_by, paired_row, paired_binary, refining, storing, row_in, is_hung, fetched, picks, split_site, splitting, raw}
@@ -140,7 +141,7 @@ module _ (device : Device) (task : Task) (k : NodeKey) (s : AbsState) where
   row_fits scratch (i.Fmuls d r) fits = quiet_fits task.assumptions k _ (refl, refl)
   row_fits scratch (i.Fmulsu d r) fits = quiet_fits task.assumptions k _ (refl, refl)
   row_fits scratch (i.Binary op d r) fits =
-      quiet_fits task.assumptions k _ (going_by_quiet device k s (binary_at (is_frame task.assumptions k.pc) s op d r) _ (skipping_quiet device task.flash k k s (byte_equal (bits s d) (bits s r))))
+      quiet_fits task.assumptions k _ (going_by_quiet device k s (binary_at (view_by device k) (is_frame task.assumptions k.pc) s op d r) _ (skipping_quiet device task.flash k k s (byte_equal (bits s d) (bits s r))))
   row_fits scratch (i.Immediate op d n) fits = quiet_fits task.assumptions k _ (refl, refl)
   row_fits scratch (i.Unary op d) fits = quiet_fits task.assumptions k _ (refl, refl)
   row_fits scratch (i.Adiw d n) fits = quiet_fits task.assumptions k _ (refl, refl)
@@ -149,16 +150,16 @@ module _ (device : Device) (task : Task) (k : NodeKey) (s : AbsState) where
   row_fits scratch (i.Bclr n) fits = quiet_fits task.assumptions k _ (flag_quiet device k s n false)
   row_fits scratch (i.Bld d b) fits = quiet_fits task.assumptions k _ (refl, refl)
   row_fits scratch (i.Bst d b) fits = quiet_fits task.assumptions k _ (refl, refl)
-  row_fits scratch (i.Ldd d b q) fits = quiet_fits task.assumptions k _ (loading_quiet device k s s.registers d (read_pointed device (reads_masks device task.assumptions) k s (pointed s (base_register b) q)))
+  row_fits scratch (i.Ldd d b q) fits = quiet_fits task.assumptions k _ (loading_quiet device k s s.registers d (read_pointed device (reads_masks device task.assumptions) k s (pointed (view_by device k) s (base_register b) q)))
   row_fits scratch (i.Std b q r) fits =
       quiet_fits task.assumptions k _ (pointer_quiet device task s (base_register b) q k.pc (next device k) s (value s r))
   row_fits scratch (i.Lds d a) fits = quiet_fits task.assumptions k _ (refl, refl)
   row_fits scratch (i.Sts a r) fits = quiet_fits task.assumptions k _ (written_quiet device k.pc (at_word k (further device k 2)) s false a (value s r))
   row_fits scratch (i.Ld d p) fits =
-      quiet_fits task.assumptions k _ (loading_quiet device k s (pointer_moved p s) d (read_pointed device (reads_masks device task.assumptions) k s (pointed s (pointer_register p) (step_before p))))
+      quiet_fits task.assumptions k _ (loading_quiet device k s (pointer_moved (view_by device k) p s) d (read_pointed device (reads_masks device task.assumptions) k s (pointed (view_by device k) s (pointer_register p) (step_before p))))
   row_fits scratch (i.St p r) fits =
       quiet_fits task.assumptions k _ (pointer_quiet device task s (pointer_register p) (step_before p) k.pc (next device k)
-      (record s { registers = pointer_moved p s }) (value s r))
+      (record s { registers = pointer_moved (view_by device k) p s }) (value s r))
   row_fits scratch (i.LpmZ d) fits = quiet_fits task.assumptions k _ (refl, refl)
   row_fits scratch (i.ElpmZ d) fits = quiet_fits task.assumptions k _ (refl, refl)
   row_fits scratch (i.LpmZPlus d) fits = quiet_fits task.assumptions k _ (refl, refl)

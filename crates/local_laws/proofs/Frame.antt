@@ -107,7 +107,7 @@ module _ {may : Bool} (m : State) (o : Origin) (k : NodeKey) (s : AbsState) (at 
 
   -- A successor with the same stack pointer and slots, of an effect that pushes nothing.
   pub frame_kept : (told : Option PairFacts) (guarded : Bool) (e : Effect) (to : Node) → e.pushes ≡ [] → to.key.sp ≡ k.sp → to.state.slots ≡ s.slots
-      → sp_after e.sp e.stores ≡ m.sp → open_after e.is_open e.stores ≡ m.is_open
+      → sp_after m.device e.sp e.stores ≡ m.sp → open_after m.device e.is_open e.stores ≡ m.is_open
       → e.pc ≡ to.key.pc → EnablesAre may (enables_after m.device e.enables e.stores) to.key.masks → flag (sreg_after e.sreg e.stores) 7 ≡ to.key.i → e.delay ≡ to.key.delay
       → RegistersStand o to.state.registers (registers_after (with_registers m.registers e.registers) e.stores)
       → FlagsStand o to.state.flags (sreg_after e.sreg e.stores)
@@ -127,16 +127,16 @@ module _ {may : Bool} (m : State) (o : Origin) (k : NodeKey) (s : AbsState) (at 
         };
       }
     where
-      place : SpIs o.base (open_after e.is_open e.stores) (sp_after e.sp e.stores) to.key.sp
+      place : SpIs o.base (open_after m.device e.is_open e.stores) (sp_after m.device e.sp e.stores) to.key.sp
       place =
-          subst (λ form. SpIs o.base (open_after e.is_open e.stores) (sp_after e.sp e.stores) form) (sym sp)
+          subst (λ form. SpIs o.base (open_after m.device e.is_open e.stores) (sp_after m.device e.sp e.stores) form) (sym sp)
           (subst₂ (λ is_open pointer. SpIs o.base is_open pointer k.sp) (sym open_is) (sym sp_is) at.place.sp)
 
       floor : floor_of (after m guarded e).is_open (after m guarded e).sp ≡ floor_of m.is_open m.sp
       floor = ap₂ floor_of open_is sp_is
 
   pub same_frame : (guarded : Bool) (e : Effect) (to : Node) → e.pushes ≡ [] → to.key.sp ≡ k.sp → to.state.slots ≡ s.slots
-      → sp_after e.sp e.stores ≡ m.sp → open_after e.is_open e.stores ≡ m.is_open
+      → sp_after m.device e.sp e.stores ≡ m.sp → open_after m.device e.is_open e.stores ≡ m.is_open
       → e.pc ≡ to.key.pc → EnablesAre may (enables_after m.device e.enables e.stores) to.key.masks → flag (sreg_after e.sreg e.stores) 7 ≡ to.key.i → e.delay ≡ to.key.delay
       → RegistersStand o to.state.registers (registers_after (with_registers m.registers e.registers) e.stores)
       → FlagsStand o to.state.flags (sreg_after e.sreg e.stores)

@@ -7,16 +7,19 @@ use Rattle.avr_model.specs.Effects.{carry, sum_effect, difference_effect, step_e
 use Rattle.bit_domain.specs.declared.bits.Tri.TheVariants.{Zero}
 use Rattle.bit_domain.specs.declared.bytes.TriByte.{TriByte}
 use Rattle.bit_domain.specs.TriByte.{Has, byte_constant}
+use Rattle.sp_domain.specs.declared.tags.Tag.{Tag}
 use Rattle.sp_domain.specs.declared.tags.CarryTag.TheVariants as carry_tag
 use Rattle.sp_domain.specs.Tags.{Origin, TagHolds, CarryHolds, high_moved}
 use Rattle.sp_domain.proofs.AllLaws.{sums_are_true}
 use Rattle.abs_state.specs.declared.state.AbsState.{AbsState}
 use Rattle.mask_states.specs.declared.keys.NodeKey.{NodeKey}
 use Rattle.local_rules.specs.Registers.{value, bits, carry_bit, borrow_tag, going_with}
-use Rattle.local_rules.specs.FrameLines.{is_second, more_tag, sum_tag, high_more_tag, less_tag, tag_followed, number_added, framed_add, framed_adc, framed_sub, framed_step}
+use Rattle.local_rules.specs.HighBytes.{view_by, carry_number, seen_high}
+use Rattle.local_rules.specs.FrameLines.{is_second, followed, more_tag, sum_tag, high_more_tag, less_tag, tag_followed, number_added, framed_add, framed_adc, framed_sub, framed_step}
 use Rattle.local_laws.proofs.Bare.{InBareFrame}
 use Rattle.local_laws.proofs.Landing.{FollowsWhere}
 use Rattle.local_laws.proofs.Bits.{constant_is}
+use Rattle.local_laws.proofs.HighBytes.{seen_stands}
 use Rattle.local_laws.proofs.Frame.{register_stands}
 use Rattle.local_laws.proofs.Alu.{register_byte, register_bits, carry_may, no_carry, borrow_holds, sum_tagged_covered, difference_covered, step_tagged_covered}
 use Rattle.local_laws.proofs.Less.{Spares, borrow_names_none, sum_names_none}
@@ -52,13 +55,17 @@ module _ {may : Bool} (m : State) (o : Origin) (k : NodeKey) (s : AbsState) (at 
       subst (λ n. CarryHolds o (sum_tag (value s f).tag (Some n)) (nat_le 256 (sum_of (register m f) y false))) (is l refl)
       (sums_are_true.carry o (value s f).tag (register m f) y (register_byte m o k s at f) small (register_stands m o k s at f).tag)
 
+  -- what is read of a register beside the low byte that C is of
+  abbrev carried : ℕ → Tag
+  carried f = seen_high (view_by m.device k) (carry_number s.flags.carry) (value s f)
+
   high_holds : (f y : ℕ) (number : Option ℕ) → y < 256 → ((l : ℕ) → number ≡ Some l → y ≡ l)
-      → TagHolds o (high_more_tag (value s f).tag number s.flags.carry) (sum_of (register m f) y (carry m) % 256)
+      → TagHolds o (high_more_tag (carried f) number s.flags.carry) (sum_of (register m f) y (carry m) % 256)
   high_holds f y None small is = tt
   high_holds f y (Some l) small is =
-      subst (λ n. TagHolds o (high_more_tag (value s f).tag (Some n) s.flags.carry) (sum_of (register m f) y (carry m) % 256)) (is l refl)
-      (sums_are_true.high o (value s f).tag (register m f) y s.flags.carry (carry m) (register_byte m o k s at f) small at.node.carry_bytes
-      (register_stands m o k s at f).tag at.stands.flags.carry)
+      subst (λ n. TagHolds o (high_more_tag (carried f) (Some n) s.flags.carry) (sum_of (register m f) y (carry m) % 256)) (is l refl)
+      (sums_are_true.high o (carried f) (register m f) y s.flags.carry (carry m) (register_byte m o k s at f) small at.node.carry_bytes
+      (seen_stands m o k s at (carry_number s.flags.carry) f) at.stands.flags.carry)
 
   less_holds : (d y : ℕ) (number : Option ℕ) → y < 256 → ((l : ℕ) → number ≡ Some l → y ≡ l)
       → TagHolds o (less_tag (value s d).tag number) (difference_of (register m d) y false)
@@ -92,10 +99,10 @@ module _ {may : Bool} (m : State) (o : Origin) (k : NodeKey) (s : AbsState) (at 
       (sum_holds r (register m d) (byte_constant (bits s d)) (register_byte m o k s at d) (register_number d))
 
   high_by : (second : Bool) (d r : ℕ)
-      → TagHolds o (high_more_tag (value s (if second then r else d)).tag (byte_constant (bits s (if second then d else r))) s.flags.carry) (sum_of (register m d) (register m r) (carry m) % 256)
+      → TagHolds o (high_more_tag (carried (if second then r else d)) (byte_constant (bits s (if second then d else r))) s.flags.carry) (sum_of (register m d) (register m r) (carry m) % 256)
   high_by false d r = high_holds d (register m r) (byte_constant (bits s r)) (register_byte m o k s at r) (register_number r)
   high_by true d r =
-      subst (λ n. TagHolds o (high_more_tag (value s r).tag (byte_constant (bits s d)) s.flags.carry) (n % 256)) (turned (register m d) (register m r) (carry m))
+      subst (λ n. TagHolds o (high_more_tag (carried r) (byte_constant (bits s d)) s.flags.carry) (n % 256)) (turned (register m d) (register m r) (carry m))
       (high_holds r (register m d) (byte_constant (bits s d)) (register_byte m o k s at d) (register_number d))
 
   -- ---- rows
@@ -108,10 +115,10 @@ module _ {may : Bool} (m : State) (o : Origin) (k : NodeKey) (s : AbsState) (at 
         (register_byte m o k s at r) (register_bits m o k s at r) refl (more_by (is_second d r) d r) (sum_by (is_second d r) d r)
         (sum_names_none (tag_followed s d r) (number_added s d r))
 
-    pub framed_adc_covered : (d r : ℕ) → FollowsWhere may m o s.facts k guarded b1 b2 (sum_effect m d (register m d) (register m r) (carry m)) (going_with (site_at m.device k s) (framed_adc s d r))
+    pub framed_adc_covered : (d r : ℕ) → FollowsWhere may m o s.facts k guarded b1 b2 (sum_effect m d (register m d) (register m r) (carry m)) (going_with (site_at m.device k s) (framed_adc (view_by m.device k) s d r))
     framed_adc_covered d r =
         sum_tagged_covered m o k s at guarded b1 b2 d (register m r) (bits s r) (carry m) (carry_bit s)
-        (high_more_tag (tag_followed s d r) (number_added s d r) s.flags.carry) carry_tag.None
+        (high_more_tag (carried (followed d r)) (number_added s d r) s.flags.carry) carry_tag.None
         (register_byte m o k s at r) (register_bits m o k s at r) (carry_may m o k s at guarded b1 b2) (high_by (is_second d r) d r) tt tt
 
     pub framed_sub_covered : (d y : ℕ) (b : TriByte) (number : Option ℕ) → y < 256 → Has b y → ((l : ℕ) → number ≡ Some l → y ≡ l)

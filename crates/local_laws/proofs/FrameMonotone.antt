@@ -10,6 +10,7 @@ use Rattle.avr_model.specs.declared.instruction.UnaryOp.TheVariants as unary
 use Rattle.bit_domain.specs.declared.bits.Tri.TheVariants.{Zero}
 use Rattle.bit_domain.specs.declared.bytes.TriByte.{TriByte}
 use Rattle.bit_domain.specs.TriByte.{IsWithin, byte_known}
+use Rattle.sp_domain.specs.declared.tags.Tag.{Tag}
 use Rattle.sp_domain.specs.declared.tags.CarryTag.TheVariants as carry
 use Rattle.sp_domain.specs.Tags.{high_moved}
 use Rattle.sp_domain.proofs.AllLaws.{tag_arithmetic_is_monotone}
@@ -18,9 +19,11 @@ use Rattle.mask_states.specs.declared.keys.NodeKey.{NodeKey}
 use Rattle.mask_states.specs.declared.keys.Kind.{Kind}
 use Rattle.mask_states.specs.Keys.{offset_of}
 use Rattle.local_rules.specs.Registers.{value, bits, carry_bit, borrow_tag, going_with}
+use Rattle.local_rules.specs.HighBytes.{view_by, carry_number, seen_high}
 use Rattle.local_rules.specs.FrameLines.{followed, added, more_tag, sum_tag, high_more_tag, less_tag, tag_followed, number_added, framed_add, framed_adc, framed_sub, framed_step}
 use Rattle.local_rules.specs.Local.{immediate_row, unary_row}
 use Rattle.local_laws.proofs.MonotoneValues.{IsStateLess, IsSameWhere, any_bit_within, constant_is, constant_tells}
+use Rattle.local_laws.proofs.MonotoneHigh.{carried_less, carried_of}
 use Rattle.local_laws.proofs.MonotoneRaw.{LeadsLess}
 use Rattle.local_laws.proofs.MonotoneAlu.{reg, reg_bits, flag_bits, borrow_bytes, no_borrow, borrow_names, borrow_within, number_tells, number_small, sum_tagged_less, difference_less, step_tagged_less, immediate_less, unary_less}
 use Rattle.local_laws.proofs.FrameTags.{high_moved_of, more_of, less_of, high_of_sum, sum_bytes, no_sum, sum_names, more_within, less_within, sum_within, high_within}
@@ -47,14 +50,15 @@ module _ (device : Device) (k : NodeKey) (at : IsKey device k) (s t : AbsState) 
       (sum_names (tag_followed s d r) (number_added s d r)) (λ root. no_sum (tag_followed s d r) (number_added s d r) (v.good.none root))
       (sum_within (tag_followed s d r) (tag_followed t d r) (number_added s d r) (number_added t d r) v.within.tag tells)
 
-  pub adc_less : (d r : ℕ) → LeadsLess device k.inst (going_with (site_at device k s) (framed_adc s d r)) (going_with (site_at device k t) (framed_adc t d r))
+  pub adc_less : (d r : ℕ) → LeadsLess device k.inst (going_with (site_at device k s) (framed_adc (view_by device k) s d r)) (going_with (site_at device k t) (framed_adc (view_by device k) t d r))
   adc_less d r =
-      let v = reg device k at s t le (followed d r) in
+      let x : Tag = seen_high (view_by device k) (carry_number s.flags.carry) (value s (followed d r)) in
+      let y : Tag = seen_high (view_by device k) (carry_number t.flags.carry) (value t (followed d r)) in
       sum_tagged_less device k at s t le d (bits s r) (bits t r) (carry_bit s) (carry_bit t)
-      (high_more_tag (tag_followed s d r) (number_added s d r) s.flags.carry) (high_more_tag (tag_followed t d r) (number_added t d r) t.flags.carry)
+      (high_more_tag x (number_added s d r) s.flags.carry) (high_more_tag y (number_added t d r) t.flags.carry)
       carry.None carry.None (reg_bits device k at s t le r) (any_bit_within s.flags.bits t.flags.bits 0 (flag_bits device k at s t le))
-      (high_of_sum kind (tag_followed s d r) (number_added s d r) s.flags.carry v.good)
-      (high_within (tag_followed s d r) (tag_followed t d r) (number_added s d r) (number_added t d r) s.flags.carry t.flags.carry v.within.tag (added_tells d r) le.flags.within.carry)
+      (high_of_sum kind x (number_added s d r) s.flags.carry (carried_of device k s t le (followed d r)))
+      (high_within x y (number_added s d r) (number_added t d r) s.flags.carry t.flags.carry (carried_less device k s t le (followed d r)) (added_tells d r) le.flags.within.carry)
       tt tt (λ root. tt) tt
 
   pub framed_sub_less : (d : ℕ) (b b' : TriByte) (f g : Option ℕ) → IsWithin b b' → IsSameWhere f g → ((n : ℕ) → f ≡ Some n → n < 256)

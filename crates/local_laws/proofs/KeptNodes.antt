@@ -9,7 +9,7 @@ use Rattle.avr_model.specs.Devices.{size_of}
 use Rattle.avr_model.specs.declared.device.Device.{Device}
 use Rattle.avr_model.specs.declared.assumption.Entry.{Entry}
 use Rattle.avr_model.specs.Assumptions.{is_fixed_site, store_line}
-use Rattle.avr_model.specs.State.{SPL, SPH, SREG}
+use Rattle.avr_model.specs.State.{SPL, SREG, is_sph}
 use Rattle.avr_model.specs.Written.{written}
 use Rattle.bit_domain.specs.declared.bits.Tri.{Tri}
 use Rattle.bit_domain.specs.declared.bits.Tri.TheVariants.{Zero, One, Any}
@@ -41,6 +41,7 @@ use Rattle.local_laws.proofs.Members.{each_of, each_in_map}
 use Rattle.local_laws.proofs.MonotoneValues.{set_other}
 use Rattle.local_rules.specs.Site.{Task}
 use Rattle.local_rules.specs.Writes.{write_at}
+use Rattle.local_rules.specs.HighBytes.{view_by}
 use Rattle.local_rules.specs.Reads.{pointed}
 
 -- it follows pairs as `followed` says, and its intervals lie in their hulls
@@ -181,7 +182,7 @@ module _ (followed : Bool) where
   kept_written device pc k s is_out a v sixteen h =
       kept_if (nat_lt a 0x20) _ _ (λ e. kept_one k (register_written s a v) (register_kept s a v (ltb-true a 0x20 e) sixteen h)) (λ e.
       kept_if (a == SPL) _ _ (λ e. kept_closing device (closing_offset device k.inst.kind k.sp v) k s pc h) (λ e.
-      kept_if (a == SPH) _ _ (λ e. kept_opening (high_part k.inst.kind v) k s pc h) (λ e.
+      kept_if (is_sph device a) _ _ (λ e. kept_opening (high_part k.inst.kind v) k s pc h) (λ e.
       kept_if (a == SREG) _ _ (λ e. kept_sreg (tri_at v.bits 7) k (put_flags s (flags_written v)) is_out (flags_kept s (flags_written v) h)) (λ e.
       each_in_map (λ m. record { key = record k { masks = m }; state = s }) (λ (n : Node). IsModeKept followed n.state) (splits device k.masks a v.bits) (λ m j. h)))))
 
@@ -196,7 +197,7 @@ module _ (followed : Bool) where
   pub kept_pointer : (device : Device) (task : Task) (was : AbsState) (r up : ℕ) (pc : ℕ) (k : NodeKey) (s : AbsState) (v : AbsByte)
       → HasSixteen s.facts → IsModeKept followed s → AllKept (pointer_write task was r up (write_at device pc k s v))
   kept_pointer device task was r up pc k s v sixteen h =
-      kept_if (is_fixed_site task.flash task.assumptions pc) _ _ (λ e. kept_fixed device (pointed was r up).constant pc k s v sixteen h) (λ e. kept_waking (may_wake task.assumptions was r up (write_at device pc k s v)) device task.assumptions k s _ h (λ to j.
+      kept_if (is_fixed_site task.flash task.assumptions pc) _ _ (λ e. kept_fixed device (pointed (view_by device k) was r up).constant pc k s v sixteen h) (λ e. kept_waking (may_wake task.assumptions was r up (write_at device pc k s v)) device task.assumptions k s _ h (λ to j.
       ⊎_elim (kept_one k s h to) (kept_all (λ a. written_at (write_at device pc k s v) false a) (filter (λ a. reaches was r up a) (store_line task.assumptions pc)) (λ a. kept_written device pc k s false a v sixteen h) to)
       (Contains-append_cases (one k s).moves (all_of (map (λ a. written_at (write_at device pc k s v) false a) (filter (λ a. reaches was r up a) (store_line task.assumptions pc)))).moves to j)))
 

@@ -42,6 +42,7 @@ use Rattle.local_rules.specs.Raw.{Raw, fails, all_of, at_word, next, further, un
 use Rattle.local_rules.specs.Registers.{value, before, forgetting, going_by, binary_after}
 use Rattle.local_rules.specs.FrameLines.{framed_binary, is_followed as is_followed_by}
 use Rattle.local_rules.specs.Flow.{going_where, flag_at, skipping}
+use Rattle.local_rules.specs.HighBytes.{view_by}
 use Rattle.local_rules.specs.Local.{step_before, pointer_moved, plain_row, paired_row, row_by, row_at, row_in, refining, storing, is_hung, fetched, below, picks, picking, picked_row, split_site, splitting, raw}
 use Rattle.local_rules.specs.Permitted.{may_be}
 use Rattle.local_rules.specs.Cover.{IsNodeIn}
@@ -78,7 +79,7 @@ module _ (device : Device) (task : Task) (scratch : Bool) (k : NodeKey) (s : Abs
   refined_none instr is to j = none_kept to.state ((row_leaves device task scratch k (before instr s) instr is to j).facts ∙ none_before instr)
 
   -- `cpse` computes no result, with or without a line
-  cpse_kept : (framed : Bool) (d r : ℕ) → AllKept false (going_by (site_at device k (before (i.Binary binary.Cpse d r) s)) (if framed then framed_binary (before (i.Binary binary.Cpse d r) s) binary.Cpse d r else binary_after (before (i.Binary binary.Cpse d r) s) binary.Cpse d r) (skipping task.flash (site_at device k (before (i.Binary binary.Cpse d r) s)) k k (byte_equal (value_at s.registers d).bits (value_at s.registers r).bits)))
+  cpse_kept : (framed : Bool) (d r : ℕ) → AllKept false (going_by (site_at device k (before (i.Binary binary.Cpse d r) s)) (if framed then framed_binary (view_by device k) (before (i.Binary binary.Cpse d r) s) binary.Cpse d r else binary_after (view_by device k) (before (i.Binary binary.Cpse d r) s) binary.Cpse d r) (skipping task.flash (site_at device k (before (i.Binary binary.Cpse d r) s)) k k (byte_equal (value_at s.registers d).bits (value_at s.registers r).bits)))
   cpse_kept true d r = kept_branch false (byte_equal (value_at s.registers d).bits (value_at s.registers r).bits) k (before (i.Binary binary.Cpse d r) s) _ _ (kept_before (i.Binary binary.Cpse d r))
   cpse_kept false d r = kept_branch false (byte_equal (value_at s.registers d).bits (value_at s.registers r).bits) k (before (i.Binary binary.Cpse d r) s) _ _ (kept_before (i.Binary binary.Cpse d r))
 
@@ -97,8 +98,8 @@ module _ (device : Device) (task : Task) (scratch : Bool) (k : NodeKey) (s : Abs
   plain_kept (i.Binary binary.Mul d r) = refined_none (i.Binary binary.Mul d r) tt
   plain_kept (i.Std b q r) = kept_pointer false device task (before (i.Std b q r) s) (base_register b) q k.pc (next device k) (before (i.Std b q r) s) (value s r) (sixteen (i.Std b q r)) (kept_before (i.Std b q r))
   plain_kept (i.St p r) =
-      kept_pointer false device task (before (i.St p r) s) (pointer_register p) (step_before p) k.pc (next device k) (record (before (i.St p r) s) { registers = pointer_moved p (before (i.St p r) s) }) (value s r)
-      (sixteen (i.St p r)) (none_kept (record (before (i.St p r) s) { registers = pointer_moved p (before (i.St p r) s) }) (none_before (i.St p r)))
+      kept_pointer false device task (before (i.St p r) s) (pointer_register p) (step_before p) k.pc (next device k) (record (before (i.St p r) s) { registers = pointer_moved (view_by device k) p (before (i.St p r) s) }) (value s r)
+      (sixteen (i.St p r)) (none_kept (record (before (i.St p r) s) { registers = pointer_moved (view_by device k) p (before (i.St p r) s) }) (none_before (i.St p r)))
   plain_kept (i.Sts a r) = kept_written false device k.pc (at_word k (further device k 2)) (before (i.Sts a r) s) false a (value s r) (sixteen (i.Sts a r)) (kept_before (i.Sts a r))
   plain_kept (i.Out a r) = kept_written false device k.pc (next device k) (before (i.Out a r) s) true (port a) (value s r) (sixteen (i.Out a r)) (kept_before (i.Out a r))
   plain_kept (i.Cbi a b) = kept_written false device k.pc (next device k) (before (i.Cbi a b) s) false (port a) _ (sixteen (i.Cbi a b)) (kept_before (i.Cbi a b))
@@ -180,13 +181,13 @@ module _ (device : Device) (task : Task) (scratch : Bool) (k : NodeKey) (s : Abs
 
   -- ---- a store through a pointer
 
-  moved_kept : (p : Pointer) (r : ℕ) (x : Option AbsState) → refined (marks task.flash) task.flash (i.St p r) s (record (before (i.St p r) s) { registers = pointer_moved p s }) ≡ x
+  moved_kept : (p : Pointer) (r : ℕ) (x : Option AbsState) → refined (marks task.flash) task.flash (i.St p r) s (record (before (i.St p r) s) { registers = pointer_moved (view_by device k) p s }) ≡ x
       → AllKept true (storing task (site_at device k s) p r x)
   moved_kept p r None e = kept_none true
   moved_kept p r (Some u) e =
-      let t : AbsState = record (before (i.St p r) s) { registers = pointer_moved p s } in
+      let t : AbsState = record (before (i.St p r) s) { registers = pointer_moved (view_by device k) p s } in
       let formed : IsFormed t (offset_of k.sp) = (moved_bare device task k s s low low (states_are_ordered.same s) h.hulls f f known known p r s low).formed in
-      let kept = refined_kept (i.St p r) (offset_of k.sp) t u tt formed (record { facts = refl; value = tt }) (λ q lt other. ap set_of (pointer_set p s q other)) e in
+      let kept = refined_kept (i.St p r) (offset_of k.sp) t u tt formed (record { facts = refl; value = tt }) (λ q lt other. ap set_of (pointer_set (view_by device k) p s q other)) e in
       let left = refined_is_ordered.formed (marks task.flash) task.flash (i.St p r) (offset_of k.sp) (offset_of k.sp) s t u tt h.formed formed e in
       kept_pointer true device task s (pointer_register p) (step_before p) k.pc (next device k) u (value s r)
       (known_is_ordered.count u.facts left.facts) kept

@@ -5,6 +5,7 @@ pub mod Less
 pub mod Landing
 pub mod Frame
 pub mod Memory
+pub mod HighBytes
 pub mod Alu
 pub mod FlagRows
 pub mod Sized
@@ -30,6 +31,7 @@ pub mod Steps
 pub mod Members
 pub mod Joined
 pub mod MonotoneValues
+pub mod MonotoneHigh
 pub mod MonotonePermits
 pub mod MonotoneRaw
 pub mod MonotoneAlu

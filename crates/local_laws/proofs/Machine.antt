@@ -1,14 +1,15 @@
 -- Every step leaves a state of the machine: equally many registers and bytes, all in range.
-use Rattle.std.proofs.Common.{◌≡◌, ◌∙◌, ℕ, ◌+◌, ◌-◌, ◌*◌, ◌^◌, ◌<◌, ◌==◌, ◌&&◌, Bool, true, false, nat_lt, nat_le, if◌then◌else◌, List, [], ◌∷◌, length, Option, Some, None, slice_set, arith, length-set}
+use Rattle.std.proofs.Common.{◌≡◌, ◌∙◌, ℕ, zero, suc, ◌+◌, ◌%◌, ◌-◌, ◌*◌, ◌^◌, ◌<◌, ◌==◌, ◌&&◌, Bool, true, false, nat_lt, nat_le, if◌then◌else◌, List, [], ◌∷◌, length, Option, Some, None, slice_set, arith, length-set}
 use Rattle.std.specs.Int.{bit_at}
 use Rattle.std.specs.List.{All}
 use Rattle.std.proofs.lemmas.Nat.Bits.{bit_at-lt}
 use Rattle.std.proofs.lemmas.List.Elements.{All-set}
-use Rattle.avr_model.specs.Devices.{words_of, io_end, size_of}
+use Rattle.avr_model.specs.Devices.{words_of, io_end, size_of, has_sph, sp_count}
 use Rattle.avr_model.specs.declared.device.Device.{Device}
 use Rattle.avr_model.specs.declared.effect.Write.{Write}
 use Rattle.avr_model.specs.declared.effect.Effect.{Effect}
-use Rattle.avr_model.specs.State.{State, SPL, SPH, SREG, sram_at, is_sram, byte_in, read, low, high}
+use Rattle.avr_model.specs.State.{State, SPL, SPH, SREG, is_sph, sram_at, is_sram, byte_in, read, low, high, plus_sp, minus_sp}
+use Rattle.avr_model.specs.Effects.{back_bytes, pushed_from}
 use Rattle.avr_model.specs.Step.{with_registers, registers_after, sreg_after, sp_after, open_after, enables_after, after}
 use Rattle.avr_model.specs.Vectors.{enable_count, is_ivsel, io_bit, io_byte}
 use Rattle.vector_table.proofs.AllLaws.{numbers_are_their_bits, enables_are_vectors}
@@ -21,7 +22,7 @@ pub record IsEffect (device : Device) (e : Effect) : Type 0 where
   pub pc : e.pc < words_of device
   pub registers : AreByteWrites e.registers
   pub sreg : e.sreg < 256
-  pub sp : e.sp < 65536
+  pub sp : e.sp < sp_count device
   pub enables : e.enables < 2 ^ enable_count device
   pub stores : AreByteWrites e.stores
   pub pushes : AreByteWrites e.pushes
@@ -56,12 +57,41 @@ sreg_stays : (ws : List Write) (sreg : ℕ) → AreByteWrites ws → sreg < 256 
 sreg_stays [] sreg small h = h
 sreg_stays (w ∷ ws) sreg small h = sreg_stays ws _ small.1 (chosen (w.address == SREG) 256 w.byte sreg small.0 h)
 
-sp_stays : (ws : List Write) (sp : ℕ) → AreByteWrites ws → sp < 65536 → sp_after sp ws < 65536
-sp_stays [] sp small h = h
-sp_stays (w ∷ ws) sp small h =
-    let byte = small.0 in
-    sp_stays ws _ small.1
-    (chosen (w.address == SPL) 65536 (256 * high sp + w.byte) _ (omega arith) (chosen (w.address == SPH) 65536 (256 * w.byte + low sp) sp (omega arith) h))
+-- how many numbers a stack pointer holds, with a high byte or without
+abbrev counted : Bool → ℕ
+counted has_high = if has_high then 65536 else 256
+
+up_by : (has_high : Bool) (a k : ℕ) → (a + k) % counted has_high < counted has_high
+up_by true a k = omega arith
+up_by false a k = omega arith
+
+pub up_small : (device : Device) (a k : ℕ) → plus_sp device a k < sp_count device
+up_small device a k = up_by (has_sph device) a k
+
+pub down_small : (device : Device) (a k : ℕ) → minus_sp device a k < sp_count device
+down_small device a k = up_by (has_sph device) a (sp_count device - k % sp_count device)
+
+-- pushes of a word's bytes
+pub pushed_bytes : (device : Device) (n sp word : ℕ) → AreByteWrites (pushed_from device sp (back_bytes n word))
+pushed_bytes device zero sp word = tt
+pushed_bytes device (suc n) sp word = (omega arith, pushed_bytes device n (minus_sp device sp 1) (high word))
+
+low_stays : (has_high : Bool) (sp byte : ℕ) → sp < counted has_high → byte < 256 → 256 * high sp + byte < counted has_high
+low_stays true sp byte h small = omega arith
+low_stays false sp byte h small = omega arith
+
+high_stays : (has_high is_high : Bool) (sp byte : ℕ) → sp < counted has_high → byte < 256 → (if is_high && has_high then 256 * byte + low sp else sp) < counted has_high
+high_stays true true sp byte h small = omega arith
+high_stays true false sp byte h small = h
+high_stays false true sp byte h small = h
+high_stays false false sp byte h small = h
+
+sp_stays : (device : Device) (ws : List Write) (sp : ℕ) → AreByteWrites ws → sp < sp_count device → sp_after device sp ws < sp_count device
+sp_stays device [] sp small h = h
+sp_stays device (w ∷ ws) sp small h =
+    sp_stays device ws _ small.1
+    (chosen (w.address == SPL) (sp_count device) (256 * high sp + w.byte) _ (low_stays (has_sph device) sp w.byte h small.0)
+    (high_stays (has_sph device) (w.address == SPH) sp w.byte h small.0))
 
 enables_stay : (device : Device) (ws : List Write) (enables : ℕ) → enables < 2 ^ enable_count device → enables_after device enables ws < 2 ^ enable_count device
 enables_stay device [] enables h = h
@@ -71,14 +101,14 @@ pub after_stays : (m : State) (guarded : Bool) (e : Effect) → IsMachine m → 
 after_stays m guarded e h fits =
     let set_first = with_stay e.registers m.registers fits.registers (record { count = h.count_registers; each = h.register_bytes }) in
     let registers = registers_stay e.stores (with_registers m.registers e.registers) fits.stores set_first in
-    let memory = memory_stays (io_end m.device) (size_of m.device) m.memory guarded (open_after e.is_open e.stores) (sp_after e.sp e.stores) e.stores e.pushes fits.stores fits.pushes
+    let memory = memory_stays (io_end m.device) (size_of m.device) m.memory guarded (open_after m.device e.is_open e.stores) (sp_after m.device e.sp e.stores) e.stores e.pushes fits.stores fits.pushes
     (record { is = h.below; count_bytes = h.count_bytes; sram_bytes = h.sram_bytes; count_live = h.count_live }) in
     record {
       pc_small = fits.pc;
       count_registers = registers.count;
       register_bytes = registers.each;
       sreg_byte = sreg_stays e.stores e.sreg fits.stores fits.sreg;
-      sp_word = sp_stays e.stores e.sp fits.stores fits.sp;
+      sp_fits = sp_stays m.device e.stores e.sp fits.stores fits.sp;
       enable_bits = enables_stay m.device e.stores e.enables fits.enables;
       below = memory.is;
       count_bytes = memory.count_bytes;
@@ -111,12 +141,20 @@ byte_small : (below : ℕ) (bytes : List ℕ) (a : ℕ) → All (λ b. b < 256) 
 unfolding byte_in
 byte_small below bytes a h = byte_in_list bytes (a - (below + 1)) h
 
+pub sp_small : (has_high : Bool) (sp : ℕ) → sp < counted has_high → sp < 65536
+sp_small true sp h = h
+sp_small false sp h = omega arith
+
+pub high_small : (has_high : Bool) (sp : ℕ) → sp < counted has_high → high sp < 256
+high_small true sp h = omega arith
+high_small false sp h = omega arith
+
 pub read_small : (m : State) (still : Bool) (a input : ℕ) → IsMachine m → input < 256 → read still m a input < 256
 unfolding read
 read_small m still a input h small =
     chosen (nat_lt a 0x20) 256 _ _ (byte_in_list m.registers a h.register_bytes)
     (chosen (a == SPL) 256 (low m.sp) _ (omega arith)
-    (chosen (a == SPH) 256 (high m.sp) _ (omega (arith, h.sp_word))
+    (chosen (is_sph m.device a) 256 (high m.sp) _ (high_small (has_sph m.device) m.sp h.sp_fits)
     (chosen (a == SREG) 256 m.sreg _ h.sreg_byte
     (chosen (nat_le a (io_end m.device)) 256 (io_byte m.device still m.enables a input) _ (io_small m.device still m.enables a input)
     (chosen (is_sram m.device a) 256 (sram_at m a) input (byte_small m.memory.below m.memory.bytes a h.sram_bytes) small)))))

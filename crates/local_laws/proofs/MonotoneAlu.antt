@@ -37,10 +37,12 @@ use Rattle.mask_states.specs.declared.keys.NodeKey.{NodeKey}
 use Rattle.mask_states.specs.declared.keys.Kind.{Kind}
 use Rattle.mask_states.specs.declared.keys.Kind.TheVariants.{Root}
 use Rattle.mask_states.specs.Keys.{offset_of}
+use Rattle.local_rules.specs.HighBytes.{view_by, carry_number, seen_high}
 use Rattle.local_rules.specs.Raw.{setting, next}
-use Rattle.local_rules.specs.Registers.{value, bits, carry_bit, set, set_pair, with_carry, but_carry, low_tag, borrow_tag, high_tag, or_nothing, less_than, less_alone, less_kept, swapped, product_row, down_by, pair_moved, wide_row, interrupts_row, tri_of_bool, carry_tag_at, flag_row, going_with, sum_tagged, sum_after, compare_after, difference_after, sub_after, sbc_after, logic_after, step_tagged, step_after, shift_after, com_after}
+use Rattle.local_rules.specs.Registers.{value, bits, carry_bit, set, set_pair, with_carry, but_carry, low_tag, borrow_tag, high_tag, high_tag_of, or_nothing, less_than, less_alone, less_kept, swapped, product_row, down_by, pair_moved, wide_row, interrupts_row, tri_of_bool, carry_tag_at, flag_row, going_with, sum_tagged, sum_after, compare_after, difference_after, sub_after, sbc_after, logic_after, step_tagged, step_after, shift_after, com_after}
 use Rattle.local_rules.specs.Local.{immediate_row, unary_row}
 use Rattle.local_laws.proofs.MonotoneValues.{IsTagOf, IsLess, AreFlagsLess, AreRegistersLess, IsStateLess, IsSameWhere, none_of, if_tag_of, bit_within, bits_less, if_less, untagged_less, known_same, registers_set}
+use Rattle.local_laws.proofs.MonotoneHigh.{seen_less, carried_less, carried_of}
 use Rattle.local_laws.proofs.Less.{kept_is}
 use Rattle.local_laws.proofs.MonotoneRaw.{LeadsLess, one_less, setting_less, further_small}
 use Rattle.local_rules.specs.Site.{site_at}
@@ -150,9 +152,9 @@ high_less_of kind (tag.SpHi k) m (carry.Borrow j l) h =
     if_tag_of kind (j == k % 256) (high_of (k + l + 256 * m)) tag.None
     (record { names = tt; fits = omega arith; none = λ root. let e = h.none root in absurd (cc) }) (none_of kind)
 
-high_tag_of : (kind : Kind) (t : Tag) (f : Option ℕ) (c : CarryTag) → IsTagOf kind t → IsTagOf kind (high_tag t f c)
-high_tag_of kind t None c h = none_of kind
-high_tag_of kind t (Some m) c h = high_less_of kind t m c h
+high_of_tag : (kind : Kind) (t : Tag) (f : Option ℕ) (c : CarryTag) → IsTagOf kind t → IsTagOf kind (high_tag t f c)
+high_of_tag kind t None c h = none_of kind
+high_of_tag kind t (Some m) c h = high_less_of kind t m c h
 
 high_tag_within : (t u : Tag) (f g : Option ℕ) (c d : CarryTag) → IsTagWithin t u → IsSameWhere f g → IsCarryWithin c d → IsTagWithin (high_tag t f c) (high_tag u g d)
 high_tag_within t u f None c d le tells over = tt
@@ -287,13 +289,13 @@ module _ (device : Device) (k : NodeKey) (at : IsKey device k) (s t : AbsState) 
       (borrow_bytes kind (value s d).tag f v.good small) (borrow_names (value s d).tag f) (λ root. no_borrow (value s d).tag f (v.good.none root))
       (borrow_within (value s d).tag (value t d).tag f g v.within.tag tells)
 
-  pub sbc_less : (d : ℕ) (b b' : TriByte) (f g : Option ℕ) → IsWithin b b' → IsSameWhere f g → LeadsLess device k.inst (going_with (site_at device k s) (sbc_after s d b f)) (going_with (site_at device k t) (sbc_after t d b' g))
+  pub sbc_less : (d : ℕ) (b b' : TriByte) (f g : Option ℕ) → IsWithin b b' → IsSameWhere f g → LeadsLess device k.inst (going_with (site_at device k s) (sbc_after (view_by device k) s d b f)) (going_with (site_at device k t) (sbc_after (view_by device k) t d b' g))
   sbc_less d b b' f g under tells =
-      let v = reg d in
-      difference_less d (bits s d) (bits t d) b b' (carry_bit s) (carry_bit t) true
-      (high_tag (value s d).tag f s.flags.carry) (high_tag (value t d).tag g t.flags.carry) carry.None carry.None
-      (reg_bits d) under carry_in (high_tag_of kind (value s d).tag f s.flags.carry v.good)
-      (high_tag_within (value s d).tag (value t d).tag f g s.flags.carry t.flags.carry v.within.tag tells le.flags.within.carry)
+      let x : Tag = seen_high (view_by device k) (carry_number s.flags.carry) (value s d) in
+      let y : Tag = seen_high (view_by device k) (carry_number t.flags.carry) (value t d) in
+      difference_less d (bits s d) (bits t d) b b' (carry_bit s) (carry_bit t) true (high_tag x f s.flags.carry) (high_tag y g t.flags.carry) carry.None carry.None
+      (reg_bits d) under carry_in (high_of_tag kind x f s.flags.carry (carried_of device k s t le d))
+      (high_tag_within x y f g s.flags.carry t.flags.carry (carried_less device k s t le d) tells le.flags.within.carry)
       tt tt (λ root. tt) tt
 
   pub or_nothing_within : (d r : ℕ) (b c : TriByte) → IsWithin b c → IsWithin (or_nothing d r b) (or_nothing d r c)
@@ -334,20 +336,22 @@ module _ (device : Device) (k : NodeKey) (at : IsKey device k) (s t : AbsState) 
       (no_tag_flags _ _ p.1 (product_7 op (byte_constant (bits s d)) (byte_constant (bits s r)) s.flags.bits le.flags.bit_7))
 
   -- a pair in the root has no frame
-  no_frame : (d : ℕ) → kind ≡ Root → frame_of (value s d).tag (value s (d + 1)).tag ≡ None
-  no_frame d root = ap (λ (x : Tag). frame_of x (value s (d + 1)).tag) ((reg d).good.none root)
+  no_frame : (d : ℕ) (hi : Tag) → kind ≡ Root → frame_of (value s d).tag hi ≡ None
+  no_frame d hi root = ap (λ (x : Tag). frame_of x hi) ((reg d).good.none root)
 
-  pub pair_less : (d : ℕ) (up : Bool) (n : ℕ) → AreRegistersLess kind (pair_moved s d up n) (pair_moved t d up n)
+  pub pair_less : (d : ℕ) (up : Bool) (n : ℕ) → AreRegistersLess kind (pair_moved (view_by device k) s d up n) (pair_moved (view_by device k) t d up n)
   pair_less d up n =
       let p = all_are_monotone.words up (bits s d, bits s (d + 1)) (bits t d, bits t (d + 1)) n s.flags.bits t.flags.bits (reg_bits d, reg_bits (d + 1)) flag_bits in
       let lo = (reg d).within.tag in
-      let hi = (reg (d + 1)).within.tag in
+      let x : Tag = high_tag_of (view_by device k) s d in
+      let y : Tag = high_tag_of (view_by device k) t d in
+      let hi = seen_less device k s t le d in
       let down = down_by up n in
       pair_set kind s.registers t.registers d _ _ _ _ le.registers
-      (bits_less kind _ _ _ _ (low_below_of kind (frame_of (value s d).tag (value s (d + 1)).tag) down (no_frame d))
-      (tag_arithmetic_is_monotone.low_below (value s d).tag (value s (d + 1)).tag (value t d).tag (value t (d + 1)).tag down lo hi) p.0.0)
-      (bits_less kind _ _ _ _ (high_below_of kind (frame_of (value s d).tag (value s (d + 1)).tag) down (no_frame d))
-      (tag_arithmetic_is_monotone.high_below (value s d).tag (value s (d + 1)).tag (value t d).tag (value t (d + 1)).tag down lo hi) p.0.1)
+      (bits_less kind _ _ _ _ (low_below_of kind (frame_of (value s d).tag x) down (no_frame d x))
+      (tag_arithmetic_is_monotone.low_below (value s d).tag x (value t d).tag y down lo hi) p.0.0)
+      (bits_less kind _ _ _ _ (high_below_of kind (frame_of (value s d).tag x) down (no_frame d x))
+      (tag_arithmetic_is_monotone.high_below (value s d).tag x (value t d).tag y down lo hi) p.0.1)
 
   pub wide_less : (up : Bool) (d n : ℕ) → LeadsLess device k.inst (wide_row (site_at device k s) up d n) (wide_row (site_at device k t) up d n)
   wide_less up d n =

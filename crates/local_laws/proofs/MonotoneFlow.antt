@@ -1,5 +1,5 @@
 -- Jumps, branches, skips, calls, returns, pushes and pops are monotone.
-use Rattle.std.proofs.Common.{◌≡◌, refl, sym, ap, ◌∙◌, subst, subst₂, ℕ, zero, suc, ◌+◌, ◌-◌, ◌<◌, ◌≤◌, ◌==◌, nat_lt, nat_le, min, max, ⊎_elim, Bool, true, false, List, [], ◌∷◌, ◌++◌, map, filter, take, Option, Some, None, length, if◌then◌else◌, slice_set, Contains, arith, append_assoc, length-append, length-take, leb-true, ◌^◌}
+use Rattle.std.proofs.Common.{◌≡◌, refl, sym, ap, ◌∙◌, subst, subst₂, ℕ, zero, suc, ◌+◌, ◌-◌, ◌<◌, ◌≤◌, ◌==◌, nat_lt, nat_le, min, max, ⊎_elim, Bool, true, false, List, [], ◌∷◌, ◌++◌, map, filter, take, replicate, Option, Some, None, length, if◌then◌else◌, slice_set, Contains, arith, append_assoc, length-append, length-take, leb-true, ◌^◌}
 use Rattle.std.proofs.Math.Nat.{pow-le-pow_right}
 use Rattle.std.proofs.lemmas.Bool.{cases_lt, cases_eq}
 use Rattle.std.proofs.lemmas.Bool.Decides.{nat_tests}
@@ -7,7 +7,8 @@ use Rattle.std.proofs.lemmas.List.{get_or_past}
 use Rattle.std.proofs.lemmas.Map.Views.{Contains-from_any}
 use Rattle.local_rules.specs.Cover.{IsKey}
 use Rattle.avr_model.proofs.AllLaws.{devices_are_alike}
-use Rattle.avr_model.specs.Devices.{Program, size_of, depth_of, limit_of, limit_width, width}
+use Rattle.avr_model.specs.Devices.{Program, size_of, back_of, depth_of, limit_of, limit_width, width}
+use Rattle.std.proofs.lemmas.List.{append-nil}
 use Rattle.avr_model.specs.declared.device.Device.{Device}
 use Rattle.avr_model.specs.declared.assumption.Entry.{Entry}
 use Rattle.avr_model.specs.Image.{word_at}
@@ -186,13 +187,17 @@ module _ (kind : Kind) (offset : ℕ) (xs ys : List (Slot AbsByte)) (le : AreSlo
             (cases_lt d n);
       }
 
-pub room_less : (kind : Kind) (offset : ℕ) (xs ys : List (Slot AbsByte)) → AreSlotsLess kind offset xs ys → AreSlotsLess kind (offset + 2) (xs ++ Free ∷ Free ∷ []) (ys ++ Free ∷ Free ∷ [])
-room_less kind offset xs ys le =
+pub room_less : (kind : Kind) (offset n : ℕ) (xs ys : List (Slot AbsByte)) → AreSlotsLess kind offset xs ys
+    → AreSlotsLess kind (offset + n) (xs ++ replicate n Free) (ys ++ replicate n Free)
+room_less kind offset zero xs ys le =
+    let is : offset ≡ offset + 0 = omega arith in
+    subst₂ (AreSlotsLess kind (offset + 0)) (sym (append-nil xs)) (sym (append-nil ys)) (subst (λ (i : ℕ). AreSlotsLess kind i xs ys) is le)
+room_less kind offset (suc n) xs ys le =
     let once = pushed_less kind offset xs ys le Free Free (free_less kind) in
-    let twice = pushed_less kind (offset + 1) (xs ++ Free ∷ []) (ys ++ Free ∷ []) once Free Free (free_less kind) in
-    let is : offset + 1 + 1 ≡ offset + 2 = omega arith in
-    subst₂ (AreSlotsLess kind (offset + 2)) (append_assoc xs (Free ∷ []) (Free ∷ [])) (append_assoc ys (Free ∷ []) (Free ∷ []))
-    (subst (λ (n : ℕ). AreSlotsLess kind n ((xs ++ Free ∷ []) ++ Free ∷ []) ((ys ++ Free ∷ []) ++ Free ∷ [])) is twice)
+    let more = room_less kind (offset + 1) n (xs ++ Free ∷ []) (ys ++ Free ∷ []) once in
+    let is : offset + 1 + n ≡ offset + suc n = omega arith in
+    subst₂ (AreSlotsLess kind (offset + suc n)) (append_assoc xs (Free ∷ []) (replicate n Free)) (append_assoc ys (Free ∷ []) (replicate n Free))
+    (subst (λ (i : ℕ). AreSlotsLess kind i ((xs ++ Free ∷ []) ++ replicate n Free) ((ys ++ Free ∷ []) ++ replicate n Free)) is more)
 
 -- ---- branches on C
 
@@ -469,10 +474,10 @@ module _ (device : Device) (k : NodeKey) (at : IsKey device k) (s t : AbsState) 
   room_row : (target : ℕ) → target < limit_of device → LeadsLess device k.inst (at_closed k.sp k.pc (making_room (site_at device k s) target)) (at_closed k.sp k.pc (making_room (site_at device k t) target))
   room_row target lt =
       closed_less k.inst k.sp k.pc (making_room (site_at device k s) target) (making_room (site_at device k t) target)
-      (λ offset e. room_by k.inst (nat_le (offset + 2) (size_of device)) (offset + 2) k.pc _ _ (λ small.
-      one_less (record (at_word k target) { sp = Closed (offset + 2) }) (record s { slots = s.slots ++ Free ∷ Free ∷ [] }) (record t { slots = t.slots ++ Free ∷ Free ∷ [] })
+      (λ offset e. room_by k.inst (nat_le (offset + back_of device) (size_of device)) (offset + back_of device) k.pc _ _ (λ small.
+      one_less (record (at_word k target) { sp = Closed (offset + back_of device) }) (record s { slots = s.slots ++ replicate (back_of device) Free }) (record t { slots = t.slots ++ replicate (back_of device) Free })
       (record { word = lt; small = room_small small; masks = at.masks; fits = tt; pick = at.pick })
-      (record { registers = le.registers; flags = le.flags; slots = room_less kind offset s.slots t.slots (slots_at offset e); facts = le.facts })))
+      (record { registers = le.registers; flags = le.flags; slots = room_less kind offset (back_of device) s.slots t.slots (slots_at offset e); facts = le.facts })))
 
   pub relative_less : (scratch : Bool) (target : ℕ) → target < limit_of device → LeadsLess device k.inst (relative_call scratch (site_at device k s) target) (relative_call scratch (site_at device k t) target)
   relative_less true target lt = room_row target lt

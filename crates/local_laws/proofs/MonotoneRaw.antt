@@ -63,6 +63,12 @@ pub if_leads : {device : Device} (inst : InstKey) (b : Bool) (p p' q q' : Raw) �
 if_leads inst true p p' q q' h k = h
 if_leads inst false p p' q q' h k = k
 
+-- the first where the test holds
+pub if_leads_where : {device : Device} (inst : InstKey) (b : Bool) (p p' q q' : Raw) → (b ≡ true → LeadsLess device inst p q) → LeadsLess device inst p' q'
+    → LeadsLess device inst (if b then p else p') (if b then q else q')
+if_leads_where inst true p p' q q' h k = h refl
+if_leads_where inst false p p' q q' h k = k
+
 -- ---- moves
 
 abbrev pub nodes_at : {A : Type 0} → (A → NodeKey) → AbsState → List A → List Node

@@ -6,7 +6,7 @@ use Rattle.abs_alu.proofs.AllLaws.{same_within}
 use Rattle.avr_model.specs.Devices.{Program, words_of, io_end, ramend, device_of}
 use Rattle.avr_model.specs.declared.device.Device.{Device}
 use Rattle.avr_model.specs.Image.{byte_at}
-use Rattle.avr_model.specs.State.{SPL, SPH, SREG, low, high}
+use Rattle.avr_model.specs.State.{SPL, SREG, is_sph, low, high}
 use Rattle.bit_domain.specs.Tri.{tri_bit}
 use Rattle.bit_domain.specs.TriByte.{byte_any, byte_known, byte_constant}
 use Rattle.bit_domain.specs.Ranges.{ByteSet, IsSetWithin, set_meet}
@@ -30,10 +30,13 @@ use Rattle.mask_states.specs.declared.keys.Kind.TheVariants.{Root, Call, Vector}
 use Rattle.mask_states.specs.declared.keys.SpForm.{SpForm}
 use Rattle.mask_states.specs.declared.keys.SpForm.TheVariants.{Closed, Open}
 use Rattle.mask_states.specs.Keys.{offset_of}
-use Rattle.local_rules.specs.Registers.{value, bits, with_bits}
+use Rattle.local_rules.specs.declared.pointers.Pointed.{Pointed}
+use Rattle.local_rules.specs.HighBytes.{view_by}
+use Rattle.local_rules.specs.Registers.{value, bits, with_bits, high_tag_of}
 use Rattle.local_rules.specs.Reads.{closed_low, closed_high, sp_low, sp_high, flags_tag, sreg_value, io_bits, value_of, slot_read, read_at, word_of, pair_constant, raised, lowered, pointed, read_number, read_constant, read_both, read_frame, read_pointed, flash_value}
 use Rattle.local_rules.specs.Local.{loading}
 use Rattle.local_laws.proofs.MonotoneValues.{IsTagOf, IsLess, AreFlagsLess, AreRegistersLess, IsSlotLess, IsStateLess, IsSameWhere, tells_by, none_of, below_any, constant_tells, value_same, bits_less, untagged_less, unknown_same, range_less, known_same, below_unknown, if_less, registers_set}
+use Rattle.local_laws.proofs.MonotoneHigh.{seen_less}
 use Rattle.local_laws.proofs.MonotoneRaw.{LeadsLess, nowhere_less, setting_less}
 use Rattle.local_laws.proofs.MonotoneAlu.{reg, reg_bits}
 use Rattle.local_rules.specs.Site.{site_at}
@@ -192,16 +195,23 @@ module _ (device : Device) (k : NodeKey) (at : IsKey device k) (s t : AbsState) 
       pair_tells (byte_constant (bits s r)) (byte_constant (bits t r)) (byte_constant (bits s (r + 1))) (byte_constant (bits t (r + 1)))
       (constant_tells (bits s r) (bits t r) (reg_bits device k at s t le r)) (constant_tells (bits s (r + 1)) (bits t (r + 1)) (reg_bits device k at s t le (r + 1)))
 
-  frames : (r : ℕ) → IsSameWhere (frame_of (value s r).tag (value s (r + 1)).tag) (frame_of (value t r).tag (value t (r + 1)).tag)
-  frames r n e =
-      tag_arithmetic_is_monotone.frame (value s r).tag (value s (r + 1)).tag (value t r).tag (value t (r + 1)).tag n
-      (reg device k at s t le r).within.tag (reg device k at s t le (r + 1)).within.tag e
+  -- the address that a pointer gives
+  abbrev address : AbsState → ℕ → ℕ → Pointed
+  address u r up = pointed (view_by device k) u r up
 
-  pub pointed_constants : (r up : ℕ) → IsSameWhere (pointed s r up).constant (pointed t r up).constant
+  abbrev frame_in : AbsState → ℕ → Option ℕ
+  frame_in u r = frame_of (value u r).tag (high_tag_of (view_by device k) u r)
+
+  frames : (r : ℕ) → IsSameWhere (frame_in s r) (frame_in t r)
+  frames r n e =
+      tag_arithmetic_is_monotone.frame (value s r).tag (high_tag_of (view_by device k) s r) (value t r).tag (high_tag_of (view_by device k) t r) n
+      (reg device k at s t le r).within.tag (seen_less device k s t le r) e
+
+  pub pointed_constants : (r up : ℕ) → IsSameWhere (address s r up).constant (address t r up).constant
   pointed_constants r up = tells_by (raised up) refl (pair_constant s r) (pair_constant t r) (constants r)
 
-  pub pointed_frames : (r up : ℕ) → IsSameWhere (pointed s r up).frame (pointed t r up).frame
-  pointed_frames r up = tells_by (lowered up) refl (frame_of (value s r).tag (value s (r + 1)).tag) (frame_of (value t r).tag (value t (r + 1)).tag) (frames r)
+  pub pointed_frames : (r up : ℕ) → IsSameWhere (address s r up).frame (address t r up).frame
+  pointed_frames r up = tells_by (lowered up) refl (frame_in s r) (frame_in t r) (frames r)
 
   pub loading_less : (vs ws : List AbsByte) (d : ℕ) (x y : Option AbsByte) → AreRegistersLess kind vs ws → IsReadLess kind x y
       → LeadsLess device k.inst (loading (site_at device k s) vs d x) (loading (site_at device k t) ws d y)
@@ -218,7 +228,7 @@ module _ (device : Device) (may : Bool) (k : NodeKey) (at : IsKey device k) (s t
   read_less a =
       if_less k.inst.kind (nat_lt a 0x20) _ _ _ _ (reg device k at s t le a)
       (if_less k.inst.kind (a == SPL) _ _ _ _ (sp_low_less device k.inst.kind k.sp)
-      (if_less k.inst.kind (a == SPH) _ _ _ _ (sp_high_less device k.inst.kind k.sp)
+      (if_less k.inst.kind (is_sph device a) _ _ _ _ (sp_high_less device k.inst.kind k.sp)
       (if_less k.inst.kind (a == SREG) _ _ _ _ (sreg_less k s t le.flags)
       (if_less k.inst.kind (nat_le a (io_end device)) _ _ _ _ (untagged_less k.inst.kind (io_bits device may k.masks a) (io_bits device may k.masks a) (same_within (io_bits device may k.masks a)))
       (slot_less device k.inst.kind s t a (slot device k at s t le))))))
@@ -271,6 +281,7 @@ module _ (device : Device) (may : Bool) (k : NodeKey) (at : IsKey device k) (s t
       (if_read k.inst.kind (nat_lt d (length s.slots)) (read_both device may k s f (value_of (slot_at s.slots d))) (read_both device may k t g (value_of (slot_at t.slots d))) (Some (read_constant device may k s f)) (Some (read_constant device may k t g))
       (both_less f g (value_of (slot_at s.slots d)) (value_of (slot_at t.slots d)) h (slot device k at s t le d)) (read_some k.inst.kind _ _ (constant_less f g h))))
 
-  pub pointer_read : (r up : ℕ) → IsReadLess k.inst.kind (read_pointed device may k s (pointed s r up)) (read_pointed device may k t (pointed t r up))
+  pub pointer_read : (r up : ℕ) → IsReadLess k.inst.kind (read_pointed device may k s (pointed (view_by device k) s r up)) (read_pointed device may k t (pointed (view_by device k) t r up))
   pointer_read r up =
-      frame_less (pointed s r up).constant (pointed t r up).constant (pointed s r up).frame (pointed t r up).frame (pointed_constants device k at s t le r up) (pointed_frames device k at s t le r up)
+      frame_less (pointed (view_by device k) s r up).constant (pointed (view_by device k) t r up).constant
+      (pointed (view_by device k) s r up).frame (pointed (view_by device k) t r up).frame (pointed_constants device k at s t le r up) (pointed_frames device k at s t le r up)

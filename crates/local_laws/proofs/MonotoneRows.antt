@@ -29,6 +29,7 @@ use Rattle.mask_states.specs.declared.keys.NodeKey.{NodeKey}
 use Rattle.mask_states.specs.declared.keys.Kind.{Kind}
 use Rattle.mask_states.specs.Keys.{offset_of}
 use Rattle.local_rules.specs.Raw.{Raw, at_word, next, further}
+use Rattle.local_rules.specs.HighBytes.{view_by}
 use Rattle.local_rules.specs.Registers.{value, bits, carry_bit, set, less_than, less_kept, or_nothing, pair_moved, going_by, binary_after}
 use Rattle.local_rules.specs.FrameLines.{is_followed, framed_binary}
 use Rattle.local_rules.specs.Reads.{read_at, pair_constant, kept_bits}
@@ -70,7 +71,7 @@ module _ (device : Device) (task : Task) (k : NodeKey) (at : IsKey device k) (s 
   register_bit : (r b : ℕ) → IsTriWithin (tri_at (bits s r) b) (tri_at (bits t r) b)
   register_bit r b = any_bit_within (bits s r) (bits t r) b (reg_bits device k at s t le r)
 
-  binary_less : (op : BinaryOp) (d r : ℕ) → d < 32 → LeadsLess device k.inst (going_by (site_at device k s) (binary_at false s op d r) (equal_skip task.flash (site_at device k s) d r)) (going_by (site_at device k t) (binary_at false t op d r) (equal_skip task.flash (site_at device k t) d r))
+  binary_less : (op : BinaryOp) (d r : ℕ) → d < 32 → LeadsLess device k.inst (going_by (site_at device k s) (binary_at (view_by device k) false s op d r) (equal_skip task.flash (site_at device k s) d r)) (going_by (site_at device k t) (binary_at (view_by device k) false t op d r) (equal_skip task.flash (site_at device k t) d r))
   binary_less binary.Cpc d r low =
       compare_less device k at s t le (bits s d) (bits t d) (bits s r) (bits t r) (carry_bit s) (carry_bit t) true
       (less_kept (byte_constant (bits s d)) (byte_constant (bits s r)) s.flags.carry) (less_kept (byte_constant (bits t d)) (byte_constant (bits t r)) t.flags.carry)
@@ -106,7 +107,7 @@ module _ (device : Device) (task : Task) (k : NodeKey) (at : IsKey device k) (s 
 
   -- the row of two registers, with pairs or without
   abbrev row_by : Bool → AbsState → BinaryOp → ℕ → ℕ → Raw
-  row_by framed u op d r = going_by (site_at device k u) (if framed then framed_binary u op d r else binary_after u op d r) (skipping task.flash (site_at device k u) k k (byte_equal (bits u d) (bits u r)))
+  row_by framed u op d r = going_by (site_at device k u) (if framed then framed_binary (view_by device k) u op d r else binary_after (view_by device k) u op d r) (skipping task.flash (site_at device k u) k k (byte_equal (bits u d) (bits u r)))
 
   binary_line_less : (framed : Bool) (op : BinaryOp) (d r : ℕ) → d < 32 → LeadsLess device k.inst (row_by framed s op d r) (row_by framed t op d r)
   binary_line_less false op d r low = binary_less op d r low
@@ -127,7 +128,7 @@ module _ (device : Device) (task : Task) (k : NodeKey) (at : IsKey device k) (s 
 
   -- ---- loads and stores
 
-  pub moved_less : (p : Pointer) → AreRegistersLess kind (pointer_moved p s) (pointer_moved p t)
+  pub moved_less : (p : Pointer) → AreRegistersLess kind (pointer_moved (view_by device k) p s) (pointer_moved (view_by device k) p t)
   moved_less pointer.ZPlus = pair_less device k at s t le 30 true 1
   moved_less pointer.MinusZ = pair_less device k at s t le 30 false 1
   moved_less pointer.YPlus = pair_less device k at s t le 28 true 1
@@ -191,22 +192,22 @@ module _ (device : Device) (task : Task) (k : NodeKey) (at : IsKey device k) (s 
   row_less scratch (i.Sts a r) fits =
       write_less device (at_word k (further device k 2)) (word_key k (further device k 2) at (further_small device k 2)) s t le k.pc false a (value s r) (value t r) (reg device k at s t le r)
   row_less scratch (i.Ld d p) fits =
-      loading_less device k at s t le (pointer_moved p s) (pointer_moved p t) d _ _ (moved_less p) (pointer_read device may k at s t le (pointer_register p) (step_before p))
+      loading_less device k at s t le (pointer_moved (view_by device k) p s) (pointer_moved (view_by device k) p t) d _ _ (moved_less p) (pointer_read device may k at s t le (pointer_register p) (step_before p))
   row_less scratch (i.St p r) fits =
-      pointer_less device (next device k) (next_key device k at) (record s { registers = pointer_moved p s }) (record t { registers = pointer_moved p t })
+      pointer_less device (next device k) (next_key device k at) (record s { registers = pointer_moved (view_by device k) p s }) (record t { registers = pointer_moved (view_by device k) p t })
       (record { registers = moved_less p; flags = le.flags; slots = le.slots; facts = le.facts }) k.pc (value s r) (value t r) (reg device k at s t le r) task s t (pointer_register p) (step_before p)
       (pointed_constants device k at s t le (pointer_register p) (step_before p))
       (pointed_frames device k at s t le (pointer_register p) (step_before p)) (pair_less_at (pointer_register p) (pointer_small p))
   row_less scratch (i.LpmZ d) fits = setting_register device k at s t le d _ _ (flash_less kind task.flash (pair_constant s 30) (pair_constant t 30) (constants device k at s t le 30))
   row_less scratch (i.LpmZPlus d) fits =
       setting_less device k at s t le _ _ s.flags t.flags
-      (registers_set kind (pair_moved s 30 true 1) (pair_moved t 30 true 1) (pair_less device k at s t le 30 true 1) d _ _
+      (registers_set kind (pair_moved (view_by device k) s 30 true 1) (pair_moved (view_by device k) t 30 true 1) (pair_less device k at s t le 30 true 1) d _ _
       (flash_less kind task.flash (pair_constant s 30) (pair_constant t 30) (constants device k at s t le 30))) le.flags
   row_less scratch i.Lpm fits = setting_register device k at s t le 0 _ _ (flash_less kind task.flash (pair_constant s 30) (pair_constant t 30) (constants device k at s t le 30))
   row_less scratch (i.ElpmZ d) fits = setting_register device k at s t le d _ _ (unknown_same kind)
   row_less scratch (i.ElpmZPlus d) fits =
       setting_less device k at s t le _ _ s.flags t.flags
-      (registers_set kind (pair_moved s 30 true 1) (pair_moved t 30 true 1) (pair_less device k at s t le 30 true 1) d _ _ (unknown_same kind)) le.flags
+      (registers_set kind (pair_moved (view_by device k) s 30 true 1) (pair_moved (view_by device k) t 30 true 1) (pair_less device k at s t le 30 true 1) d _ _ (unknown_same kind)) le.flags
   row_less scratch i.Elpm fits = setting_register device k at s t le 0 _ _ (unknown_same kind)
   row_less scratch (i.Pop d) fits = pop_less device k at s t le d
   row_less scratch (i.Push r) fits = push_less device k at s t le (scratch || has_scratch task.assumptions k.pc) r

@@ -301,7 +301,7 @@ less_within kind offset s t h =
       facts = h.facts.within;
     }
 
-pub less_node : {device : Device} (k : NodeKey) (s t : AbsState) → k.pc < limit_of device → offset_of k.sp ≤ depth_of device → k.masks < 2 ^ enable_count device → FormFits k → PickFits k.pick → IsStateLess k.inst.kind (offset_of k.sp) s t
+pub less_node : {device : Device} (k : NodeKey) (s t : AbsState) → k.pc < limit_of device → offset_of k.sp ≤ depth_of device → k.masks < 2 ^ enable_count device → FormFits device k → PickFits k.pick → IsStateLess k.inst.kind (offset_of k.sp) s t
     → IsBare device k s
 less_node k s t word small masks fits pick h =
     record {

@@ -1,18 +1,18 @@
 -- The effect of a written byte is monotone.
 use Rattle.std.proofs.Common.{◌≡◌, refl, sym, ap, subst, subst₂, ℕ, ◌+◌, ◌<◌, ◌≤◌, ◌==◌, nat_lt, nat_le, ⊎_elim, Bool, true, false, not, List, map, filter, Option, Some, None, if◌then◌else◌, arith, [], ◌∷◌}
-use Rattle.std.proofs.lemmas.Bool.{cases_lt}
+use Rattle.std.proofs.lemmas.Bool.{and_parts, cases_lt}
 use Rattle.std.proofs.lemmas.Bool.Decides.{nat_tests}
 use Rattle.std.proofs.lemmas.List.{get_or_past}
 use Rattle.std.proofs.lemmas.List.Elements.{Contains-append_cases}
 use Rattle.basics.specs.Items.{none_in}
 use Rattle.avr_model.proofs.AllLaws.{devices_are_alike}
-use Rattle.avr_model.specs.Devices.{size_of}
+use Rattle.avr_model.specs.Devices.{size_of, has_sph}
 use Rattle.avr_model.specs.Vectors.{enable_count}
 use Rattle.avr_model.specs.declared.device.Device.{Device}
 use Rattle.avr_model.specs.declared.assumption.Entry.{Entry}
 use Rattle.avr_model.specs.Assumptions.{store_line, is_fixed_site}
 use Rattle.avr_model.specs.Masks.{admits_enables}
-use Rattle.avr_model.specs.State.{SPL, SPH, SREG, low, high, minus16}
+use Rattle.avr_model.specs.State.{SPL, SPH, SREG, is_sph, low, high, minus16}
 use Rattle.bit_domain.specs.declared.bits.Tri.{Tri}
 use Rattle.bit_domain.specs.declared.bits.Tri.TheVariants.{Zero, One, Any}
 use Rattle.bit_domain.specs.Tri.{IsTriWithin}
@@ -42,15 +42,16 @@ use Rattle.mask_states.specs.Wakes.{widened}
 use Rattle.mask_states.proofs.AllLaws.{splits_are_writes, enables_stay_among}
 use Rattle.local_rules.specs.declared.local.NodeFault.TheVariants.{UntrackedSp, TooDeep, UnknownPointer}
 use Rattle.local_rules.specs.Raw.{Raw, moves_to, one, fails}
+use Rattle.local_rules.specs.HighBytes.{view_by}
 use Rattle.local_rules.specs.Registers.{bits}
 use Rattle.local_rules.specs.Permitted.{permits_number}
-use Rattle.local_rules.specs.Writes.{known_high, tagged_high, high_part, opening, root_closing, frame_closing, closing_offset, closing, is_entry_flags, flags_written, with_i, sreg_written, masks_written, hulled, register_written, put_flags, written_at, reaches, fixed_write, listed_writes, is_own_slot, may_wake, waking, pointer_write}
+use Rattle.local_rules.specs.Writes.{known_high, tagged_high, high_part, opening, root_closing, frame_closing, tag_closing, closing_offset, closing, is_entry_flags, flags_written, with_i, sreg_written, masks_written, hulled, register_written, put_flags, written_at, reaches, fixed_write, listed_writes, is_own_slot, may_wake, waking, pointer_write}
 use Rattle.abs_state.specs.Formed.{TagFits}
 use Rattle.local_rules.specs.Cover.{HighFitsKind, IsKey}
 use Rattle.local_laws.proofs.Members.{each_of}
 use Rattle.local_laws.proofs.MonotonePermits.{and_more, has_more, IsPairWithin, permits_more}
 use Rattle.local_laws.proofs.MonotoneValues.{IsTagOf, IsLess, AreFlagsLess, AreSlotsLess, IsSlotLess, IsStateLess, IsSameWhere, tells_by, tag_tells, free_less, constant_is, constant_tells, bit_within, bits_less, registers_set, ended_both, forgetting_both}
-use Rattle.local_laws.proofs.MonotoneRaw.{IsKeyPlace, LeadsLess, nodes_at, met_left, met_right, fails_less, if_leads, several_less, one_less, choose, choose_more, both_less, filtered_less}
+use Rattle.local_laws.proofs.MonotoneRaw.{IsKeyPlace, LeadsLess, nodes_at, met_left, met_right, fails_less, if_leads, if_leads_where, several_less, one_less, choose, choose_more, both_less, filtered_less}
 use Rattle.local_rules.specs.Site.{Task}
 use Rattle.local_rules.specs.Writes.{write_at}
 use Rattle.local_rules.specs.Reads.{pointed}
@@ -78,12 +79,12 @@ high_fits Root v h good e = known_fits (byte_constant v.bits) h (λ n is. (const
 high_fits Call v h good e = tag_fits Call v.tag h (λ k lt. lt) good.fits e
 high_fits (Vector n) v h good e = tag_fits (Vector n) v.tag h (λ k lt. lt) good.fits e
 
-opening_less : {device : Device} (k : NodeKey) (at : IsKey device k) (s t : AbsState) (le : IsStateLess k.inst.kind (offset_of k.sp) s t) (pc : ℕ) (f g : Option High)
+opening_less : {device : Device} (k : NodeKey) (at : IsKey device k) (s t : AbsState) (le : IsStateLess k.inst.kind (offset_of k.sp) s t) (pc : ℕ) → has_sph device ≡ true → (f g : Option High)
     → IsSameWhere f g → ((h : High) → f ≡ Some h → HighFitsKind k.inst.kind h) → LeadsLess device k.inst (opening f k s pc) (opening g k t pc)
-opening_less k at s t le pc f None tells fits = fails_less k.inst (opening f k s pc) (UntrackedSp pc)
-opening_less {device = device} k at s t le pc f (Some h) tells fits =
+opening_less k at s t le pc there f None tells fits = fails_less k.inst (opening f k s pc) (UntrackedSp pc)
+opening_less {device = device} k at s t le pc there f (Some h) tells fits =
     subst (λ (x : Option High). LeadsLess device k.inst (opening x k s pc) (opening (Some h) k t pc)) (sym (tells h refl))
-    (one_less (record k { sp = Open (offset_of k.sp) h }) s t (record { word = at.word; small = at.small; masks = at.masks; fits = fits h (tells h refl); pick = at.pick }) le)
+    (one_less (record k { sp = Open (offset_of k.sp) h }) s t (record { word = at.word; small = at.small; masks = at.masks; fits = (there, fits h (tells h refl)); pick = at.pick }) le)
 
 -- ---- its low byte
 
@@ -97,10 +98,17 @@ no_frame (Closed offset) = refl
 no_frame (Open offset (Known h)) = refl
 no_frame (Open offset (Tagged k)) = refl
 
+no_tag : (device : Device) (sp : SpForm) → tag_closing device sp tag.None ≡ None
+no_tag device sp = by (has_sph device)
+  where
+    by : (has_high : Bool) → (if has_high then frame_closing sp tag.None else None) ≡ None
+    by true = no_frame sp
+    by false = refl
+
 closing_tells : (device : Device) (kind : Kind) (sp : SpForm) (v w : AbsByte) → IsLess kind v w → IsSameWhere (closing_offset device kind sp v) (closing_offset device kind sp w)
 closing_tells device Root sp v w le = tells_by (root_closing device sp) (no_root device sp) (byte_constant v.bits) (byte_constant w.bits) (constant_tells v.bits w.bits le.within.bits)
-closing_tells device Call sp v w le = tag_tells (frame_closing sp) (no_frame sp) v.tag w.tag le.within.tag
-closing_tells device (Vector n) sp v w le = tag_tells (frame_closing sp) (no_frame sp) v.tag w.tag le.within.tag
+closing_tells device Call sp v w le = tag_tells (tag_closing device sp) (no_tag device sp) v.tag w.tag le.within.tag
+closing_tells device (Vector n) sp v w le = tag_tells (tag_closing device sp) (no_tag device sp) v.tag w.tag le.within.tag
 
 module _ (kind : Kind) (offset : ℕ) (xs ys : List (Slot AbsByte)) (le : AreSlotsLess kind offset xs ys) where
   pub resized_less : (n : ℕ) → AreSlotsLess kind n (resized n xs) (resized n ys)
@@ -214,7 +222,8 @@ module _ (device : Device) (k : NodeKey) (at : IsKey device k) (s t : AbsState) 
         facts = le.facts;
       }))))
       (if_leads k.inst (a == SPL) _ _ _ _ (closing_less device k at s t le pc _ _ (closing_tells device k.inst.kind k.sp v w h))
-      (if_leads k.inst (a == SPH) _ _ _ _ (opening_less k at s t le pc _ _ (high_tells k.inst.kind v w h) (λ x. high_fits k.inst.kind v x h.good))
+      (if_leads_where k.inst (is_sph device a) _ _ _ _
+      (λ here. opening_less k at s t le pc (and_parts (a == SPH) (has_sph device) here).1 _ _ (high_tells k.inst.kind v w h) (λ x. high_fits k.inst.kind v x h.good))
       (if_leads k.inst (a == SREG) _ _ _ _
       (sreg_less k at (put_flags s (flags_written v)) (put_flags t (flags_written w))
       (record { registers = le.registers; flags = written_flags k.inst.kind v w h; slots = le.slots; facts = ended_both (λ r. false) true true s.facts t.facts le.facts }) is_out (tri_at v.bits 7) (tri_at w.bits 7)
@@ -233,12 +242,12 @@ own_more : (f g : Option ℕ) (n : ℕ) → IsSameWhere f g → not (is_own_slot
 own_more f None n same e = refl
 own_more f (Some d) n same e = subst (λ (x : Option ℕ). not (is_own_slot x n) ≡ true) (same d refl) e
 
-wakes_more : (A : List Entry) (s t : AbsState) (r up : ℕ) (device : Device) (pc : ℕ) (k : NodeKey) (after after' : AbsState) (v w : AbsByte) → IsSameWhere (pointed s r up).frame (pointed t r up).frame
+wakes_more : (A : List Entry) (s t : AbsState) (r up : ℕ) (device : Device) (pc : ℕ) (k : NodeKey) (after after' : AbsState) (v w : AbsByte) → IsSameWhere (pointed (view_by device k) s r up).frame (pointed (view_by device k) t r up).frame
     → IsPairWithin s t r → IsWithin v.bits w.bits → may_wake A s r up (write_at device pc k after v) ≡ true → may_wake A t r up (write_at device pc k after' w) ≡ true
 unfolding may_wake
 wakes_more A s t r up device pc k after after' v w slots within bits =
     and_more _ _ _ _
-    (and_more (admits_enables device A pc) _ (admits_enables device A pc) _ (λ e. e) (own_more (pointed s r up).frame (pointed t r up).frame (offset_of k.sp) slots))
+    (and_more (admits_enables device A pc) _ (admits_enables device A pc) _ (λ e. e) (own_more (pointed (view_by device k) s r up).frame (pointed (view_by device k) t r up).frame (offset_of k.sp) slots))
     (enables_stay_among.other device A (λ a. permits_number s r (minus16 a up)) (λ a. permits_number t r (minus16 a up)) v.bits w.bits
     (λ a. permits_more s t r (minus16 a up) within) bits)
 
@@ -286,12 +295,12 @@ module _ (device : Device) (k : NodeKey) (at : IsKey device k) (s t : AbsState) 
       }
 
   -- the pointer as it was in these states
-  pub pointer_less : (task : Task) (was_s was_t : AbsState) (r up : ℕ) → IsSameWhere (pointed was_s r up).constant (pointed was_t r up).constant
-      → IsSameWhere (pointed was_s r up).frame (pointed was_t r up).frame
+  pub pointer_less : (task : Task) (was_s was_t : AbsState) (r up : ℕ) → IsSameWhere (pointed (view_by device k) was_s r up).constant (pointed (view_by device k) was_t r up).constant
+      → IsSameWhere (pointed (view_by device k) was_s r up).frame (pointed (view_by device k) was_t r up).frame
       → IsPairWithin was_s was_t r
       → LeadsLess device k.inst (pointer_write task was_s r up (write_at device pc k s v)) (pointer_write task was_t r up (write_at device pc k t w))
   pointer_less task was_s was_t r up tells slots was =
-      if_leads k.inst (is_fixed_site task.flash task.assumptions pc) _ _ _ _ (fixed_less (pointed was_s r up).constant (pointed was_t r up).constant tells)
+      if_leads k.inst (is_fixed_site task.flash task.assumptions pc) _ _ _ _ (fixed_less (pointed (view_by device k) was_s r up).constant (pointed (view_by device k) was_t r up).constant tells)
       (waking_less task.assumptions (may_wake task.assumptions was_s r up (write_at device pc k s v)) (may_wake task.assumptions was_t r up (write_at device pc k t w)) _ _
       (wakes_more task.assumptions was_s was_t r up device pc k s t v w slots was h.within.bits)
       (listed_less (λ a. reaches was_s r up a) (λ a. reaches was_t r up a) (store_line task.assumptions pc) (λ a. reaches_more was_s was_t r up a was.low.bits was.high.bits)))

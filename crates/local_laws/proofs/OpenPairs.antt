@@ -3,7 +3,7 @@ use Rattle.std.proofs.Common.{◌≡◌, refl, subst, ℕ, zero, suc, ◌+◌, �
 use Rattle.std.specs.Prelude.{⊤}
 use Rattle.std.proofs.lemmas.List.Elements.{Contains-append_cases}
 use Rattle.basics.specs.Items.{none_in, first_in, further_in}
-use Rattle.avr_model.specs.Devices.{Program, size_of, wrapped, device_of}
+use Rattle.avr_model.specs.Devices.{Program, size_of, back_of, wrapped, device_of}
 use Rattle.avr_model.specs.Marks.{marks}
 use Rattle.avr_model.specs.declared.device.Device.{Device}
 use Rattle.avr_model.specs.declared.assumption.Entry.{Entry}
@@ -16,7 +16,7 @@ use Rattle.avr_model.specs.Assumptions.{is_fixed_site, is_frame, has_scratch, st
 use Rattle.avr_model.specs.Image.{word_at}
 use Rattle.avr_model.specs.Table.{length_of}
 use Rattle.avr_model.specs.Sites.{is_scratch}
-use Rattle.avr_model.specs.State.{SPL, SPH, SREG}
+use Rattle.avr_model.specs.State.{SPL, SREG, is_sph}
 use Rattle.avr_model.specs.Text.{far, near}
 use Rattle.bit_domain.specs.declared.bits.Tri.{Tri}
 use Rattle.bit_domain.specs.declared.bits.Tri.TheVariants.{Zero, One, Any}
@@ -50,6 +50,7 @@ use Rattle.local_laws.specs.Laws.{OpenPairsStay}
 use Rattle.local_laws.proofs.Members.{each_of, each_in_map}
 use Rattle.local_rules.specs.Site.{Task, site_at}
 use Rattle.local_rules.specs.Writes.{write_at}
+use Rattle.local_rules.specs.HighBytes.{view_by}
 use Rattle.local_rules.specs.Reads.{pointed}
 use Rattle.local_rules.specs.Local.{zeroing}
 use Rattle.avr_model.specs.Effects.{port}
@@ -144,7 +145,7 @@ module _ (n : ℕ) where
   stay_popping device k s d (suc offset) = stay_one _ _ tt
 
   stay_room : (device : Device) (k : NodeKey) (s : AbsState) (target offset : ℕ) → AllStay (making_room (site_at device k s) target offset)
-  stay_room device k s target offset = stay_if (nat_le (offset + 2) (size_of device)) _ _ (stay_one _ _ tt) stay_none
+  stay_room device k s target offset = stay_if (nat_le (offset + back_of device) (size_of device)) _ _ (stay_one _ _ tt) stay_none
 
   stay_untracked : (b : Bool) (pc : ℕ) (r : Raw) → AllStay r → AllStay (untracked_if b pc r)
   stay_untracked true pc r h = h
@@ -216,7 +217,7 @@ module _ (k : NodeKey) where
   stay_written device pc s is_out a v =
       stay_if at (nat_lt a 0x20) _ _ (same _)
       (stay_if at (a == SPL) _ _ (stay_closing device (closing_offset device k.inst.kind k.sp v) s pc)
-      (stay_if at (a == SPH) _ _ (stay_opening (high_part k.inst.kind v) s pc)
+      (stay_if at (is_sph device a) _ _ (stay_opening (high_part k.inst.kind v) s pc)
       (stay_if at (a == SREG) _ _ (stay_sreg (tri_at v.bits 7) (put_flags s (flags_written v)) is_out)
       (each_in_map (λ m. record { key = record k { masks = m }; state = s }) (IsStaying at) (splits device k.masks a v.bits) (λ m i. itself k.sp)))))
 
@@ -238,7 +239,7 @@ module _ (k : NodeKey) where
   stay_pointer : (device : Device) (task : Task) (was : AbsState) (r up : ℕ) (pc : ℕ) (s : AbsState) (v : AbsByte)
       → FromKey k (pointer_write task was r up (write_at device pc k s v))
   stay_pointer device task was r up pc s v =
-      stay_if at (is_fixed_site task.flash task.assumptions pc) _ _ (stay_fixed device (pointed was r up).constant pc s v)
+      stay_if at (is_fixed_site task.flash task.assumptions pc) _ _ (stay_fixed device (pointed (view_by device k) was r up).constant pc s v)
       (stay_waking (may_wake task.assumptions was r up (write_at device pc k s v)) device task.assumptions s _ (stay_listed device pc s (filter (λ a. reaches was r up a) (store_line task.assumptions pc)) v))
 
 -- ---- the table
@@ -258,7 +259,7 @@ module _ (device : Device) (task : Task) (scratch : Bool) (k : NodeKey) where
   row_stays s (i.Fmuls d r) = stay_one place _ _ held
   row_stays s (i.Fmulsu d r) = stay_one place _ _ held
   row_stays s (i.Binary op d r) =
-      stay_by place device k s (binary_at (is_frame task.assumptions k.pc) s op d r) (skipping task.flash (site_at device k s) k k (byte_equal (bits s d) (bits s r))) held
+      stay_by place device k s (binary_at (view_by device k) (is_frame task.assumptions k.pc) s op d r) (skipping task.flash (site_at device k s) k k (byte_equal (bits s d) (bits s r))) held
       (stay_ways place (byte_equal (bits s d) (bits s r)) k k s _ _ held held)
   row_stays s (i.Immediate op d m) = stay_one place _ _ held
   row_stays s (i.Unary op d) = stay_one place _ _ held
@@ -334,7 +335,7 @@ module _ (device : Device) (task : Task) (scratch : Bool) (k : NodeKey) where
   paired_stays s (i.Sbrs r b) = skip_stays s (bit_cut r b true s) (bit_cut r b false s)
   paired_stays s (i.Binary op d r) =
       binary_stays op s d r (refining task.flash (i.Binary op d r) s (plain_row task scratch (site_at device k s) (i.Binary op d r))) (refining_stays s (i.Binary op d r))
-  paired_stays s (i.St p r) = storing_stays s p r (refined (marks task.flash) task.flash (i.St p r) s (record (before (i.St p r) s) { registers = pointer_moved p s }))
+  paired_stays s (i.St p r) = storing_stays s p r (refined (marks task.flash) task.flash (i.St p r) s (record (before (i.St p r) s) { registers = pointer_moved (view_by device k) p s }))
   paired_stays s instr = refining_stays s instr
 
   by_stays : (f : Option PairFacts) (s : AbsState) (instr : Instr) → FromKey k (row_by f task scratch (site_at device k s) instr)

@@ -185,8 +185,10 @@ left_frame m o k s t at left stands =
       stands = stands.stands;
       facts = stands.facts;
       root = at.root;
+      top = at.top;
       base_word = at.base_word;
       room = at.room;
+      sees = at.sees;
     }
 
 module _ {may : Bool} (m : State) (o : Origin) (k : NodeKey) (s : AbsState) (at : InBareFrame may m o k s) (guarded : Bool) (b1 b2 : ℕ) where

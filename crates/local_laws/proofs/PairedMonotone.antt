@@ -33,6 +33,7 @@ use Rattle.local_rules.specs.declared.local.Node.{Node}
 use Rattle.local_rules.specs.Raw.{Raw, nowhere, all_of, off_table, next, further}
 use Rattle.local_rules.specs.Registers.{value, before}
 use Rattle.local_rules.specs.Flow.{going_where}
+use Rattle.local_rules.specs.HighBytes.{view_by}
 use Rattle.local_rules.specs.Local.{step_before, pointer_moved, plain_row, paired_row, cut_branch, cut_skip, refined_nodes, refining, node_where, storing, paired_store}
 use Rattle.local_rules.specs.Cover.{IsKey}
 use Rattle.local_laws.proofs.Bare.{IsBare, bare_key}
@@ -233,14 +234,14 @@ module _ (device : Device) (task : Task) (k : NodeKey) (s t : AbsState) (low : I
     instr = i.St p r
 
     abbrev moved : AbsState → AbsState
-    moved u = record (before instr u) { registers = pointer_moved p u }
+    moved u = record (before instr u) { registers = pointer_moved (view_by device k) p u }
 
     moved_both : (u v : AbsState) → IsBare device k u → IsStateLess k.inst.kind (offset_of k.sp) u v → IsStateLess k.inst.kind (offset_of k.sp) (moved u) (moved v)
     moved_both u v bare_u h =
         let ends = forgetting_both k.inst.kind (offset_of k.sp) (written instr) (sets_flags instr) (sets_carry instr) u v h in
         record {
           registers =
-              subst₂ (AreRegistersLess k.inst.kind) (same_moved p instr u) (same_moved p instr v) (moved_less device task k (bare_key k u bare_u) (before instr u) (before instr v) ends p);
+              subst₂ (AreRegistersLess k.inst.kind) (same_moved (view_by device k) p instr u) (same_moved (view_by device k) p instr v) (moved_less device task k (bare_key k u bare_u) (before instr u) (before instr v) ends p);
           flags = ends.flags;
           slots = ends.slots;
           facts = ends.facts;

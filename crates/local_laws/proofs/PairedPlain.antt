@@ -26,6 +26,7 @@ use Rattle.mask_states.specs.declared.keys.NodeKey.{NodeKey}
 use Rattle.local_rules.specs.declared.computed.Computed.{Computed}
 use Rattle.local_rules.specs.declared.local.Node.{Node}
 use Rattle.local_rules.specs.Raw.{Raw, one}
+use Rattle.local_rules.specs.HighBytes.{view_by}
 use Rattle.local_rules.specs.Registers.{both_set, before, going_by, pair_moved}
 use Rattle.local_rules.specs.FrameLines.{is_followed}
 use Rattle.local_rules.specs.Reads.{flash_value, word_of, pair_constant}
@@ -94,9 +95,9 @@ module _ (device : Device) (task : Task) (scratch : Bool) (k : NodeKey) (s : Abs
   told_covered (i.LpmZ d) is has to member = only_one (λ (n : Node). (f : PairFacts) → CoversFlash task.flash (z_of s f) (value_at n.state.registers d)) _ _ (flash_set s.registers d (omega (arith, has, count))) to member
   told_covered (i.LpmZPlus d) is has to member =
       only_one (λ (n : Node). (f : PairFacts) → CoversFlash task.flash (z_of s f) (value_at n.state.registers d)) _ _
-      (flash_set (pair_moved s 30 true 1) d (omega (arith, has, count, moved_count))) to member
+      (flash_set (pair_moved (view_by device k) s 30 true 1) d (omega (arith, has, count, moved_count))) to member
     where
-      moved_count : length (pair_moved s 30 true 1) ≡ length s.registers
+      moved_count : length (pair_moved (view_by device k) s 30 true 1) ≡ length s.registers
       moved_count = length-set _ 31 _ ∙ length-set s.registers 30 _
   told_covered i.Lpm is has to member = only_one (λ (n : Node). (f : PairFacts) → CoversFlash task.flash (z_of s f) (value_at n.state.registers 0)) _ _ (flash_set s.registers 0 (omega (arith, count))) to member
   told_covered instr is has to member = tt

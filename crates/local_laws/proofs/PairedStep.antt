@@ -40,6 +40,7 @@ use Rattle.local_rules.specs.Raw.{Raw, all_of, next, further as node_further}
 use Rattle.local_rules.specs.Registers.{value, before}
 use Rattle.local_rules.specs.Flow.{going_where}
 use Rattle.local_rules.specs.Writes.{pointer_write}
+use Rattle.local_rules.specs.HighBytes.{SpView, view_by}
 use Rattle.local_rules.specs.Local.{step_before, pointer_moved, plain_row, paired_row, cut_branch, cut_skip, refined_nodes, refining, node_where, storing, paired_store}
 use Rattle.local_rules.specs.Machine.{AreWords}
 use Rattle.local_rules.specs.Cover.{Follows}
@@ -103,14 +104,14 @@ module _ (words : Program) (s : AbsState) (f : PairFacts) where
   stored_same instr is e r = ap (λ (nodes : List Node). record r { moves = nodes }) (nodes_same instr is e r.moves)
 
 -- ending facts does not change how a pointer moves
-pub same_moved : (p : Pointer) (instr : Instr) (s : AbsState) → pointer_moved p (before instr s) ≡ pointer_moved p s
-same_moved pointer.ZPlus instr s = refl
-same_moved pointer.MinusZ instr s = refl
-same_moved pointer.YPlus instr s = refl
-same_moved pointer.MinusY instr s = refl
-same_moved pointer.X instr s = refl
-same_moved pointer.XPlus instr s = refl
-same_moved pointer.MinusX instr s = refl
+pub same_moved : (view : SpView) (p : Pointer) (instr : Instr) (s : AbsState) → pointer_moved view p (before instr s) ≡ pointer_moved view p s
+same_moved view pointer.ZPlus instr s = refl
+same_moved view pointer.MinusZ instr s = refl
+same_moved view pointer.YPlus instr s = refl
+same_moved view pointer.MinusY instr s = refl
+same_moved view pointer.X instr s = refl
+same_moved view pointer.XPlus instr s = refl
+same_moved view pointer.MinusX instr s = refl
 
 -- a state with the flags and the slots of another
 pub like_parts : (u s : AbsState) → u.flags ≡ s.flags → u.slots ≡ s.slots → u ≡ record s { registers = u.registers; facts = u.facts }
@@ -212,16 +213,16 @@ module _ (ws : List ℕ) (A : List Entry) (m : State) (o : Origin) (k : NodeKey)
     there = forgetting_at m o k s (written instr) (sets_flags instr) (sets_carry instr) at
 
     abbrev moved_state : AbsState
-    moved_state = record ended { registers = pointer_moved p s }
+    moved_state = record ended { registers = pointer_moved (view_by m.device k) p s }
 
     moved_bare : IsBare m.device k moved_state
     moved_bare =
         let le : IsStateLess k.inst.kind (offset_of k.sp) ended ended = node_less k ended ended there.node there.node (states_are_ordered.same ended) in
         less_node k moved_state moved_state at.node.word at.node.small at.node.masks at.node.fits at.node.pick
-        (record { registers = subst (λ vs. AreRegistersLess k.inst.kind vs vs) (same_moved p instr s) (moved_less m.device task k (bare_key k s at.node) ended ended le p); flags = le.flags; slots = le.slots; facts = le.facts })
+        (record { registers = subst (λ vs. AreRegistersLess k.inst.kind vs vs) (same_moved (view_by m.device k) p instr s) (moved_less m.device task k (bare_key k s at.node) ended ended le p); flags = le.flags; slots = le.slots; facts = le.facts })
 
     behind : IsBehind o moved_state (registers_set task.flash (reads_masks m.device A) m instr b1 b2) (sreg_set task.flash (reads_masks m.device A) m instr b1 b2)
-    behind = record { registers = subst (λ vs. RegistersStand o vs (registers_set task.flash (reads_masks m.device A) m instr b1 b2)) (same_moved p instr s) (pointer_stands m o k ended there p); facts = held task.flash (reads_masks m.device A) m o k s b1 b2 instr are small other (sized_at task.flash m.pc instr is_there) at }
+    behind = record { registers = subst (λ vs. RegistersStand o vs (registers_set task.flash (reads_masks m.device A) m instr b1 b2)) (same_moved (view_by m.device k) p instr s) (pointer_stands m o k ended there p); facts = held task.flash (reads_masks m.device A) m o k s b1 b2 instr are small other (sized_at task.flash m.pc instr is_there) at }
 
     found : (u : AbsState) × (refined (marks task.flash) task.flash instr s moved_state ≡ Some u) × IsBehind o u (registers_set task.flash (reads_masks m.device A) m instr b1 b2) (sreg_set task.flash (reads_masks m.device A) m instr b1 b2)
     found =

@@ -204,8 +204,10 @@ module _ {may : Bool} (m : State) (o : Origin) (k : NodeKey) (s : AbsState) (at 
           stands = found.1.1.stands;
           facts = found.1.1.facts;
           root = at.root;
+          top = at.top;
           base_word = at.base_word;
           room = at.room;
+          sees = at.sees;
         },
       )
 

@@ -3,7 +3,7 @@ use Rattle.std.proofs.Common.{◌≡◌, ◌≢◌, refl, sym, ◌∙◌, ℕ, s
 use Rattle.std.specs.Prelude.{⊤}
 use Rattle.std.proofs.lemmas.Bool.{or_parts}
 use Rattle.basics.specs.Items.{none_in}
-use Rattle.avr_model.specs.Devices.{size_of, wrapped}
+use Rattle.avr_model.specs.Devices.{size_of, back_of, wrapped}
 use Rattle.avr_model.specs.declared.device.Device.{Device}
 use Rattle.avr_model.specs.declared.instruction.Instr.{Instr}
 use Rattle.avr_model.specs.declared.instruction.Instr.TheVariants as i
@@ -39,6 +39,7 @@ use Rattle.local_rules.specs.declared.computed.Computed.{Computed}
 use Rattle.local_rules.specs.declared.local.Node.{Node}
 use Rattle.local_rules.specs.declared.local.Exit.{Exit}
 use Rattle.local_rules.specs.Raw.{Raw, nowhere, one, untracked_if, off_table}
+use Rattle.local_rules.specs.HighBytes.{SpView, view_by}
 use Rattle.local_rules.specs.Registers.{going_by, interrupts_row, flag_row, binary_after, immediate_after, unary_after}
 use Rattle.local_rules.specs.FrameLines.{is_followed, framed_binary, framed_immediate, framed_unary}
 use Rattle.local_rules.specs.Reads.{read_at, pointed, read_pointed}
@@ -74,14 +75,14 @@ more_set rs vs ws d v h r e =
     let parts = or_parts (d == r) (is_one_of rs r) e in
     set_other ws d r v (apart d r parts.0) ∙ h r parts.1
 
-pub pointer_set : (p : Pointer) (s : AbsState) → KeepOthers (moved_pair p) s.registers (pointer_moved p s)
-pointer_set pointer.ZPlus s = two_set s.registers 30 31 _ _
-pointer_set pointer.MinusZ s = two_set s.registers 30 31 _ _
-pointer_set pointer.YPlus s = two_set s.registers 28 29 _ _
-pointer_set pointer.MinusY s = two_set s.registers 28 29 _ _
-pointer_set pointer.X s = none_set [] s.registers
-pointer_set pointer.XPlus s = two_set s.registers 26 27 _ _
-pointer_set pointer.MinusX s = two_set s.registers 26 27 _ _
+pub pointer_set : (view : SpView) (p : Pointer) (s : AbsState) → KeepOthers (moved_pair p) s.registers (pointer_moved view p s)
+pointer_set view pointer.ZPlus s = two_set s.registers 30 31 _ _
+pointer_set view pointer.MinusZ s = two_set s.registers 30 31 _ _
+pointer_set view pointer.YPlus s = two_set s.registers 28 29 _ _
+pointer_set view pointer.MinusY s = two_set s.registers 28 29 _ _
+pointer_set view pointer.X s = none_set [] s.registers
+pointer_set view pointer.XPlus s = two_set s.registers 26 27 _ _
+pointer_set view pointer.MinusX s = two_set s.registers 26 27 _ _
 
 -- ---- states
 
@@ -151,7 +152,7 @@ module _ (rs : List ℕ) (s : AbsState) where
   leaves_pushing device scratch k r offset = leaves_if (nat_le (offset + 1) (size_of device)) _ _ (leaves_one _ _ (record { facts = refl; others = none_set rs s.registers })) leaves_none
 
   leaves_room : (device : Device) (k : NodeKey) (target offset : ℕ) → Leaves (making_room (site_at device k s) target offset)
-  leaves_room device k target offset = leaves_if (nat_le (offset + 2) (size_of device)) _ _ (leaves_one _ _ (record { facts = refl; others = none_set rs s.registers })) leaves_none
+  leaves_room device k target offset = leaves_if (nat_le (offset + back_of device) (size_of device)) _ _ (leaves_one _ _ (record { facts = refl; others = none_set rs s.registers })) leaves_none
 
   leaves_calling : (half : Bool) (pc : ℕ) (r : Raw) → Leaves r → Leaves (untracked_if half pc r)
   leaves_calling true pc r h = h
@@ -173,8 +174,8 @@ module _ (rs : List ℕ) (s : AbsState) where
 
 -- ---- by the operation
 
-module _ (s : AbsState) where
-  binary_keeps : (op : BinaryOp) (d r : ℕ) → ComputedKeeps (set_by_binary op d) s (binary_after s op d r)
+module _ (view : SpView) (s : AbsState) where
+  binary_keeps : (op : BinaryOp) (d r : ℕ) → ComputedKeeps (set_by_binary op d) s (binary_after view s op d r)
   binary_keeps binary.Cpc d r = none_set [] s.registers
   binary_keeps binary.Sbc d r = one_set s.registers d _
   binary_keeps binary.Add d r = one_set s.registers d _
@@ -188,7 +189,7 @@ module _ (s : AbsState) where
   binary_keeps binary.Mov d r = one_set s.registers d _
   binary_keeps binary.Mul d r = two_set s.registers 0 1 _ _
 
-  framed_binary_keeps : (op : BinaryOp) (d r : ℕ) → ComputedKeeps (set_by_binary op d) s (framed_binary s op d r)
+  framed_binary_keeps : (op : BinaryOp) (d r : ℕ) → ComputedKeeps (set_by_binary op d) s (framed_binary view s op d r)
   framed_binary_keeps binary.Cpc d r = none_set [] s.registers
   framed_binary_keeps binary.Sbc d r = one_set s.registers d _
   framed_binary_keeps binary.Add d r = one_set s.registers d _
@@ -202,11 +203,11 @@ module _ (s : AbsState) where
   framed_binary_keeps binary.Mov d r = one_set s.registers d _
   framed_binary_keeps binary.Mul d r = two_set s.registers 0 1 _ _
 
-  pub binary_line_keeps : (framed : Bool) (op : BinaryOp) (d r : ℕ) → ComputedKeeps (set_by_binary op d) s (if framed then framed_binary s op d r else binary_after s op d r)
+  pub binary_line_keeps : (framed : Bool) (op : BinaryOp) (d r : ℕ) → ComputedKeeps (set_by_binary op d) s (if framed then framed_binary view s op d r else binary_after view s op d r)
   binary_line_keeps true op d r = framed_binary_keeps op d r
   binary_line_keeps false op d r = binary_keeps op d r
 
-  immediate_keeps : (op : ImmediateOp) (d n : ℕ) → KeepOthers (set_by_immediate op d) s.registers (immediate_after s op d n).registers
+  immediate_keeps : (op : ImmediateOp) (d n : ℕ) → KeepOthers (set_by_immediate op d) s.registers (immediate_after view s op d n).registers
   immediate_keeps immediate.Cpi d n = none_set [] s.registers
   immediate_keeps immediate.Sbci d n = one_set s.registers d _
   immediate_keeps immediate.Subi d n = one_set s.registers d _
@@ -214,7 +215,7 @@ module _ (s : AbsState) where
   immediate_keeps immediate.Andi d n = one_set s.registers d _
   immediate_keeps immediate.Ldi d n = one_set s.registers d _
 
-  framed_immediate_keeps : (op : ImmediateOp) (d n : ℕ) → KeepOthers (set_by_immediate op d) s.registers (framed_immediate s op d n).registers
+  framed_immediate_keeps : (op : ImmediateOp) (d n : ℕ) → KeepOthers (set_by_immediate op d) s.registers (framed_immediate view s op d n).registers
   framed_immediate_keeps immediate.Cpi d n = none_set [] s.registers
   framed_immediate_keeps immediate.Sbci d n = one_set s.registers d _
   framed_immediate_keeps immediate.Subi d n = one_set s.registers d _
@@ -242,7 +243,7 @@ module _ (s : AbsState) where
   framed_unary_keeps unary.Ror d = one_set s.registers d _
   framed_unary_keeps unary.Dec d = one_set s.registers d _
 
-  immediate_line_keeps : (line : Bool) (op : ImmediateOp) (d n : ℕ) → KeepOthers (set_by_immediate op d) s.registers (if line then framed_immediate s op d n else immediate_after s op d n).registers
+  immediate_line_keeps : (line : Bool) (op : ImmediateOp) (d n : ℕ) → KeepOthers (set_by_immediate op d) s.registers (if line then framed_immediate view s op d n else immediate_after view s op d n).registers
   immediate_line_keeps true op d n = framed_immediate_keeps op d n
   immediate_line_keeps false op d n = immediate_keeps op d n
 
@@ -278,19 +279,19 @@ module _ (device : Device) (task : Task) (scratch : Bool) (k : NodeKey) (s : Abs
   row_leaves (i.Fmul d r) is = leaves_set _ s device _ _ refl (two_set s.registers 0 1 _ _)
   row_leaves (i.Fmuls d r) is = leaves_set _ s device _ _ refl (two_set s.registers 0 1 _ _)
   row_leaves (i.Fmulsu d r) is = leaves_set _ s device _ _ refl (two_set s.registers 0 1 _ _)
-  row_leaves (i.Binary op d r) is = leaves_by _ s device k _ _ (binary_line_keeps s (is_followed (is_frame task.assumptions k.pc) d r) op d r) (leaves_branch _ s (byte_equal (value_at s.registers d).bits (value_at s.registers r).bits) k k _ _)
-  row_leaves (i.Immediate op d n) is = leaves_set _ s device _ _ refl (immediate_line_keeps s (is_frame task.assumptions k.pc) op d n)
-  row_leaves (i.Unary op d) is = leaves_set _ s device _ _ refl (unary_line_keeps s (is_frame task.assumptions k.pc) op d)
+  row_leaves (i.Binary op d r) is = leaves_by _ s device k _ _ (binary_line_keeps (view_by device k) s (is_followed (is_frame task.assumptions k.pc) d r) op d r) (leaves_branch _ s (byte_equal (value_at s.registers d).bits (value_at s.registers r).bits) k k _ _)
+  row_leaves (i.Immediate op d n) is = leaves_set _ s device _ _ refl (immediate_line_keeps (view_by device k) s (is_frame task.assumptions k.pc) op d n)
+  row_leaves (i.Unary op d) is = leaves_set _ s device _ _ refl (unary_line_keeps (view_by device k) s (is_frame task.assumptions k.pc) op d)
   row_leaves (i.Adiw d n) is = leaves_set _ s device _ _ refl (two_set s.registers (2 * d) (2 * d + 1) _ _)
   row_leaves (i.Sbiw d n) is = leaves_set _ s device _ _ refl (two_set s.registers (2 * d) (2 * d + 1) _ _)
   row_leaves (i.Bset n) is = leaves_flag _ s device k n true
   row_leaves (i.Bclr n) is = leaves_flag _ s device k n false
   row_leaves (i.Bld d b) is = leaves_set _ s device _ _ refl (one_set s.registers d _)
   row_leaves (i.Bst d b) is = leaves_set _ s device _ _ refl (none_set [] s.registers)
-  row_leaves (i.Ldd d b q) is = leaves_loading _ s device k s.registers d (read_pointed device (reads_masks device task.assumptions) k s (pointed s (base_register b) q)) (λ w. one_set s.registers d w)
+  row_leaves (i.Ldd d b q) is = leaves_loading _ s device k s.registers d (read_pointed device (reads_masks device task.assumptions) k s (pointed (view_by device k) s (base_register b) q)) (λ w. one_set s.registers d w)
   row_leaves (i.Lds d a) is = leaves_set _ s device _ _ refl (one_set s.registers d _)
   row_leaves (i.Ld d p) is =
-      leaves_loading _ s device k (pointer_moved p s) d (read_pointed device (reads_masks device task.assumptions) k s (pointed s (pointer_register p) (step_before p))) (λ w. more_set (moved_pair p) s.registers (pointer_moved p s) d w (pointer_set p s))
+      leaves_loading _ s device k (pointer_moved (view_by device k) p s) d (read_pointed device (reads_masks device task.assumptions) k s (pointed (view_by device k) s (pointer_register p) (step_before p))) (λ w. more_set (moved_pair p) s.registers (pointer_moved (view_by device k) p s) d w (pointer_set (view_by device k) p s))
   row_leaves (i.LpmZ d) is = leaves_set _ s device _ _ refl (one_set s.registers d _)
   row_leaves (i.ElpmZ d) is = leaves_set _ s device _ _ refl (one_set s.registers d _)
   row_leaves (i.LpmZPlus d) is = leaves_set _ s device _ _ refl (more_set (30 ∷ 31 ∷ []) s.registers _ d _ (two_set s.registers 30 31 _ _))

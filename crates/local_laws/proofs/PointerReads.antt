@@ -25,7 +25,9 @@ use Rattle.abs_state.specs.Frames.{with_tag}
 use Rattle.abs_state.proofs.AllLaws.{bits_make_values, any_stands}
 use Rattle.abs_state.specs.Stands.{ByteStands, RegistersStand}
 use Rattle.mask_states.specs.declared.keys.NodeKey.{NodeKey}
-use Rattle.local_rules.specs.Registers.{value, bits, down_by, pair_tags, pair_moved}
+use Rattle.local_rules.specs.declared.pointers.Pointed.{Pointed}
+use Rattle.local_rules.specs.HighBytes.{view_by, low_number}
+use Rattle.local_rules.specs.Registers.{value, bits, high_tag_of, down_by, pair_tags, pair_moved}
 use Rattle.local_rules.specs.Reads.{value_of, read_at, word_of, pair_constant, raised, lowered, pointed, read_number, read_constant, read_both, read_frame, read_pointed}
 use Rattle.local_rules.specs.Local.{pointer_moved}
 use Rattle.local_laws.proofs.Bare.{InBareFrame}
@@ -33,6 +35,7 @@ use Rattle.local_laws.proofs.Alu.{register_byte}
 use Rattle.local_laws.proofs.Bits.{constant_is}
 use Rattle.local_laws.proofs.EffectSizes.{wide_small}
 use Rattle.local_laws.proofs.Frame.{register_stands, set_two}
+use Rattle.local_laws.proofs.HighBytes.{seen_stands}
 use Rattle.local_laws.proofs.Memory.{inside_if_live}
 use Rattle.local_laws.proofs.ReadValues.{untagged_stands, range_stands, read_small, inside_numbers, live_read, slot_at_stands, read_stands}
 
@@ -84,11 +87,11 @@ module _ {may : Bool} (m : State) (o : Origin) (k : NodeKey) (s : AbsState) (at 
   pub high_is : (r : ℕ) → register m (r + 1) ≡ high (pair m r)
   high_is r = omega (arith, register_byte m o k s at r)
 
-  pair_holds : (r : ℕ) → PairHolds o (value s r).tag (value s (r + 1)).tag (pair m r)
+  pair_holds : (r : ℕ) → PairHolds o (value s r).tag (high_tag_of (view_by m.device k) s r) (pair m r)
   pair_holds r =
       record {
         low = subst (TagHolds o (value s r).tag) (low_is r) (register_stands m o k s at r).tag;
-        high = subst (TagHolds o (value s (r + 1)).tag) (high_is r) (register_stands m o k s at (r + 1)).tag;
+        high = subst (TagHolds o (high_tag_of (view_by m.device k) s r)) (high_is r) (seen_stands m o k s at (low_number (value s r).tag) (r + 1));
       }
 
   -- the pair's number, if all its bits are known
@@ -99,13 +102,16 @@ module _ {may : Bool} (m : State) (o : Origin) (k : NodeKey) (s : AbsState) (at 
       (λ b is. constant_is (bits s (r + 1)) (register m (r + 1)) b is (register_byte m o k s at (r + 1)) (register_stands m o k s at (r + 1)).bits) e
 
   -- the address, as a number and as base - d
-  pub number_is : (r up a : ℕ) → (pointed s r up).constant ≡ Some a → plus16 (pair m r) up ≡ a
+  abbrev address : ℕ → ℕ → Pointed
+  address r up = pointed (view_by m.device k) s r up
+
+  pub number_is : (r up a : ℕ) → (address r up).constant ≡ Some a → plus16 (pair m r) up ≡ a
   number_is r up a e = raised_is (pair_constant s r) (pair m r) up a (pair_constant_is r) e
 
-  pub frame_is : (r up d : ℕ) → (pointed s r up).frame ≡ Some d → plus16 (pair m r) up ≡ minus16 o.base d
+  pub frame_is : (r up d : ℕ) → (address r up).frame ≡ Some d → plus16 (pair m r) up ≡ minus16 o.base d
   frame_is r up d e =
-      lowered_is (frame_of (value s r).tag (value s (r + 1)).tag) o.base (pair m r) up d
-      (λ j is. pairs_are_true.frame o (value s r).tag (value s (r + 1)).tag (pair m r) j (pair_small r) (pair_holds r) is) e
+      lowered_is (frame_of (value s r).tag (high_tag_of (view_by m.device k) s r)) o.base (pair m r) up d
+      (λ j is. pairs_are_true.frame o (value s r).tag (high_tag_of (view_by m.device k) s r) (pair m r) j (pair_small r) (pair_holds r) is) e
 
   -- ---- what is read
 
@@ -154,36 +160,37 @@ module _ {may : Bool} (m : State) (o : Origin) (k : NodeKey) (s : AbsState) (at 
         (both_stand c (value_of (slot_at s.slots d)) is (slot_read_stands d (here d refl))) (constant_stands c is)
 
   -- the value of a read through a pointer holds of the byte there
-  pub pointed_stands : (r up input : ℕ) → input < 256 → IsRead o (read_pointed m.device may k s (pointed s r up)) (read may m (plus16 (pair m r) up) input)
+  pub pointed_stands : (r up input : ℕ) → input < 256 → IsRead o (read_pointed m.device may k s (address r up)) (read may m (plus16 (pair m r) up) input)
   pointed_stands r up input small =
-      frame_stands (plus16 (pair m r) up) input small (pointed s r up).constant (pointed s r up).frame (number_is r up) (frame_is r up)
+      frame_stands (plus16 (pair m r) up) input small (address r up).constant (address r up).frame (number_is r up) (frame_is r up)
 
   -- ---- how it moves
 
   moved_by : (r : ℕ) (up : Bool) → minus16 (pair m r) (down_by up 1) ≡ wide_of up (pair m r) 1
-      → RegistersStand o (pair_moved s r up 1) (with_registers m.registers (set_pair r (wide_of up (pair m r) 1)))
+      → RegistersStand o (pair_moved (view_by m.device k) s r up 1) (with_registers m.registers (set_pair r (wide_of up (pair m r) 1)))
   moved_by r up is =
       let word = all_words_cover.words up (bits s r, bits s (r + 1)) s.flags.bits (pair m r) 1 m.sreg (pair_small r) (omega arith)
       (subst (Has (bits s r)) (low_is r) (register_stands m o k s at r).bits) (subst (Has (bits s (r + 1))) (high_is r) (register_stands m o k s at (r + 1)).bits)
       at.stands.flags.bits in
-      let tags = pairs_are_true.below o (value s r).tag (value s (r + 1)).tag (pair m r) (down_by up 1) (pair_small r) (pair_holds r) in
+      let told = pair_tags (view_by m.device k) s r up 1 in
+      let tags = pairs_are_true.below o (value s r).tag (high_tag_of (view_by m.device k) s r) (pair m r) (down_by up 1) (pair_small r) (pair_holds r) in
       set_two m o k s at r (r + 1) _ _ _ _
-      (bits_make_values.stands o (pair_tags s r up 1).0 _ (low (wide_of up (pair m r) 1)) (omega arith) (subst (λ w. TagHolds o (pair_tags s r up 1).0 (low w)) is tags.low) word.0)
-      (bits_make_values.stands o (pair_tags s r up 1).1 _ (high (wide_of up (pair m r) 1)) (omega (arith, wide_small up (pair m r) 1))
-      (subst (λ w. TagHolds o (pair_tags s r up 1).1 (high w)) is tags.high) word.1)
+      (bits_make_values.stands o told.0 _ (low (wide_of up (pair m r) 1)) (omega arith) (subst (λ w. TagHolds o told.0 (low w)) is tags.low) word.0)
+      (bits_make_values.stands o told.1 _ (high (wide_of up (pair m r) 1)) (omega (arith, wide_small up (pair m r) 1))
+      (subst (λ w. TagHolds o told.1 (high w)) is tags.high) word.1)
 
-  up_stands : (r : ℕ) → RegistersStand o (pair_moved s r true 1) (with_registers m.registers (set_pair r (plus16 (pair m r) 1)))
+  up_stands : (r : ℕ) → RegistersStand o (pair_moved (view_by m.device k) s r true 1) (with_registers m.registers (set_pair r (plus16 (pair m r) 1)))
   up_stands r = moved_by r true (up_one (pair m r))
 
   wide_down : (w : ℕ) → wide_of false w 1 ≡ minus16 w 1
   wide_down w = omega arith
 
-  down_stands : (r : ℕ) → RegistersStand o (pair_moved s r false 1) (with_registers m.registers (set_pair r (minus16 (pair m r) 1)))
+  down_stands : (r : ℕ) → RegistersStand o (pair_moved (view_by m.device k) s r false 1) (with_registers m.registers (set_pair r (minus16 (pair m r) 1)))
   down_stands r =
-      subst (λ w. RegistersStand o (pair_moved s r false 1) (with_registers m.registers (set_pair r w))) (wide_down (pair m r)) (moved_by r false (down_one (pair m r)))
+      subst (λ w. RegistersStand o (pair_moved (view_by m.device k) s r false 1) (with_registers m.registers (set_pair r w))) (wide_down (pair m r)) (moved_by r false (down_one (pair m r)))
 
   -- the registers with the pointer as after the instruction
-  pub pointer_stands : (p : Pointer) → RegistersStand o (pointer_moved p s) (with_registers m.registers (moved p (pair m (pointer_register p))))
+  pub pointer_stands : (p : Pointer) → RegistersStand o (pointer_moved (view_by m.device k) p s) (with_registers m.registers (moved p (pair m (pointer_register p))))
   pointer_stands pointer.ZPlus = up_stands 30
   pointer_stands pointer.MinusZ = down_stands 30
   pointer_stands pointer.YPlus = up_stands 28
@@ -192,5 +199,5 @@ module _ {may : Bool} (m : State) (o : Origin) (k : NodeKey) (s : AbsState) (at 
   pointer_stands pointer.XPlus = up_stands 26
   pointer_stands pointer.MinusX = down_stands 26
 
-  pub z_moved : RegistersStand o (pair_moved s 30 true 1) (with_registers m.registers (set_pair 30 (plus16 (pair m 30) 1)))
+  pub z_moved : RegistersStand o (pair_moved (view_by m.device k) s 30 true 1) (with_registers m.registers (set_pair 30 (plus16 (pair m 30) 1)))
   z_moved = up_stands 30

@@ -1,7 +1,6 @@
 -- A byte stored through a pointer: the rows cover the machine's step.
-use Rattle.std.proofs.Common.{◌≡◌, refl, sym, ◌∙◌, ap, subst, ℕ, ◌+◌, ◌<◌, ◌≤◌, ltb-true, Bool, true, false, not, ◌&&◌, ◌||◌, nat_lt, nat_le, if◌then◌else◌, ◌==◌, List, [], ◌∷◌, length, map, Option, Some, None, arith, eqb-true}
+use Rattle.std.proofs.Common.{◌≡◌, refl, sym, ◌∙◌, ap, subst, ℕ, ◌+◌, ◌<◌, ◌≤◌, ltb-true, Bool, true, false, not, ◌&&◌, ◌||◌, nat_lt, if◌then◌else◌, ◌==◌, List, [], ◌∷◌, length, map, Option, Some, None, arith, eqb-true}
 use Rattle.std.proofs.lemmas.Bool.{or_parts, and_from, and_parts}
-use Rattle.std.proofs.lemmas.Bool.Decides.{nat_tests}
 use Rattle.std.proofs.lemmas.List.Elements.{Contains-append_left, Contains-append_right}
 use Rattle.std.specs.List.{filter}
 use Rattle.basics.specs.Items.{first_in}
@@ -14,7 +13,7 @@ use Rattle.avr_model.specs.declared.device.Device.{Device}
 use Rattle.avr_model.specs.Devices.{io_end, device_of}
 use Rattle.avr_model.specs.Masks.{reads_masks, enables_barred, is_unlisted_site, admits_enables, is_flagged_write}
 use Rattle.avr_model.specs.Sreg.{flag}
-use Rattle.avr_model.specs.State.{State, pair, SPL, SPH, SREG, low, high, plus16, minus16}
+use Rattle.avr_model.specs.State.{State, pair, SPL, SREG, is_sph, low, high, plus16, minus16}
 use Rattle.avr_model.specs.Effects.{set}
 use Rattle.avr_model.specs.Step.{with_registers, flagged_write}
 use Rattle.avr_model.specs.Vectors.{has_enables, is_core, is_protected, written_enables}
@@ -31,6 +30,7 @@ use Rattle.mask_states.specs.Place.{AreAmong, EnablesAre}
 use Rattle.mask_states.specs.Wakes.{may_enable_other, widened}
 use Rattle.mask_states.proofs.AllLaws.{enables_stay_among}
 use Rattle.local_rules.specs.declared.local.Node.{Node}
+use Rattle.local_rules.specs.HighBytes.{view_by}
 use Rattle.local_rules.specs.Raw.{Raw, at_word, one, all_of}
 use Rattle.local_rules.specs.Registers.{value}
 use Rattle.local_rules.specs.Reads.{pointed}
@@ -38,7 +38,7 @@ use Rattle.local_rules.specs.Permitted.{may_be, is_in_interval, permits_bytes, p
 use Rattle.local_rules.specs.Writes.{written_at, reaches, fixed_write, listed_writes, is_own_slot, may_wake, waking, pointer_write}
 use Rattle.local_laws.proofs.Bare.{InBareFrame}
 use Rattle.local_laws.proofs.Landing.{ArrivesWhere}
-use Rattle.local_laws.proofs.Enables.{none_above}
+use Rattle.local_laws.proofs.Enables.{outside_core, none_above}
 use Rattle.local_laws.proofs.Permitted.{has_where_may}
 use Rattle.local_laws.proofs.PointerReads.{number_is, frame_is}
 use Rattle.local_laws.proofs.SplitMembers.{AreSplitsWritten}
@@ -49,20 +49,16 @@ use Rattle.abs_state.specs.declared.values.AbsFlags.{AbsFlags}
 
 -- ---- addresses of no register, nor of the stack pointer or the status register
 
-pub record IsElsewhere (a : ℕ) : Type 0 where
+pub record IsElsewhere (device : Device) (a : ℕ) : Type 0 where
   pub beyond : nat_lt a 0x20 ≡ false
   pub not_low : (a == SPL) ≡ false
-  pub not_high : (a == SPH) ≡ false
+  pub not_high : is_sph device a ≡ false
   pub not_sreg : (a == SREG) ≡ false
 
-outside_test : (a : ℕ) → (nat_le 0x5D a && nat_le a 0x5F) ≡ false → ((a == SPL) ≡ false) × (((a == SPH) ≡ false) × ((a == SREG) ≡ false))
-outside_test a h = (grind (arith, nat_tests), (grind (arith, nat_tests), grind (arith, nat_tests)))
-
-elsewhere_is : (a : ℕ) → is_core a ≡ false → IsElsewhere a
-elsewhere_is a h =
-    let inner = or_parts (nat_lt a 0x20) (nat_le 0x5D a && nat_le a 0x5F) h in
-    let outside = outside_test a inner.1 in
-    record { beyond = inner.0; not_low = outside.0; not_high = outside.1.0; not_sreg = outside.1.1 }
+elsewhere_is : (device : Device) (a : ℕ) → is_core device a ≡ false → IsElsewhere device a
+elsewhere_is device a h =
+    let outside = outside_core device a h in
+    record { beyond = outside.0; not_low = outside.1.0; not_high = outside.1.1.0; not_sreg = outside.1.1.1 }
 
 -- ---- what isn't flagged
 
@@ -158,16 +154,16 @@ module _ {may : Bool} (m : State) (o : Origin) (k : NodeKey) (s : AbsState) (at 
   fixed_written a (Some x) is clean = subst (λ b. ReachesNode may m o told k guarded (effect b) (fixed_write (Some x) (write_at m.device k.pc key state v))) (sym (is x refl)) (known_written x clean)
 
   -- an address outside registers, stack pointer and status register
-  elsewhere_written : (a masks : ℕ) → is_core a ≡ false → EnablesAre may (written_enables m.device m.enables a byte) masks
+  elsewhere_written : (a masks : ℕ) → is_core m.device a ≡ false → EnablesAre may (written_enables m.device m.enables a byte) masks
       → ArrivesWhere may m o told guarded (effect a) (record { key = record key { masks = masks }; state = state })
   elsewhere_written a masks free enables =
-      let is = elsewhere_is a free in
+      let is = elsewhere_is m.device a free in
       elsewhere m o k s at guarded pc pc' pc_is writes registers stand less told told_fits false a byte masks registers s.flags.carry told (carries_are_ordered.same s.flags.carry) is.not_low is.not_high is.not_sreg
       enables (changes_none m o k s at guarded pc pc' pc_is writes registers stand less told told_fits false a byte is.beyond)
       (less_still m o k s at guarded pc pc' pc_is writes registers stand less told told_fits false a byte is.beyond)
       (facts_still m o k s at guarded pc pc' pc_is writes registers stand less told told_fits false a byte is.beyond is.not_sreg)
 
-  nothing_written : (a : ℕ) → is_core a ≡ false → EnablesAre may (written_enables m.device m.enables a byte) k.masks → ReachesNode may m o told k guarded (effect a) (one key state)
+  nothing_written : (a : ℕ) → is_core m.device a ≡ false → EnablesAre may (written_enables m.device m.enables a byte) k.masks → ReachesNode may m o told k guarded (effect a) (one key state)
   nothing_written a free enables =
       only m o k s at guarded pc pc' pc_is writes registers stand less told told_fits false (effect a) (record { key = key; state = state }) refl (elsewhere_written a k.masks free enables)
 
@@ -205,13 +201,13 @@ module _ {may : Bool} (m : State) (o : Origin) (k : NodeKey) (s : AbsState) (at 
     abbrev woken : Node
     woken = record { key = record key { masks = widened m.device task.assumptions k.masks }; state = state }
 
-    by_none : is_core a ≡ false → EnablesAre may (written_enables m.device m.enables a byte) k.masks → Reaches listed
+    by_none : is_core m.device a ≡ false → EnablesAre may (written_enables m.device m.enables a byte) k.masks → Reaches listed
     by_none free enables = by_first m o told k guarded (effect a) (one key state) listed_ones (nothing_written a free enables)
 
     -- ---- where the line doesn't admit it
 
     listed_by : (b : Bool) → is_protected m.device a ≡ b → (is_protected m.device a && not (lists (store_line task.assumptions k.pc) a)) ≡ false → listed.faults ≡ [] → Reaches listed
-    listed_by false is unflagged clean = let parts = or_parts (is_core a) (has_enables m.device a) is in by_none parts.0 (kept_enables a parts.1)
+    listed_by false is unflagged clean = let parts = or_parts (is_core m.device a) (has_enables m.device a) is in by_none parts.0 (kept_enables a parts.1)
     listed_by true is unflagged clean =
         by_rest m o told k guarded (effect a) (one key state) listed_ones
         (by_listed m o told k guarded (effect a) (λ b. written_at (write_at m.device k.pc key state v) false b) (λ b. reaches was r up b) a (store_line task.assumptions k.pc)
@@ -219,7 +215,7 @@ module _ {may : Bool} (m : State) (o : Origin) (k : NodeKey) (s : AbsState) (at 
 
     -- ---- where it does
 
-    module _ (admitted : admits_enables m.device task.assumptions k.pc ≡ true) (free : is_core a ≡ false) (unbarred : enables_barred m.device task.assumptions a byte ≡ false) where
+    module _ (admitted : admits_enables m.device task.assumptions k.pc ≡ true) (free : is_core m.device a ≡ false) (unbarred : enables_barred m.device task.assumptions a byte ≡ false) where
       may_is : may ≡ true
       may_is = mode ∙ admitting m.device task.assumptions k.pc admitted
 
@@ -238,12 +234,12 @@ module _ {may : Bool} (m : State) (o : Origin) (k : NodeKey) (s : AbsState) (at 
             at_node = elsewhere_written a (widened m.device task.assumptions k.masks) free (from_among (widened m.device task.assumptions k.masks) (enables_stay_among.woken m.device task.assumptions m.enables k.masks a byte among unbarred));
           }
 
-      own : is_own_slot (pointed s r up).frame (offset_of k.sp) ≡ true → EnablesAre may (written_enables m.device m.enables a byte) k.masks
+      own : is_own_slot (pointed (view_by m.device k) s r up).frame (offset_of k.sp) ≡ true → EnablesAre may (written_enables m.device m.enables a byte) k.masks
       own is =
-          let slot = own_slot (pointed s r up).frame (offset_of k.sp) is in
+          let slot = own_slot (pointed (view_by m.device k) s r up).frame (offset_of k.sp) is in
           kept_enables a (none_above m.device a (slot_above (io_end m.device) a o.base slot.0 (offset_of k.sp) (frame_is m o k s at r up slot.0 slot.1.0) slot.1.1 (at.room may_is) at.base_word))
 
-      asleep : (own_slot other : Bool) → is_own_slot (pointed s r up).frame (offset_of k.sp) ≡ own_slot
+      asleep : (own_slot other : Bool) → is_own_slot (pointed (view_by m.device k) s r up).frame (offset_of k.sp) ≡ own_slot
           → may_enable_other m.device task.assumptions (λ b. permits_number was r (minus16 b up)) v.bits ≡ other → (not own_slot && other) ≡ false
           → EnablesAre may (written_enables m.device m.enables a byte) k.masks
       asleep true other is is' none = own is
@@ -254,7 +250,7 @@ module _ {may : Bool} (m : State) (o : Origin) (k : NodeKey) (s : AbsState) (at 
       unless_woken : may_wake task.assumptions was r up (write_at m.device k.pc key state v) ≡ false → EnablesAre may (written_enables m.device m.enables a byte) k.masks
       unfolding may_wake
       unless_woken is =
-          asleep (is_own_slot (pointed s r up).frame (offset_of k.sp)) (may_enable_other m.device task.assumptions (λ b. permits_number was r (minus16 b up)) v.bits) refl refl
+          asleep (is_own_slot (pointed (view_by m.device k) s r up).frame (offset_of k.sp)) (may_enable_other m.device task.assumptions (λ b. permits_number was r (minus16 b up)) v.bits) refl refl
           (rest_false (admits_enables m.device task.assumptions k.pc) _ _ admitted is)
 
       admitted_by : (b : Bool) → may_wake task.assumptions was r up (write_at m.device k.pc key state v) ≡ b → Reaches (waking b (record { key = record key { masks = widened m.device task.assumptions key.masks }; state = state }) listed)
@@ -277,7 +273,7 @@ module _ {may : Bool} (m : State) (o : Origin) (k : NodeKey) (s : AbsState) (at 
     unfixed_by : (b : Bool) → admits_enables m.device task.assumptions k.pc ≡ b → is_flagged_write m.device task.assumptions k.pc a byte ≡ false → (waking waken (record { key = record key { masks = widened m.device task.assumptions key.masks }; state = state }) listed).faults ≡ []
         → Reaches (waking waken (record { key = record key { masks = widened m.device task.assumptions key.masks }; state = state }) listed)
     unfixed_by true is unflagged clean =
-        let parts = or_parts (is_core a) (enables_barred m.device task.assumptions a byte) (first_flag (admits_enables m.device task.assumptions k.pc) _ _ unflagged is) in
+        let parts = or_parts (is_core m.device a) (enables_barred m.device task.assumptions a byte) (first_flag (admits_enables m.device task.assumptions k.pc) _ _ unflagged is) in
         admitted_by is parts.0 parts.1 waken refl
     unfixed_by false is unflagged clean =
         still waken (listed_by (is_protected m.device a) refl (second_flag (admits_enables m.device task.assumptions k.pc) _ _ unflagged is) (listed_clean waken clean))
@@ -288,7 +284,7 @@ module _ {may : Bool} (m : State) (o : Origin) (k : NodeKey) (s : AbsState) (at 
         → Reaches (pointer_write task was r up (write_at m.device k.pc key state v))
     pointer_written unflagged clean =
         chosen m o k s at guarded pc pc' pc_is writes registers stand less told told_fits false (effect a) (is_fixed_site task.flash task.assumptions k.pc)
-        (fixed_write (pointed s r up).constant (write_at m.device k.pc key state v)) (waking waken (record { key = record key { masks = widened m.device task.assumptions key.masks }; state = state }) listed)
-        (λ is rest. fixed_written a (pointed s r up).constant (number_is m o k s at r up) rest)
+        (fixed_write (pointed (view_by m.device k) s r up).constant (write_at m.device k.pc key state v)) (waking waken (record { key = record key { masks = widened m.device task.assumptions key.masks }; state = state }) listed)
+        (λ is rest. fixed_written a (pointed (view_by m.device k) s r up).constant (number_is m o k s at r up) rest)
         (λ is rest. unfixed_by (admits_enables m.device task.assumptions k.pc) refl
         (subst (λ d. is_flagged_write d task.assumptions k.pc a byte ≡ false) (sym is_device) (flag_none (is_flagged_write (device_of task.flash) task.assumptions k.pc a byte) a (unflagged is))) rest) clean

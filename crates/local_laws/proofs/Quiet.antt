@@ -2,11 +2,11 @@
 use Rattle.std.proofs.Common.{◌≡◌, refl, sym, ◌∙◌, subst, ℕ, zero, suc, ◌+◌, ◌==◌, Bool, true, false, List, [], Option, Some, None, if◌then◌else◌, nat_lt, nat_le, Contains}
 use Rattle.std.specs.List.Sorted.{IsStrictlySortedBy}
 use Rattle.basics.specs.Items.{none_in}
-use Rattle.avr_model.specs.Devices.{Program, size_of}
+use Rattle.avr_model.specs.Devices.{Program, size_of, back_of}
 use Rattle.avr_model.specs.declared.device.Device.{Device}
 use Rattle.avr_model.specs.declared.assumption.Entry.{Entry}
 use Rattle.avr_model.specs.Assumptions.{is_fixed_site}
-use Rattle.avr_model.specs.State.{SPL, SPH, SREG}
+use Rattle.avr_model.specs.State.{SPL, SREG, is_sph}
 use Rattle.bit_domain.specs.declared.bits.Tri.{Tri}
 use Rattle.bit_domain.specs.declared.bits.Tri.TheVariants.{Zero, One, Any}
 use Rattle.bit_domain.specs.TriByte.{tri_at}
@@ -29,6 +29,7 @@ use Rattle.local_rules.specs.Site.{Task, site_at}
 use Rattle.local_rules.specs.Writes.{write_at}
 use Rattle.mask_states.specs.Wakes.{widened}
 use Rattle.local_rules.specs.Raw.{off_table}
+use Rattle.local_rules.specs.HighBytes.{view_by}
 use Rattle.local_rules.specs.Reads.{pointed}
 
 abbrev pub Quiet : Raw → Type 0
@@ -112,7 +113,7 @@ unfolding written_at
 written_quiet device pc k s is_out a v =
     if_quiet (nat_lt a 0x20) _ _ (refl, refl)
     (if_quiet (a == SPL) _ _ (closing_quiet device (closing_offset device k.inst.kind k.sp v) k s pc)
-    (if_quiet (a == SPH) _ _ (opening_quiet (high_part k.inst.kind v) k s pc)
+    (if_quiet (is_sph device a) _ _ (opening_quiet (high_part k.inst.kind v) k s pc)
     (if_quiet (a == SREG) _ _ (sreg_quiet (tri_at v.bits 7) k (put_flags s (flags_written v)) is_out) (refl, refl))))
 
 fixed_quiet : (device : Device) (a : Option ℕ) (pc : ℕ) (k : NodeKey) (s : AbsState) (v : AbsByte) → Quiet (fixed_write a (write_at device pc k s v))
@@ -126,7 +127,7 @@ waking_quiet false device A k s r h = h
 pub pointer_quiet : (device : Device) (task : Task) (was : AbsState) (r up : ℕ) (pc : ℕ) (k : NodeKey) (s : AbsState) (v : AbsByte)
     → Quiet (pointer_write task was r up (write_at device pc k s v))
 pointer_quiet device task was r up pc k s v =
-    if_quiet (is_fixed_site task.flash task.assumptions pc) _ _ (fixed_quiet device (pointed was r up).constant pc k s v) (waking_quiet (may_wake task.assumptions was r up (write_at device pc k s v)) device task.assumptions k s _ (refl, refl))
+    if_quiet (is_fixed_site task.flash task.assumptions pc) _ _ (fixed_quiet device (pointed (view_by device k) was r up).constant pc k s v) (waking_quiet (may_wake task.assumptions was r up (write_at device pc k s v)) device task.assumptions k s _ (refl, refl))
 
 pub jumping_quiet : (targets : Option (List ℕ)) (k : NodeKey) (s : AbsState) → Quiet (jumping targets k s)
 jumping_quiet None k s = (refl, refl)
@@ -140,7 +141,7 @@ pub pushing_quiet : (device : Device) (scratch : Bool) (k : NodeKey) (s : AbsSta
 pushing_quiet device scratch k s r offset = if_quiet (nat_le (offset + 1) (size_of device)) _ _ (refl, refl) (refl, refl)
 
 pub room_quiet : (device : Device) (k : NodeKey) (s : AbsState) (target offset : ℕ) → Quiet (making_room (site_at device k s) target offset)
-room_quiet device k s target offset = if_quiet (nat_le (offset + 2) (size_of device)) _ _ (refl, refl) (refl, refl)
+room_quiet device k s target offset = if_quiet (nat_le (offset + back_of device) (size_of device)) _ _ (refl, refl) (refl, refl)
 
 pub popping_quiet : (device : Device) (k : NodeKey) (s : AbsState) (d offset : ℕ) → Quiet (popping (site_at device k s) d offset)
 popping_quiet device k s d zero = (refl, refl)

@@ -7,13 +7,13 @@ use Rattle.std.proofs.lemmas.List.{get_or_past}
 use Rattle.std.proofs.lemmas.List.Elements.{All-get_or}
 use Rattle.std.specs.Int.{bit_at, from_bool}
 use Rattle.abs_alu.proofs.AllLaws.{any_has}
-use Rattle.local_laws.proofs.Machine.{io_value, io_small, free_bit, free_small}
+use Rattle.local_laws.proofs.Machine.{sp_small, high_small, io_value, io_small, free_bit, free_small}
 use Rattle.avr_model.proofs.AllLaws.{devices_are_alike}
-use Rattle.avr_model.specs.Devices.{io_end, ramend}
+use Rattle.avr_model.specs.Devices.{io_end, ramend, has_sph}
 use Rattle.avr_model.specs.declared.device.Device.{Device}
 use Rattle.avr_model.specs.Sreg.{flag}
 use Rattle.avr_model.specs.Vectors.{enable_of, held_of, has_enables, is_ivsel, io_bit, io_byte, kept_byte}
-use Rattle.avr_model.specs.State.{State, register, read, sram_at, byte_in, is_live, is_sram, SPL, SPH, SREG, low, high, minus16}
+use Rattle.avr_model.specs.State.{State, register, read, sram_at, byte_in, is_live, is_sram, SPL, SREG, is_sph, low, high, minus16}
 use Rattle.vector_table.proofs.AllLaws.{enables_are_vectors, numbers_are_their_bits}
 use Rattle.bit_domain.specs.declared.bits.Tri.{Tri}
 use Rattle.bit_domain.specs.declared.bits.Tri.TheVariants.{Zero}
@@ -179,7 +179,7 @@ module _ {may : Bool} (m : State) (o : Origin) (k : NodeKey) (s : AbsState) (at 
   read_small a input lt =
       small_by_test _ (register m a) _ (register_byte m o k s at a)
       (small_by_test _ (low m.sp) _ (omega arith)
-      (small_by_test _ (high m.sp) _ (omega (arith, at.machine.sp_word))
+      (small_by_test _ (high m.sp) _ (high_small (has_sph m.device) m.sp at.machine.sp_fits)
       (small_by_test _ m.sreg _ at.machine.sreg_byte
       (small_by_test _ (io_byte m.device may m.enables a input) _ (io_small m.device may m.enables a input)
       (small_by_test _ (sram_at m a) input (byte_small a) lt)))))
@@ -239,7 +239,7 @@ module _ {may : Bool} (m : State) (o : Origin) (k : NodeKey) (s : AbsState) (at 
   unfolding read read_at
   read_stands a input lt =
       by_test o _ _ _ _ _ (register_stands m o k s at a)
-      (by_test o (a == SPL) _ _ _ _ (low_stands m.device o at.base_word m.is_open m.sp at.machine.sp_word k.inst.kind k.sp at.root at.place.sp)
-      (by_test o (a == SPH) _ _ _ _ (high_stands m.device o at.base_word m.is_open m.sp at.machine.sp_word k.inst.kind k.sp at.root at.place.sp)
+      (by_test o (a == SPL) _ _ _ _ (low_stands m.device o at.base_word m.is_open m.sp (sp_small (has_sph m.device) m.sp at.machine.sp_fits) k.inst.kind k.sp at.root at.place.sp)
+      (by_test o (is_sph m.device a) _ _ _ _ (high_stands m.device o at.base_word m.is_open m.sp (sp_small (has_sph m.device) m.sp at.machine.sp_fits) k.inst.kind k.sp at.root at.place.sp)
       (by_test o (a == SREG) _ _ _ _ sreg_stands
       (by_test o (nat_le a (io_end m.device)) _ _ _ _ (io_stands a input) (kind_slot k.inst.kind a input lt at.root)))))

@@ -1,15 +1,15 @@
 -- Pushed and popped bytes, and calls of a compiler's small frame.
-use Rattle.std.proofs.Common.{◌≡◌, refl, sym, ap, ◌∙◌, subst, ℕ, zero, suc, ◌+◌, ◌-◌, ◌<◌, ◌≤◌, ◌==◌, ◌&&◌, Bool, true, false, not, nat_lt, nat_le, if◌then◌else◌, [], ◌∷◌, ◌++◌, take, length, arith, length-take, ap₂}
+use Rattle.std.proofs.Common.{◌≡◌, refl, sym, ap, ◌∙◌, subst, ℕ, zero, suc, ◌+◌, ◌-◌, ◌<◌, ◌≤◌, ◌==◌, ◌&&◌, Bool, true, false, not, nat_lt, nat_le, if◌then◌else◌, ◌%◌, List, [], ◌∷◌, ◌++◌, take, length, replicate, arith, length-take, ap₂}
 use Rattle.std.proofs.lemmas.Bool.Decides.{nat_tests}
-use Rattle.std.proofs.lemmas.List.{append_assoc}
+use Rattle.std.proofs.lemmas.List.{append_assoc, append-nil}
 use Rattle.basics.specs.Items.{first_in}
 use Rattle.avr_model.proofs.AllLaws.{devices_are_alike}
-use Rattle.avr_model.specs.Devices.{io_end, size_of, ramend, wrapped}
+use Rattle.avr_model.specs.Devices.{io_end, size_of, ramend, back_of, has_sph, sp_count, wrapped}
 use Rattle.avr_model.specs.declared.device.Device.{Device}
 use Rattle.avr_model.specs.declared.effect.Effect.{Effect}
 use Rattle.avr_model.specs.Sreg.{flag}
-use Rattle.avr_model.specs.State.{State, Memory, register, sram_at, is_sram, is_live, plus16, minus16, low, read, SPL, SPH, SREG}
-use Rattle.avr_model.specs.Effects.{further, calling, way_back, push_effect, pop_effect}
+use Rattle.avr_model.specs.State.{State, Memory, register, sram_at, is_sram, is_live, plus_sp, minus_sp, low, high, read, SPL, SREG, is_sph}
+use Rattle.avr_model.specs.Effects.{further, calling, back_bytes, pushed_from, push_effect, pop_effect}
 use Rattle.avr_model.specs.Step.{after, memory_after, all_inside}
 use Rattle.sp_domain.specs.declared.slots.Slot.{Slot}
 use Rattle.sp_domain.specs.declared.slots.Slot.TheVariants.{Free, Guarded}
@@ -48,19 +48,43 @@ and_true a e = grind arith
 first_true : (a : Bool) → (a && true) ≡ true → a ≡ true
 first_true a e = grind arith
 
-inside_two : (device : Device) (sp offset base word : ℕ) → sp + offset ≡ base → base ≤ ramend device → ramend device + (offset + 2) ≤ base + size_of device
-    → all_inside device (way_back sp word) ≡ true
-inside_two device sp offset base word e low room =
-    let few = devices_are_alike.most_bytes device in
-    let io = devices_are_alike.most_io device in
-    let next_one : minus16 sp 1 + 1 ≡ sp = omega (arith, few, e, low, room) in
+-- within its numbers the stack pointer moves as a number does
+down_by : (has_high : Bool) (sp k : ℕ) → k ≤ sp → k < 256 → sp < (if has_high then 65536 else 256)
+    → (sp + ((if has_high then 65536 else 256) - k % (if has_high then 65536 else 256))) % (if has_high then 65536 else 256) + k ≡ sp
+down_by true sp k le small fits = omega arith
+down_by false sp k le small fits = omega arith
+
+pub sp_down : (device : Device) (sp k : ℕ) → k ≤ sp → k < 256 → sp < sp_count device → minus_sp device sp k + k ≡ sp
+sp_down device sp k le small fits = down_by (has_sph device) sp k le small fits
+
+up_by : (has_high : Bool) (sp k : ℕ) → sp + k < (if has_high then 65536 else 256) → (sp + k) % (if has_high then 65536 else 256) ≡ sp + k
+up_by true sp k fits = omega arith
+up_by false sp k fits = omega arith
+
+pub sp_up : (device : Device) (sp k : ℕ) → sp + k < sp_count device → plus_sp device sp k ≡ sp + k
+sp_up device sp k fits = up_by (has_sph device) sp k fits
+
+-- the pushed bytes of a word lie in SRAM
+pub inside_pushed : (device : Device) (n sp offset base word : ℕ) → sp + offset ≡ base → base ≤ ramend device → ramend device + (offset + n) ≤ base + size_of device
+    → all_inside device (pushed_from device sp (back_bytes n word)) ≡ true
+inside_pushed device zero sp offset base word e low room = refl
+inside_pushed device (suc n) sp offset base word e low room =
+    let fits : sp < sp_count device = omega (arith, devices_are_alike.in_sp device, e, low) in
+    let some : 1 ≤ sp = omega (arith, e, low, room) in
+    let next_one : minus_sp device sp 1 + 1 ≡ sp = sp_down device sp 1 some (omega arith) fits in
     let here : is_sram device sp ≡ true = inside_one device sp offset base e low (omega (arith, room)) in
-    let there : is_sram device (minus16 sp 1) ≡ true = inside_one device (minus16 sp 1) (offset + 1) base (omega (arith, next_one, e)) low (omega (arith, room)) in
-    ap₂ (λ (a b : Bool). a && (b && true)) here there
+    let there = inside_pushed device n (minus_sp device sp 1) (offset + 1) base (high word) (omega (arith, next_one, e)) low (omega (arith, room)) in
+    ap₂ (λ (a b : Bool). a && b) here there
+
+-- free slots hold
+freed : (o : Origin) (memory : Memory) (n : ℕ) (slots : List (Slot AbsByte)) → SlotsStand o memory slots → SlotsStand o memory (slots ++ replicate n Free)
+freed o memory zero slots h = subst (SlotsStand o memory) (sym (append-nil slots)) h
+freed o memory (suc n) slots h =
+    subst (SlotsStand o memory) (append_assoc slots (Free ∷ []) (replicate n Free)) (freed o memory n (slots ++ Free ∷ []) (slots_follow.pushed o memory slots Free h tt))
 
 -- the byte of an address in SRAM
 in_sram : (device : Device) (a r l h f i b x : ℕ) → is_sram device a ≡ true
-    → (if nat_lt a 0x20 then r else (if a == SPL then l else (if a == SPH then h else (if a == SREG then f else (if nat_le a (io_end device) then i else (if is_sram device a then b else x)))))) ≡ b
+    → (if nat_lt a 0x20 then r else (if a == SPL then l else (if is_sph device a then h else (if a == SREG then f else (if nat_le a (io_end device) then i else (if is_sram device a then b else x)))))) ≡ b
 in_sram device a r l h f i b x inside = grind (arith, nat_tests, devices_are_alike.least_io device)
 
 live_read : (still : Bool) (m : State) (a input : ℕ) → m.memory.below ≡ io_end m.device → length m.memory.live ≡ size_of m.device → is_live m.memory a ≡ true → read still m a input ≡ sram_at m a
@@ -100,21 +124,22 @@ module _ {may : Bool} (m : State) (o : Origin) (k : NodeKey) (s : AbsState) (at 
     popped d (suc n) small spare form none =
         let sp = sp_is (suc n) form in
         let slots = count (suc n) form in
-        let address : o.base - n ≡ plus16 m.sp 1 = omega (arith, at.base_word) in
+        let up : plus_sp m.device m.sp 1 ≡ m.sp + 1 = sp_up m.device m.sp 1 (omega (arith, sp, at.top, devices_are_alike.in_sp m.device)) in
+        let address : o.base - n ≡ plus_sp m.device m.sp 1 = omega (arith, sp, up) in
         only m o k s at guarded b1 b2 (pop_effect may m d b1)
         (record { key = record (next m.device k) { sp = Closed n }; state = record s { registers = node_set s d (value_of (slot_at s.slots n)); slots = take n s.slots } }) refl
         (record {
           lands = λ held. record {
             inside = λ room. refl;
-            place = λ within. record { pc = next_is m o k s at; enables = at.place.enables; i = at.place.i; delay = refl; sp = (refl, omega (arith, at.base_word)) };
-            registers = set_one m o k s at d (value_of (slot_at s.slots n)) (read may m (plus16 m.sp 1) b1)
-                (slot_read may m o (plus16 m.sp 1) b1 (slot_at s.slots n) at.machine.below at.machine.count_live (read_small m o k s at (plus16 m.sp 1) b1 small)
+            place = λ within. record { pc = next_is m o k s at; enables = at.place.enables; i = at.place.i; delay = refl; sp = (refl, omega (arith, sp, up)) };
+            registers = set_one m o k s at d (value_of (slot_at s.slots n)) (read may m (plus_sp m.device m.sp 1) b1)
+                (slot_read may m o (plus_sp m.device m.sp 1) b1 (slot_at s.slots n) at.machine.below at.machine.count_live (read_small m o k s at (plus_sp m.device m.sp 1) b1 small)
                 (subst (λ a. SlotStands o m.memory a (slot_at s.slots n)) address (at.stands.slots n (omega arith))));
             flags = at.stands.flags;
-            less = less_set m.registers s.flags.carry (flag m.sreg 0) d (read may m (plus16 m.sp 1) b1) spare at.stands.less;
+            less = less_set m.registers s.flags.carry (flag m.sreg 0) d (read may m (plus_sp m.device m.sp 1) b1) spare at.stands.less;
             facts = held;
             slots = λ within inside kept.
-                slots_follow.kept o m.memory (after m guarded (pop_effect may m d b1)).memory (plus16 m.sp 1) (take n s.slots) kept (omega (arith, at.base_word, length-take n s.slots))
+                slots_follow.kept o m.memory (after m guarded (pop_effect may m d b1)).memory (plus_sp m.device m.sp 1) (take n s.slots) kept (omega (arith, sp, up, length-take n s.slots))
                 (slots_follow.taken o m.memory s.slots n at.stands.slots);
           };
         })
@@ -125,12 +150,12 @@ module _ {may : Bool} (m : State) (o : Origin) (k : NodeKey) (s : AbsState) (at 
   module _ (scratch : Bool) (b1 b2 : ℕ) where
     -- ---- push
 
-    pushed_stands : (b : Bool) (r : ℕ) → is_sram m.device m.sp ≡ true → minus16 m.sp 1 < m.sp
-        → SlotStands o (memory_after m.memory (not b) false (minus16 m.sp 1) [] (record { address = m.sp; byte = register m r } ∷ [])) m.sp (pushed_slot b (value s r))
+    pushed_stands : (b : Bool) (r : ℕ) → is_sram m.device m.sp ≡ true → minus_sp m.device m.sp 1 < m.sp
+        → SlotStands o (memory_after m.memory (not b) false (minus_sp m.device m.sp 1) [] (record { address = m.sp; byte = register m r } ∷ [])) m.sp (pushed_slot b (value s r))
     pushed_stands true r inside lt = tt
     pushed_stands false r inside lt = (
-      pushed_live m.device m.memory (minus16 m.sp 1) at.machine.below at.machine.count_bytes at.machine.count_live m.sp (register m r) inside lt,
-      subst (ByteStands o (value s r)) (sym (pushed_byte m.device m.memory (minus16 m.sp 1) at.machine.below at.machine.count_bytes at.machine.count_live true m.sp (register m r) inside)) (register_stands m o k s at r),
+      pushed_live m.device m.memory (minus_sp m.device m.sp 1) at.machine.below at.machine.count_bytes at.machine.count_live m.sp (register m r) inside lt,
+      subst (ByteStands o (value s r)) (sym (pushed_byte m.device m.memory (minus_sp m.device m.sp 1) at.machine.below at.machine.count_bytes at.machine.count_live true m.sp (register m r) inside)) (register_stands m o k s at r),
     )
 
     pushed : (r offset : ℕ) → k.sp ≡ Closed offset → (pushing scratch (site_at m.device k s) r offset).faults ≡ [] → FollowsWhere may m o s.facts k (not scratch) b1 b2 (push_effect m r) (pushing scratch (site_at m.device k s) r offset)
@@ -138,21 +163,22 @@ module _ {may : Bool} (m : State) (o : Origin) (k : NodeKey) (s : AbsState) (at 
         let sp = sp_is offset form in
         let slots = count offset form in
         let new = (after m (not scratch) (push_effect m r)).memory in
+        let down : offset + 1 ≤ o.base → minus_sp m.device m.sp 1 + 1 ≡ m.sp = λ within. sp_down m.device m.sp 1 (omega (arith, sp, within)) (omega arith) at.machine.sp_fits in
         with_room (not scratch) b1 b2 (offset + 1) _ (push_effect m r) none
         (only m o k s at (not scratch) b1 b2 (push_effect m r)
         (record { key = record (next m.device k) { sp = Closed (offset + 1) }; state = record s { slots = s.slots ++ pushed_slot scratch (value s r) ∷ [] } }) refl
         (record {
           lands = λ held. record {
             inside = λ room. and_true (is_sram m.device m.sp) (inside_one m.device m.sp offset o.base sp room.0 room.1);
-            place = λ within. record { pc = next_is m o k s at; enables = at.place.enables; i = at.place.i; delay = refl; sp = (refl, omega (arith, at.machine.sp_word)) };
+            place = λ within. record { pc = next_is m o k s at; enables = at.place.enables; i = at.place.i; delay = refl; sp = (refl, omega (arith, sp, down within)) };
             registers = at.stands.registers;
             flags = at.stands.flags;
             less = at.stands.less;
             facts = held;
             slots = λ within inside kept.
-                let here : m.sp ≡ o.base - length s.slots = omega (arith, at.machine.sp_word) in
-                let lt : minus16 m.sp 1 < m.sp = omega (arith, at.machine.sp_word) in
-                slots_follow.pushed o new s.slots (pushed_slot scratch (value s r)) (kept_below offset (minus16 m.sp 1) new form (omega (arith, at.machine.sp_word)) kept)
+                let here : m.sp ≡ o.base - length s.slots = omega (arith, sp, slots) in
+                let lt : minus_sp m.device m.sp 1 < m.sp = omega (arith, down within) in
+                slots_follow.pushed o new s.slots (pushed_slot scratch (value s r)) (kept_below offset (minus_sp m.device m.sp 1) new form (omega (arith, sp, down within)) kept)
                 (subst (λ a. SlotStands o new a (pushed_slot scratch (value s r))) here (pushed_stands scratch r (first_true (is_sram m.device m.sp) inside) lt));
           };
         }))
@@ -169,21 +195,21 @@ module _ {may : Bool} (m : State) (o : Origin) (k : NodeKey) (s : AbsState) (at 
         let sp = sp_is offset form in
         let slots = count offset form in
         let new = (after m (not scratch) (calling m target (further m 1))).memory in
-        with_room (not scratch) b1 b2 (offset + 2) _ (calling m target (further m 1)) none
+        let back : ℕ = back_of m.device in
+        let down : offset + back ≤ o.base → minus_sp m.device m.sp back + back ≡ m.sp = λ within.
+        sp_down m.device m.sp back (omega (arith, sp, within)) (omega (arith, devices_are_alike.most_back m.device)) at.machine.sp_fits in
+        with_room (not scratch) b1 b2 (offset + back) _ (calling m target (further m 1)) none
         (only m o k s at (not scratch) b1 b2 (calling m target (further m 1))
-        (record { key = record (at_word k target') { sp = Closed (offset + 2) }; state = record s { slots = s.slots ++ Free ∷ Free ∷ [] } }) refl
+        (record { key = record (at_word k target') { sp = Closed (offset + back) }; state = record s { slots = s.slots ++ replicate back Free } }) refl
         (record {
           lands = λ held. record {
-            inside = λ room. inside_two m.device m.sp offset o.base (further m 1) sp room.0 room.1;
-            place = λ within. record { pc = is; enables = at.place.enables; i = at.place.i; delay = refl; sp = (refl, omega (arith, at.machine.sp_word)) };
+            inside = λ room. inside_pushed m.device back m.sp offset o.base (further m 1) sp room.0 room.1;
+            place = λ within. record { pc = is; enables = at.place.enables; i = at.place.i; delay = refl; sp = (refl, omega (arith, sp, down within)) };
             registers = at.stands.registers;
             flags = at.stands.flags;
             less = at.stands.less;
             facts = held;
-            slots = λ within inside kept.
-                subst (SlotsStand o new) (append_assoc s.slots (Free ∷ []) (Free ∷ []))
-                (slots_follow.pushed o new (s.slots ++ Free ∷ []) Free
-                (slots_follow.pushed o new s.slots Free (kept_below offset (minus16 m.sp 2) new form (omega (arith, at.machine.sp_word)) kept) tt) tt);
+            slots = λ within inside kept. freed o new back s.slots (kept_below offset (minus_sp m.device m.sp back) new form (omega (arith, sp, down within)) kept);
           };
         }))
 

@@ -1,19 +1,19 @@
 -- A byte written to a known address: the rows cover the machine's step.
 use Rattle.std.proofs.Common.{◌≡◌, refl, sym, ◌∙◌, ap, ap₂, subst, ℕ, ◌+◌, ◌-◌, ◌*◌, ◌^◌, ◌<◌, ◌≤◌, Bool, true, false, not, ◌&&◌, nat_lt, nat_le, if◌then◌else◌, ◌==◌, List, [], ◌∷◌, length, Option, Some, None, slice_set, slice_index, arith, Contains, eqb-true, eq-eqb, ltb-true, ne_eqb, ◌≢◌, subst₂}
-use Rattle.std.proofs.lemmas.Bool.{or_parts}
+use Rattle.std.proofs.lemmas.Bool.{and_parts, or_parts}
 use Rattle.std.proofs.lemmas.Grind.{elements}
 use Rattle.std.proofs.lemmas.Bool.Decides.{nat_tests}
 use Rattle.std.proofs.lemmas.Nat.Bits.{bit_at-lt, same_from_bits_below}
 use Rattle.std.specs.Int.{bit_at}
 use Rattle.basics.specs.Items.{first_in}
 use Rattle.avr_model.specs.declared.device.Device.{Device}
-use Rattle.avr_model.specs.Devices.{size_of}
+use Rattle.avr_model.specs.Devices.{size_of, has_sph}
 use Rattle.avr_model.specs.declared.effect.Write.{Write}
 use Rattle.avr_model.specs.declared.effect.Effect.{Effect}
 use Rattle.avr_model.specs.Bits.{number_of}
 use Rattle.avr_model.specs.Sreg.{flag}
-use Rattle.avr_model.specs.Vectors.{enable_count, has_enables, place_at, written_enable, written_enables}
-use Rattle.avr_model.specs.State.{State, SPL, SPH, SREG, low, high, i_flag}
+use Rattle.avr_model.specs.Vectors.{enable_count, is_core_by, has_enables, place_at, written_enable, written_enables}
+use Rattle.avr_model.specs.State.{State, SPL, SPH, SREG, is_sph, low, high, i_flag}
 use Rattle.avr_model.specs.Effects.{set, delay_of_out}
 use Rattle.avr_model.specs.Step.{after, with_registers, registers_after, sreg_after}
 use Rattle.vector_table.specs.Laws.{AreBits}
@@ -34,7 +34,7 @@ use Rattle.abs_state.specs.declared.values.AbsByte.{AbsByte}
 use Rattle.abs_state.specs.declared.state.AbsState.{AbsState}
 use Rattle.pair_domain.specs.declared.facts.PairFacts.{PairFacts}
 use Rattle.pair_domain.proofs.AllLaws.{known_is_ordered}
-use Rattle.abs_state.specs.Laws.{HoldsAt}
+use Rattle.abs_state.specs.Laws.{Keeps, HoldsAt}
 use Rattle.abs_state.specs.Ended.{is_one_of, ended, written_hull}
 use Rattle.abs_state.specs.Stands.{ByteStands, EntryHolds, FlagsStand, RegistersStand}
 use Rattle.abs_state.proofs.AllLaws.{bits_make_values, values_say_less, slots_follow, writes_end_facts}
@@ -42,12 +42,13 @@ use Rattle.mask_states.specs.declared.keys.NodeKey.{NodeKey}
 use Rattle.mask_states.specs.declared.keys.High.{High}
 use Rattle.mask_states.specs.declared.keys.SpForm.TheVariants.{Closed, Open}
 use Rattle.mask_states.specs.Keys.{offset_of}
-use Rattle.mask_states.specs.Place.{EnablesAre}
+use Rattle.mask_states.specs.Place.{EnablesAre, SpIs}
 use Rattle.mask_states.specs.Splits.{splits}
 use Rattle.local_rules.specs.declared.local.Node.{Node}
 use Rattle.local_rules.specs.declared.local.NodeFault.TheVariants.{TooDeep}
 use Rattle.local_rules.specs.Raw.{Raw, at_word, one, fails}
 use Rattle.local_rules.specs.Writes.{high_part, opening, closing_offset, closing, is_entry_flags, flags_written, with_i, sreg_written, masks_written, register_written as node_written, put_flags, written_at}
+use Rattle.local_rules.specs.Machine.{floor_of}
 use Rattle.local_laws.proofs.Bare.{InBareFrame}
 use Rattle.local_laws.proofs.Landing.{ArrivesWhere}
 use Rattle.local_laws.proofs.Enables.{IsIo, io_written, same_enables, written_both}
@@ -102,8 +103,8 @@ above_registers device a lt = enables_are_vectors.core device a (grind (arith, n
 spl_holds_none : (device : Device) → has_enables device SPL ≡ false
 spl_holds_none device = enables_are_vectors.core device SPL refl
 
-sph_holds_none : (device : Device) → has_enables device SPH ≡ false
-sph_holds_none device = enables_are_vectors.core device SPH refl
+sph_holds_none : (device : Device) → has_sph device ≡ true → has_enables device SPH ≡ false
+sph_holds_none device told = enables_are_vectors.core device SPH (ap (λ (b : Bool). is_core_by b SPH) told)
 
 sreg_holds_none : (device : Device) → has_enables device SREG ≡ false
 sreg_holds_none device = enables_are_vectors.core device SREG refl
@@ -175,7 +176,7 @@ module _ {may : Bool} (m : State) (o : Origin) (k : NodeKey) (s : AbsState) (at 
   chosen e false r q h g clean = g refl clean
 
   -- an address outside the stack pointer and the status register
-  pub elsewhere : (a byte masks : ℕ) (values : List AbsByte) (c : CarryTag) (x : Option PairFacts) → IsCarryWithin s.flags.carry c → (a == SPL) ≡ false → (a == SPH) ≡ false → (a == SREG) ≡ false
+  pub elsewhere : (a byte masks : ℕ) (values : List AbsByte) (c : CarryTag) (x : Option PairFacts) → IsCarryWithin s.flags.carry c → (a == SPL) ≡ false → is_sph m.device a ≡ false → (a == SREG) ≡ false
       → EnablesAre may (written_enables m.device m.enables a byte) masks
       → RegistersStand o values (registers_after (with_registers m.registers writes) (set a byte))
       → LessHolds (registers_after (with_registers m.registers writes) (set a byte)) c (flag m.sreg 0)
@@ -187,8 +188,8 @@ module _ {may : Bool} (m : State) (o : Origin) (k : NodeKey) (s : AbsState) (at 
       let sreg : sreg_after m.sreg (set a byte) ≡ m.sreg = not_chosen (a == SREG) byte m.sreg not_sreg in
       frame_kept m o k s at told guarded (stored m pc writes is_out a byte)
       (record { key = record key { masks = masks }; state = record s { registers = values; flags = record s.flags { carry = c }; facts = x } }) refl refl refl
-      (neither (a == SPL) (a == SPH) (256 * high m.sp + byte) (256 * byte + low m.sp) m.sp not_low not_high)
-      (neither (a == SPL) (a == SPH) false true m.is_open not_low not_high)
+      (neither (a == SPL) (is_sph m.device a) (256 * high m.sp + byte) (256 * byte + low m.sp) m.sp not_low not_high)
+      (neither (a == SPL) (is_sph m.device a) false true m.is_open not_low not_high)
       pc_is enables (ap (λ x. flag x 7) sreg ∙ at.place.i) (no_delay is_out (a == SREG) (flag byte 7) (not (i_flag m)) not_sreg)
       values_stand (subst (FlagsStand o (record s.flags { carry = c })) (sym sreg) flags)
       (subst (λ (x : ℕ). LessHolds (registers_after (with_registers m.registers writes) (set a byte)) c (flag x 0)) (sym sreg) still) known
@@ -209,7 +210,7 @@ module _ {may : Bool} (m : State) (o : Origin) (k : NodeKey) (s : AbsState) (at 
       (sym (not_chosen (a == SREG) byte m.sreg not_sreg)) held
 
   -- one of the splits, for these enable bits
-  split_lands : (a byte left : ℕ) (v : AbsByte) → nat_lt a 0x20 ≡ false → (a == SPL) ≡ false → (a == SPH) ≡ false → (a == SREG) ≡ false
+  split_lands : (a byte left : ℕ) (v : AbsByte) → nat_lt a 0x20 ≡ false → (a == SPL) ≡ false → is_sph m.device a ≡ false → (a == SREG) ≡ false
       → Contains (splits m.device k.masks a v.bits) left → EnablesAre may (written_enables m.device m.enables a byte) left
       → ReachesNode may m o told k guarded (stored m pc writes is_out a byte) (masks_written m.device key state a v)
   split_lands a byte left v beyond not_low not_high not_sreg present enables =
@@ -234,7 +235,7 @@ module _ {may : Bool} (m : State) (o : Origin) (k : NodeKey) (s : AbsState) (at 
     pub enables_stay : (a : ℕ) → has_enables m.device a ≡ false → EnablesAre may (written_enables m.device m.enables a byte) k.masks
     enables_stay a none = same_enables may (written_enables m.device m.enables a byte) m.enables k.masks (enables_kept m.device m.enables a byte at.machine.enable_bits none) at.place.enables
 
-    register_written : (a : ℕ) → nat_lt a 0x20 ≡ true → (a == SPL) ≡ false → (a == SPH) ≡ false → (a == SREG) ≡ false
+    register_written : (a : ℕ) → nat_lt a 0x20 ≡ true → (a == SPL) ≡ false → is_sph m.device a ≡ false → (a == SREG) ≡ false
         → ArrivesWhere may m o told guarded (stored m pc writes is_out a byte) (record { key = key; state = node_written state a v })
     register_written a here not_low not_high not_sreg =
         let lt : a < 0x20 = ltb-true a 0x20 here in
@@ -263,7 +264,7 @@ module _ {may : Bool} (m : State) (o : Origin) (k : NodeKey) (s : AbsState) (at 
     closed_lands : (n : ℕ) → closing_offset m.device k.inst.kind k.sp v ≡ Some n
         → ArrivesWhere may m o told guarded (stored m pc writes is_out SPL byte) (record { key = record key { sp = Closed n }; state = record state { slots = resized n s.slots } })
     closed_lands n e =
-        let at_base : n ≤ o.base → 256 * high m.sp + byte + n ≡ o.base = closes m.device o at.base_word m.is_open m.sp byte n small v stands k.inst.kind k.sp e at.place.sp at.root in
+        let at_base : n ≤ o.base → 256 * high m.sp + byte + n ≡ o.base = closes m.device o at.top at.base_word m.is_open m.sp at.machine.sp_fits byte n small v stands k.inst.kind k.sp e at.place.sp at.root in
         record {
           lands = λ held. record {
             inside = λ room. refl;
@@ -295,9 +296,16 @@ module _ {may : Bool} (m : State) (o : Origin) (k : NodeKey) (s : AbsState) (at 
 
     -- ---- SPH
 
-    opened_lands : (h : High) → high_part k.inst.kind v ≡ Some h
+    -- the stack pointer after such a write, with a high byte or without
+    abbrev left_open : Bool → Bool
+    left_open has_high = if has_high then true else m.is_open
+
+    abbrev left_sp : Bool → ℕ
+    left_sp has_high = if has_high then 256 * byte + low m.sp else m.sp
+
+    opened_lands : has_sph m.device ≡ true → (h : High) → high_part k.inst.kind v ≡ Some h
         → ArrivesWhere may m o told guarded (stored m pc writes is_out SPH byte) (record { key = record key { sp = Open (offset_of k.sp) h }; state = state })
-    opened_lands h e =
+    opened_lands there h e =
         let place = opened o k.inst.kind v byte h m.is_open m.sp k.sp at.base_word small e stands at.place.sp in
         record {
           lands = λ held. record {
@@ -305,25 +313,26 @@ module _ {may : Bool} (m : State) (o : Origin) (k : NodeKey) (s : AbsState) (at 
             place = λ within.
                 record {
                   pc = pc_is;
-                  enables = enables_stay SPH (sph_holds_none m.device);
+                  enables = enables_stay SPH (sph_holds_none m.device there);
                   i = at.place.i;
                   delay = no_delay is_out false (flag byte 7) (not (i_flag m)) refl;
-                  sp = place;
+                  sp = subst (λ (b : Bool). SpIs o.base (left_open b) (left_sp b) (Open (offset_of k.sp) h)) (sym there) place;
                 };
             registers = stand;
             flags = at.stands.flags;
             less = less;
             facts = held;
             slots = λ within inside kept d lt.
-                slot_kept o m.memory (after m guarded (stored m pc writes is_out SPH byte)).memory 0 (o.base - d) (slot_at s.slots d) kept
+                slot_kept o m.memory (after m guarded (stored m pc writes is_out SPH byte)).memory 0 (o.base - d) (slot_at s.slots d)
+                (subst (Keeps m.memory (after m guarded (stored m pc writes is_out SPH byte)).memory) (ap (λ (b : Bool). floor_of (left_open b) (left_sp b)) there) kept)
                 (above_floor o.base (256 * byte + low m.sp) d m.memory true (Open (offset_of k.sp) h) place (omega (arith, at.node.formed.count_slots))) (at.stands.slots d lt);
           };
         }
 
-    opened_written : (h : Option High) → high_part k.inst.kind v ≡ h → (opening h key state k.pc).faults ≡ []
+    opened_written : has_sph m.device ≡ true → (h : Option High) → high_part k.inst.kind v ≡ h → (opening h key state k.pc).faults ≡ []
         → ReachesNode may m o told k guarded (stored m pc writes is_out SPH byte) (opening h key state k.pc)
-    opened_written None e clean = absurd (cc)
-    opened_written (Some h) e clean = only (stored m pc writes is_out SPH byte) _ refl (opened_lands h e)
+    opened_written there None e clean = absurd (cc)
+    opened_written there (Some h) e clean = only (stored m pc writes is_out SPH byte) _ refl (opened_lands there h e)
 
     -- ---- SREG
 
@@ -367,7 +376,7 @@ module _ {may : Bool} (m : State) (o : Origin) (k : NodeKey) (s : AbsState) (at 
 
     -- ---- enable bits, and all other addresses
 
-    masks_lands : AreSplitsWritten → (a : ℕ) → nat_lt a 0x20 ≡ false → (a == SPL) ≡ false → (a == SPH) ≡ false → (a == SREG) ≡ false
+    masks_lands : AreSplitsWritten → (a : ℕ) → nat_lt a 0x20 ≡ false → (a == SPL) ≡ false → is_sph m.device a ≡ false → (a == SREG) ≡ false
         → ReachesNode may m o told k guarded (stored m pc writes is_out a byte) (masks_written m.device key state a v)
     masks_lands members a beyond not_low not_high not_sreg =
         let left : ℕ = written_enables m.device k.masks a byte in
@@ -385,11 +394,12 @@ module _ {may : Bool} (m : State) (o : Origin) (k : NodeKey) (s : AbsState) (at 
     written members a clean =
         let e = stored m pc writes is_out a byte in
         chosen e (nat_lt a 0x20) (one key (node_written state a v)) _
-        (λ here rest. only e _ refl (register_written a here (not_same a SPL here (omega arith)) (not_same a SPH here (omega arith)) (not_same a SREG here (omega arith))))
+        (λ here rest. only e _ refl (register_written a here (not_same a SPL here (omega arith)) (ap (λ (b : Bool). b && has_sph m.device) (not_same a SPH here (omega arith))) (not_same a SREG here (omega arith))))
         (λ beyond.
         chosen e (a == SPL) (closing m.device (closing_offset m.device k.inst.kind k.sp v) key state k.pc) _ (λ here rest.
         at_address a SPL _ here (closed_written (closing_offset m.device k.inst.kind k.sp v) refl rest)) (λ not_low.
-        chosen e (a == SPH) (opening (high_part k.inst.kind v) key state k.pc) _ (λ here rest.
-        at_address a SPH _ here (opened_written (high_part k.inst.kind v) refl rest)) (λ not_high.
+        chosen e (is_sph m.device a) (opening (high_part k.inst.kind v) key state k.pc) _ (λ here rest.
+        let parts = and_parts (a == SPH) (has_sph m.device) here in
+        at_address a SPH _ parts.0 (opened_written parts.1 (high_part k.inst.kind v) refl rest)) (λ not_high.
         chosen e (a == SREG) (sreg_written (tri_at v.bits 7) key flagged is_out) _ (λ here rest.
         at_address a SREG _ here (sreg_by (tri_at v.bits 7) (stands.bits 7 (omega arith)))) (λ not_sreg rest. masks_lands members a beyond not_low not_high not_sreg)))) clean

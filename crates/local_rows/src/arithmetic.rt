@@ -7,12 +7,13 @@ ghost use Rattle.abs_state.specs.Values.{untagged};
 ghost use Rattle.local_rules.specs.Registers.{both_set, with_carry, sum_tagged, step_tagged, compare_after, difference_after, sub_after, sbc_after, logic_after, low_tag, borrow_tag, or_nothing, less_than, less_kept, carry_bit, product_after, wide_after};
 
 use crate::bits::CARRY;
+use crate::high_bytes::{pair_tags, tag_by_carry};
 use crate::registers::{bits, pair, set, set_pair, value, with_carry};
 use abs_state::{AbsByte, AbsState};
 use avr_model::instruction::{LowRegister, Register};
 use avr_model::operation::{Logic, Mul};
 use bit_domain::{Tri, TriByte};
-use local_rules::Computed;
+use local_rules::{Computed, SpView};
 use sp_domain::{CarryTag, Tag, move_pair, sub_high, sub_low};
 
 // No tags of result and carry.
@@ -140,12 +141,18 @@ pub(crate) fn sub(
 }
 
 // Register `d` less a byte, which may be a known number, and the carry.
-pub(crate) fn sbc(state: &AbsState, d: Register, b: TriByte, number: Option<u8>) -> Computed
-    ensures { result ≡ sbc_after state.now d b number }
+pub(crate) fn sbc(
+    view: SpView,
+    state: &AbsState,
+    d: Register,
+    b: TriByte,
+    number: Option<u8>,
+) -> Computed
+    ensures { result ≡ sbc_after view state.now d b number }
 {
-    let value = value(state, d);
+    let (value, carry) = (value(state, d), state.flags.carry);
     let tag = match number {
-        Some(number) => sub_high(value.tag, number, state.flags.carry),
+        Some(number) => sub_high(tag_by_carry(view, carry, value), number, carry),
         None => Tag::None,
     };
     let borrow = BorrowIn {
@@ -220,8 +227,8 @@ pub(crate) fn product(state: &AbsState, op: Mul, d: Register, r: Register) -> Co
 }
 
 // `adiw` of registers `d` and `d + 1` if `up`, else `sbiw`.
-pub(crate) fn wide(state: &AbsState, up: bool, d: LowRegister, number: u8) -> Computed
-    ensures { result ≡ wide_after state.now up d number }
+pub(crate) fn wide(view: SpView, state: &AbsState, up: bool, d: LowRegister, number: u8) -> Computed
+    ensures { result ≡ wide_after view state.now up d number }
 {
     let (low, high) = pair(state, d);
     let (bits, flags) = abs_alu::wide(up, (low.bits, high.bits), number, state.flags.bits);
@@ -231,7 +238,8 @@ pub(crate) fn wide(state: &AbsState, up: bool, d: LowRegister, number: u8) -> Co
     } else {
         number
     };
-    let (low_tag, high_tag) = move_pair(low.tag, high.tag, down);
+    let (low_tag, high_tag) = pair_tags(view, state, d);
+    let (low_tag, high_tag) = move_pair(low_tag, high_tag, down);
     let (low, high) = (
         AbsByte::of_bits(low_tag, bits.0),
         AbsByte::of_bits(high_tag, bits.1),

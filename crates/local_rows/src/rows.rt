@@ -18,18 +18,25 @@ use abs_state::{AbsByte, AbsState};
 use avr_model::instruction::{BinaryOp, ImmediateOp, Instr, Register, UnaryOp};
 use avr_model::operation::{Logic, Mul, Shift};
 use bit_domain::{Tri, TriByte};
-use local_rules::Computed;
+use local_rules::{Computed, SpView};
 use sp_domain::Tag;
 
 // The result of an instruction of a register and a byte; `line` says whether the site has a `frame` line.
-fn immediate(state: &AbsState, line: bool, op: ImmediateOp, d: Register, number: u8) -> Computed
-    ensures { result ≡ immediate_at line state.now op d number }
+fn immediate(
+    view: SpView,
+    line: bool,
+    state: &AbsState,
+    op: ImmediateOp,
+    operands: (Register, u8),
+) -> Computed
+    ensures { result ≡ immediate_at view line state.now op operands.0 operands.1 }
 {
+    let (d, number) = operands;
     let a = bits(state, d);
     let b = TriByte::of(number);
     match op {
         ImmediateOp::Cpi => compare(state, (a, b), NO_BORROW, less_than(d, Some(number))),
-        ImmediateOp::Sbci => sbc(state, d, b, Some(number)),
+        ImmediateOp::Sbci => sbc(view, state, d, b, Some(number)),
         ImmediateOp::Subi if line => framed_sub(state, d, b, Some(number)),
         ImmediateOp::Subi => sub(state, d, a, b, Some(number)),
         ImmediateOp::Ori => logic(state, Logic::Or, d, (a, b), false),
@@ -58,8 +65,14 @@ fn unary(state: &AbsState, line: bool, op: UnaryOp, d: Register) -> Computed
 }
 
 // The result of an instruction of two registers. None for `cpse`, which skips.
-fn binary(state: &AbsState, op: BinaryOp, d: Register, r: Register) -> Option<Computed>
-    ensures { result ≡ binary_after state.now op d r }
+fn binary(
+    view: SpView,
+    state: &AbsState,
+    op: BinaryOp,
+    d: Register,
+    r: Register,
+) -> Option<Computed>
+    ensures { result ≡ binary_after view state.now op d r }
 {
     let (a, b) = (bits(state, d), bits(state, r));
     let carry = carry_bit(state);
@@ -74,7 +87,7 @@ fn binary(state: &AbsState, op: BinaryOp, d: Register, r: Register) -> Option<Co
             };
             Some(compare(state, (a, b), borrow, says))
         },
-        BinaryOp::Sbc => Some(sbc(state, d, b, b.constant())),
+        BinaryOp::Sbc => Some(sbc(view, state, d, b, b.constant())),
         BinaryOp::Add => Some(sum_tagged(state, d, b, Tri::Zero, UNTAGGED)),
         BinaryOp::Cpse => None,
         BinaryOp::Cp => {
@@ -93,33 +106,34 @@ fn binary(state: &AbsState, op: BinaryOp, d: Register, r: Register) -> Option<Co
 
 /// The result of an instruction of two registers; `line` says whether the site has a `frame` line. None for `cpse`, which skips.
 pub fn binary_at(
-    state: &AbsState,
+    view: SpView,
     line: bool,
+    state: &AbsState,
     op: BinaryOp,
-    d: Register,
-    r: Register,
+    operands: (Register, Register),
 ) -> Option<Computed>
-    ensures { result ≡ binary_at line state.now op d r }
+    ensures { result ≡ binary_at view line state.now op operands.0 operands.1 }
 {
+    let (d, r) = operands;
     if !line || d == r {
-        return binary(state, op, d, r);
+        return binary(view, state, op, d, r);
     }
     match op {
         BinaryOp::Add => Some(framed_add(state, d, r)),
-        BinaryOp::Adc => Some(framed_adc(state, d, r)),
+        BinaryOp::Adc => Some(framed_adc(view, state, d, r)),
         BinaryOp::Sub => {
             let b = bits(state, r);
             Some(framed_sub(state, d, b, b.constant()))
         }
-        _ => binary(state, op, d, r),
+        _ => binary(view, state, op, d, r),
     }
 }
 
 /// The result of an instruction that only sets registers and flags; `line` says whether the site has a `frame` line. None for other
 /// instructions, and for loads.
-pub fn computed_by(state: &AbsState, line: bool, instr: &Instr) -> Option<Computed>
-    ensures value { result ≡ sections.computed_by line state.now instr.now }
-    ensures row { IsRow line state.now instr.now result }
+pub fn computed_by(view: SpView, line: bool, state: &AbsState, instr: &Instr) -> Option<Computed>
+    ensures value { result ≡ sections.computed_by view line state.now instr.now }
+    ensures row { IsRow view line state.now instr.now result }
 {
     // one place for the result of all instructions: each further one would be cleared at each call
     let computed = match instr {
@@ -129,10 +143,12 @@ pub fn computed_by(state: &AbsState, line: bool, instr: &Instr) -> Option<Comput
         Instr::Fmul(d, r) => product(state, Mul::Fmul, d.widened(), r.widened()),
         Instr::Fmuls(d, r) => product(state, Mul::Fmuls, d.widened(), r.widened()),
         Instr::Fmulsu(d, r) => product(state, Mul::Fmulsu, d.widened(), r.widened()),
-        Instr::Immediate(op, d, number) => immediate(state, line, *op, d.widened(), *number),
+        Instr::Immediate(op, d, number) => {
+            immediate(view, line, state, *op, (d.widened(), *number))
+        }
         Instr::Unary(op, d) => unary(state, line, *op, *d),
-        Instr::Adiw(d, number) => wide(state, true, d.doubled(), number.get() as u8),
-        Instr::Sbiw(d, number) => wide(state, false, d.doubled(), number.get() as u8),
+        Instr::Adiw(d, number) => wide(view, state, true, d.doubled(), number.get() as u8),
+        Instr::Sbiw(d, number) => wide(view, state, false, d.doubled(), number.get() as u8),
         Instr::Bld(d, bit) => bit_loaded(state, *d, *bit),
         Instr::Bst(d, bit) => bit_stored(state, *d, *bit),
         _ => return None,

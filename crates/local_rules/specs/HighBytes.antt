@@ -12,8 +12,11 @@ use Rattle.abs_state.specs.declared.values.AbsByte.{AbsByte}
 use Rattle.mask_states.specs.declared.keys.NodeKey.{NodeKey}
 use Rattle.mask_states.specs.Keys.{offset_of}
 use Rattle.local_rules.specs.Site.{Site}
+use Rattle.local_rules.specs.declared.views.SpView.{SpView as View}
+
 -- the stack pointer where an instruction executes: whether it has a high byte, and how far it is below the base
-pub use Rattle.local_rules.specs.declared.views.SpView.{SpView}
+abbrev pub SpView : Type 0
+SpView = View
 
 abbrev pub view_by : Device → NodeKey → SpView
 view_by device k = record { high = has_sph device; offset = offset_of k.sp }

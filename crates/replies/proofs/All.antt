@@ -42,7 +42,7 @@ use Rattle.clear_laws.specs.CertificateLaws.{ClearVerdictsAreOne, ClearFirmwares
 use Rattle.clear_laws.specs.ListLaws.{ClearWhereNoSites}
 use Rattle.cert_writing.specs.Sizes.{TextsFit}
 use Rattle.guided_trials.specs.Laws.{TrialsAreLed}
-use Rattle.commands.specs.Commands.{Work, Check, Analyse, Run, Report, Explain, Clear, Premises, Attain, Simulate, Command, On, Demo}
+use Rattle.commands.specs.Commands.{Work, Check, Analyse, Run, Report, Explain, Clear, Premises, Attain, Simulate, Command, On, Demo, About}
 use Rattle.replies.specs.declared.status.Status.{Status}
 use Rattle.replies.specs.declared.status.Status.TheVariants as exit
 use Rattle.replies.specs.Firmware.{IsFirmware, firmware_image, firmware_names}
@@ -444,6 +444,7 @@ module _
   pub replies_hold : AcceptingRepliesHold
   replies_hold (On r) seen status text h has = work_holds r.device r.firmware r.assume r.work seen status text h has
   replies_hold (Demo size) seen status text h has = λ zero. measured size text (subst (λ s. IsReply (Demo size) seen s text) zero h)
+  replies_hold (About topic) seen status text h has = h.1
 
   work_is_exact : (device : Device) (fw : List ℕ) (assume : Option (List ℕ)) (work : Work) (seen : Contents) (status : Status) (text : List ℕ) → IsReply (request device fw assume work) seen status text
       → IsWorkExact device assume work seen status
@@ -465,3 +466,4 @@ module _
   pub replies_are_exact : RepliesAreExact
   replies_are_exact (On r) seen status text h = work_is_exact r.device r.firmware r.assume r.work seen status text h
   replies_are_exact (Demo size) seen status text h = says_ends answers rounds solutions bounds runs (bare (demo_program size)) None (none_fit (device_of (demo_program size))) status text (demo_ends size status text h)
+  replies_are_exact (About topic) seen status text h = h.0

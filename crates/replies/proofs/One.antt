@@ -29,7 +29,8 @@ use Rattle.device_hooks.specs.declared.devices.DevicesFault.{DevicesFault}
 use Rattle.device_hooks.specs.Spelling.{Setup}
 use Rattle.device_hooks.specs.Reading.{setup_in}
 use Rattle.device_hooks.specs.Simulating.{simulation_of}
-use Rattle.commands.specs.Commands.{Work, Check, Analyse, Run, Report, Explain, Clear, Premises, Attain, Simulate, Command, On, Demo, Firmware, Second, Assumptions, name_of}
+use Rattle.commands.specs.About.{about_text}
+use Rattle.commands.specs.Commands.{Work, Check, Analyse, Run, Report, Explain, Clear, Premises, Attain, Simulate, Command, On, Demo, About, Firmware, Second, Assumptions, name_of}
 use Rattle.replies.specs.declared.status.Status.{Status}
 use Rattle.replies.specs.declared.status.Status.TheVariants as exit
 use Rattle.replies.specs.Firmware.{firmware_image, firmware_fault, firmware_names}
@@ -174,6 +175,7 @@ module _ (read : ReadCertificateIsSpelled) (one : VerdictsAreOne) (answers : Ans
   work_one : (command : Command) (firmware second : List ℕ) (list : Option (List ℕ)) → IsOneAnswer (WorkReply command firmware second list)
   work_one (On request) firmware second list = on_image_one request.device request.work firmware second list
   work_one (Demo size) firmware second list = demo_one answers chains size
+  work_one (About topic) firmware second list = says_one exit.Done (about_text topic)
 
   pub replies_are_one : RepliesAreOne
   replies_are_one command seen s t a b h k =

@@ -33,7 +33,8 @@ use Rattle.demo_image.specs.Image.{demo_program}
 use Rattle.device_hooks.specs.Spelling.{Setup}
 use Rattle.device_hooks.specs.Exact.{IsSetupReading as IsDevices}
 use Rattle.device_hooks.specs.Simulating.{simulation_of}
-use Rattle.commands.specs.Commands.{Work, Check, Analyse, Run, Explain, Clear, Premises, Attain, Simulate, Command, On, Demo}
+use Rattle.commands.specs.Commands.{Work, Check, Analyse, Run, Explain, Clear, Premises, Attain, Simulate, Command, On, Demo, About}
+use Rattle.commands.specs.About.{about_text}
 use Rattle.local_rules.specs.Machine.{AreWords}
 use Rattle.replies.specs.declared.status.Status.{Status}
 use Rattle.replies.specs.declared.status.Status.TheVariants as exit
@@ -249,6 +250,7 @@ WorkHeadline device assume work seen status text = status ≡ exit.Done → Hold
 abbrev pub Headline : Command → Contents → Status → List ℕ → Type 0
 Headline (On request) seen status text = WorkHeadline request.device request.assume request.work seen status text
 Headline (Demo size) seen status text = status ≡ exit.Done → IsMeasured size text
+Headline (About topic) seen status text = text ≡ about_text topic
 
 -- ---- when the answers come
 
@@ -309,6 +311,7 @@ IsWorkExact device assume work seen status = AcceptsExactly device work assume s
 abbrev pub IsExact : Command → Contents → Status → Type 0
 IsExact (On request) seen status = IsWorkExact request.device request.assume request.work seen status
 IsExact (Demo size) seen status = SaysHowRoundsEnd (bare (demo_program size)) None status
+IsExact (About topic) seen status = status ≡ exit.Done
 
 -- ---- laws
 
@@ -320,6 +323,7 @@ RepliesAreOne = (command : Command) (seen : Contents) (s t : Status) (a b : List
 abbrev pub HasWords : Command → List ℕ → Type 0
 HasWords (On request) firmware = AreWords (firmware_image request.device firmware)
 HasWords (Demo size) firmware = ⊤
+HasWords (About topic) firmware = ⊤
 
 -- `HasWords` for the firmware that was read
 abbrev pub ReadsWords : Command → Contents → Type 0

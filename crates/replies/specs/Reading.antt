@@ -1,7 +1,7 @@
 -- The contents of a command's files, as read. Source: own.
 use Rattle.std.specs.Prelude.{ℕ, ◌≡◌, ◌≤◌, List, length, ⊤, Bool, true, false, Option, Some, None}
 use Rattle.sb_base.specs.Outside.{Held, Blamed, Gives, MayExceed, IsBlamed}
-use Rattle.commands.specs.Commands.{Work, Run, Simulate, Command, On, Demo, Role, Firmware, Second, Assumptions, name_of, IsFileOf}
+use Rattle.commands.specs.Commands.{Work, Run, Simulate, Command, On, Demo, About, Role, Firmware, Second, Assumptions, name_of, IsFileOf}
 
 -- nothing was read of a file yet, all its bytes were, or it is longer than its cap
 pub data Seen : Type 0 where
@@ -46,6 +46,7 @@ file_cap work = certificate_cap
 abbrev pub second_cap : Command → ℕ
 second_cap (On request) = file_cap request.work
 second_cap (Demo size) = certificate_cap
+second_cap (About topic) = certificate_cap
 
 abbrev pub cap_of : Command → Role → ℕ
 cap_of command Firmware = firmware_cap

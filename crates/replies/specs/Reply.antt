@@ -39,7 +39,8 @@ use Rattle.cert_format.specs.Reading.{certificate_in}
 use Rattle.cert_check.specs.Verdict.{IsVerdict}
 use Rattle.cert_check.specs.declared.verdict.Judgement.{Judgement}
 use Rattle.cert_check.specs.declared.verdict.Judgement.TheVariants.{Accepted, Rejected}
-use Rattle.commands.specs.Commands.{Work, Analyse, Run, Report, Explain, Clear, Premises, Attain, Simulate, Command, On, Demo, Firmware, Second, Assumptions, name_of}
+use Rattle.commands.specs.Commands.{Work, Analyse, Run, Report, Explain, Clear, Premises, Attain, Simulate, Command, On, Demo, About, Firmware, Second, Assumptions, name_of}
+use Rattle.commands.specs.About.{about_text}
 use Rattle.replies.specs.declared.status.Status.{Status}
 use Rattle.replies.specs.declared.status.Status.TheVariants as exit
 use Rattle.replies.specs.Firmware.{firmware_image, firmware_fault, firmware_names, firmware_end}
@@ -248,10 +249,11 @@ FlashReply device work firmware bytes task = CertificateReply task (AcceptedRepl
 abbrev pub ImageReply : Device → Work → List ℕ → List ℕ → Option (List ℕ) → Reply
 ImageReply device work firmware second list = WithImage device firmware (λ words. WithList device list (λ A. FlashReply device work firmware second (task_with words A)))
 
--- `demo` has no files.
+-- `demo` and what the program says of itself have no files.
 abbrev pub WorkReply : Command → List ℕ → List ℕ → Option (List ℕ) → Reply
 WorkReply (On request) firmware second list = ImageReply request.device request.work firmware second list
 WorkReply (Demo size) firmware second list = DemoReply size
+WorkReply (About topic) firmware second list = Says exit.Done (about_text topic)
 
 -- The status and the text answer a command whose files have these contents. Files are read in this order before any is examined.
 abbrev pub IsReply : Command → Contents → Reply

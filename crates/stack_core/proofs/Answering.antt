@@ -24,7 +24,7 @@ use Rattle.clear_laws.specs.declared.verdict.ClearVerdict.TheVariants as clear
 use Rattle.device_hooks.specs.declared.devices.DevicesFault.{DevicesFault}
 use Rattle.device_hooks.specs.Spelling.{Setup}
 use Rattle.device_hooks.specs.Reading.{setup_in}
-use Rattle.commands.specs.Commands.{Work, Check, Analyse, Run, Report, Explain, Clear, Premises, Attain, Simulate, Command, On, Demo, Firmware, Second, Assumptions, name_of}
+use Rattle.commands.specs.Commands.{Work, Check, Analyse, Run, Report, Explain, Clear, Premises, Attain, Simulate, Command, On, Demo, About, Firmware, Second, Assumptions, name_of}
 use Rattle.replies.specs.declared.status.Status.{Status}
 use Rattle.replies.specs.declared.status.Status.TheVariants as exit
 use Rattle.replies.specs.Firmware.{firmware_image, firmware_fault}
@@ -200,6 +200,7 @@ image_is_apart device work firmware second list =
 work_apart : (c : Command) (firmware second : List ℕ) (list : Option (List ℕ)) → IsPlainApart (WorkReply c firmware second list)
 work_apart (On r) firmware second list = image_is_apart r.device r.work firmware second list
 work_apart (Demo size) firmware second list = demo_apart size
+work_apart (About topic) firmware second list = λ s t h. at exit.Done s done_plain h.0
 
 reply_apart : (c : Command) (seen : read.Contents) → IsPlainApart (IsReply c seen)
 reply_apart c seen =

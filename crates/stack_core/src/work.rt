@@ -21,10 +21,11 @@ use crate::reply::Reply;
 use crate::running::run;
 use crate::simulating::simulate;
 use call_graph::Task;
-use commands::{Command, Request, Work};
+use commands::{Command, Request, Work, about_text};
 use elf_load::Loaded;
 use local_rules::laws::words_have_16_bits;
 use replies::laws::same_names_give_same_places;
+use replies::status::Status;
 use reports::laws::same_names_give_same_reports;
 use std::alloc::{AllocError, Global};
 use vector_table::Assumptions;
@@ -118,5 +119,9 @@ pub fn work(
     match command {
         Command::On(request) => on_image(alloc, request, firmware, second, list),
         Command::Demo { size } => demo(alloc, size),
+        Command::About(topic) => Ok(Reply {
+            status: Status::Done,
+            text: about_text(alloc, *topic)?,
+        }),
     }
 }

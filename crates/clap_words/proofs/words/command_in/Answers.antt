@@ -1,5 +1,5 @@
-use Rattle.std.proofs.Common.{◌≡◌, List, refl, ap, ap₂, sym, subst, ◌∙◌, Option, Some, None, option_map}
-use Rattle.clap.specs.Words.{Text, Row, found_of, rows_of}
+use Rattle.std.proofs.Common.{◌≡◌, List, ap, ap₂, sym, subst, ◌∙◌, option_map}
+use Rattle.clap.specs.Words.{Row, found_of, rows_of}
 use Rattle.clap.specs.declared.parser.matches.ArgMatches.TheViews.{out-ArgMatches}
 use Rattle.commands.specs.Commands.{called}
 use Rattle.clap_words.specs.Lines.{TellsLine}

@@ -1,6 +1,5 @@
-use Rattle.std.proofs.Common.{◌≡◌, List, refl, ap, sym, ◌∙◌, codes, Option, Some, None}
-use Rattle.std.specs.Borrow.{Bor}
-use Rattle.clap.specs.Words.{Text, first_value, found_of, one_text}
+use Rattle.std.proofs.Common.{sym, ◌∙◌, codes}
+use Rattle.clap.specs.Words.{found_of}
 use Rattle.clap.proofs.WalkLemmas.{first_value-rows, one_text-rows}
 use Rattle.clap_words.proofs.Found.{text_is, mark_is}
 use Rattle.clap_words.proofs.words.line_in.Goals as goal

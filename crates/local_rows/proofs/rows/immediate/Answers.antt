@@ -16,24 +16,24 @@ pub returns-in-Cpi : goal.returns-in-Cpi
 returns-in-Cpi c =
     let s = c.args.state.now in
     c.compare.ensures ∙ (λ p. compare_after s (c.bits-a.ensures p, c.of-b.ensures.bits p) (Zero, false) (c.less_than.ensures p))
-    ∙ alike c.args.line (immediate_after s immediate.Cpi c.args.d c.args.number)
-    ∙ ap (λ (op : ImmediateOp). immediate_at c.args.line s op c.args.d c.args.number) (sym c.in-Cpi.is)
+    ∙ alike c.args.line (immediate_after c.args.view s immediate.Cpi c.args.operands.0 c.args.operands.1)
+    ∙ ap (λ (op : ImmediateOp). immediate_at c.args.view c.args.line s op c.args.operands.0 c.args.operands.1) (sym c.in-Cpi.is)
 
 pub returns-in-Sbci : goal.returns-in-Sbci
 returns-in-Sbci c =
     let s = c.args.state.now in
-    c.sbc.ensures ∙ (λ p. sbc_after s c.args.d (c.of-b.ensures.bits p) (Some c.args.number))
-    ∙ alike c.args.line (immediate_after s immediate.Sbci c.args.d c.args.number)
-    ∙ ap (λ (op : ImmediateOp). immediate_at c.args.line s op c.args.d c.args.number) (sym c.in-Sbci.is)
+    c.sbc.ensures ∙ (λ p. sbc_after c.args.view s c.args.operands.0 (c.of-b.ensures.bits p) (Some c.args.operands.1))
+    ∙ alike c.args.line (immediate_after c.args.view s immediate.Sbci c.args.operands.0 c.args.operands.1)
+    ∙ ap (λ (op : ImmediateOp). immediate_at c.args.view c.args.line s op c.args.operands.0 c.args.operands.1) (sym c.in-Sbci.is)
 
 pub returns-in-Subi : goal.returns-in-Subi
 returns-in-Subi c =
     let s = c.args.state.now in
-    c.framed_sub.ensures ∙ (λ p. framed_sub s c.args.d (c.of-b.ensures.bits p) (Some c.args.number))
-    ∙ ap₂ (λ (line : Bool) (op : ImmediateOp). immediate_at line s op c.args.d c.args.number) (sym c.if-line.true) (sym c.in-Subi.is)
+    c.framed_sub.ensures ∙ (λ p. framed_sub s c.args.operands.0 (c.of-b.ensures.bits p) (Some c.args.operands.1))
+    ∙ ap₂ (λ (line : Bool) (op : ImmediateOp). immediate_at c.args.view line s op c.args.operands.0 c.args.operands.1) (sym c.if-line.true) (sym c.in-Subi.is)
 
 pub returns-in-Subi-2 : goal.returns-in-Subi-2
 returns-in-Subi-2 c =
     let s = c.args.state.now in
-    c.sub.ensures ∙ (λ p. sub_after s c.args.d (c.bits-a.ensures p) (c.of-b.ensures.bits p) (Some c.args.number))
-    ∙ ap₂ (λ (line : Bool) (op : ImmediateOp). immediate_at line s op c.args.d c.args.number) (sym c.if-line.false) (sym c.in-Subi-2.is)
+    c.sub.ensures ∙ (λ p. sub_after s c.args.operands.0 (c.bits-a.ensures p) (c.of-b.ensures.bits p) (Some c.args.operands.1))
+    ∙ ap₂ (λ (line : Bool) (op : ImmediateOp). immediate_at c.args.view line s op c.args.operands.0 c.args.operands.1) (sym c.if-line.false) (sym c.in-Subi-2.is)

@@ -6,7 +6,7 @@ use Rattle.clap.specs.Words.{App, HasMatchesOf, fault_of, is_simple_and_free, ta
 use Rattle.clap.specs.declared.error.kind.ErrorKind.TheVariants.{OutOfMemory}
 use Rattle.clap_words.specs.Lines.{is_refused, line_app}
 use Rattle.clap_words.proofs.Taken.{IsTold, line_free, line_simple, not_taken, not_free, told}
-use Rattle.clap_words.proofs.words.command_of.Goals as goal
+use Rattle.clap_words.proofs.words.command_named.Goals as goal
 
 pub returns-then-has_refused : goal.returns-then-has_refused
 returns-then-has_refused c = not_free (map (λ (w : Bor (List ℕ)). w.now) c.args.words.now) (sym c.has_refused.ensures ∙ c.if-has_refused.true)
