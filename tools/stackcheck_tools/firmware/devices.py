@@ -1,0 +1,138 @@
+"""The devices of stackbound: their names, flash, SRAM and vectors, and the registers that enable vectors, as avr-libc calls them."""
+
+import difflib
+import functools
+from typing import Any, Dict, Iterator, List, NamedTuple, Optional, Tuple
+
+from stackcheck_tools.firmware.device_table import CLASSES, VECTORS
+
+FIRST = ("atmega48pa", "atmega88pa", "atmega168pa", "atmega328p")  # those of certificates without a device's name
+DEFAULT = "atmega328p"  # the one that stackbound takes without --device
+MOST_NEAR, ALIKE = 4, 0.85
+CORE = {**{f"r{n}": n for n in range(32)}, "SPL": 0x5D, "SPH": 0x5E, "SREG": 0x5F}  # protected registers of all devices, with their data addresses
+
+
+class Misuse(Exception):
+    """The words or the firmware aren't as a tool takes them."""
+
+
+class Place(NamedTuple):
+    """Bits of a register: its names, its data address, and the mask."""
+
+    registers: Tuple[str, ...]
+    address: int
+    mask: int
+
+
+def place(text: str) -> Place:
+    """A place of the table: `TIMSK0=006E.02`."""
+    names, _, where = text.partition("=")
+    address, _, mask = where.partition(".")
+    return Place(tuple(names.split("/")), int(address, 16), int(mask, 16))
+
+
+class Vector:
+    """An interrupt's vector: its names, the places of its enable bit, and whether it stays enabled once it was. Without a place it counts as
+    always enabled."""
+
+    def __init__(self, how: str, names: List[str]) -> None:
+        self.names = [f"{it}_vect" for it in names]
+        self.stays = how.startswith("~")
+        self.places: Tuple[Place, ...] = () if how == "open" else tuple(place(it) for it in how.lstrip("~").split(","))
+
+
+class Device:
+    """A class of equal devices, by a line of the table: `words` of flash, the `first` and the `last` byte of SRAM, how many words a vector has,
+    the `last_vector`, and the vector of the `watchdog`. `vectors` has the name of each vector that may come, by number; `registers` the
+    protected addresses by name; `enabling` those of registers that enable interrupts; `handlers` the functions of handlers by their vectors'
+    names; `moving` the bit that moves the vectors."""
+
+    def __init__(self, row: List[str]) -> None:
+        self.name, self.words, self.vector_words, self.last_vector = row[0], int(row[1]), int(row[5]), int(row[7])
+        self.first, self.last = int(row[2], 16), int(row[3], 16)
+        self.has_sph = row[4] == "2"
+        self.groups = frozenset(row[6].split(","))
+        self.watchdog = None if row[8] == "-" else int(row[8])
+        self.moving = None if row[9] == "-" else place(row[9])
+        self.rows = {int(number): Vector(how, names) for number, how, *names in map(str.split, VECTORS[int(row[10])].splitlines())}
+        self.vectors = {number: it.names[0] for number, it in self.rows.items()}
+        self.handlers = {name: f"__vector_{number - 1}" for number, it in self.rows.items() for name in it.names}
+        places = [it for row in self.rows.values() for it in row.places]
+        self.enabling = frozenset(it.address for it in places)
+        self.registers = {**{name: it.address for it in places for name in it.registers}, **CORE}
+        self.names = {**{address: name for name, address in CORE.items()}, **{it.address: it.registers[0] for it in places}}
+        if self.moving and self.moving.address in self.enabling:  # named as in data sheets
+            self.names[self.moving.address] = self.moving.registers[0]
+
+    def is_first(self) -> bool:
+        """Whether it is one of the four whose chips start with SP at the end of SRAM, and whose assumption files are read as they are written.
+        All others are read as with the line `masks`."""
+        return self.name in FIRST
+
+    def sram(self) -> int:
+        return self.last + 1 - self.first
+
+    def vector_word(self, vector: int) -> int:
+        return (vector - 1) * self.vector_words
+
+    def vector_at(self, word: int) -> Optional[int]:
+        """The vector whose word this is; None where it is that of none."""
+        vector = word // self.vector_words + 1
+        return vector if vector in self.vectors and self.vector_word(vector) == word else None
+
+    def vector_named(self, name: str) -> Optional[int]:
+        """The vector that one of avr-libc's headers calls so."""
+        return next((number for number, it in self.rows.items() if name in it.names), None)
+
+    def register_name(self, address: int) -> str:
+        return self.names.get(address, f"0x{address:02X}")
+
+    def is_open(self, vector: int) -> bool:
+        """Whether no known bit enables a vector, which then counts as enabled."""
+        return not self.rows[vector].places
+
+    def enables_text(self, enables: int) -> str:
+        """Enable bits as a certificate writes them, whose lowest is that of vector 2."""
+        return f"{enables:0{(self.last_vector + 2) // 4}X}"
+
+
+def table() -> Iterator[Tuple[str, List[str]]]:
+    """Yields each name that the compiler takes, with the words of its line of the table."""
+    for line in CLASSES.splitlines():
+        row = line.split()
+        yield from ((name, row) for name in (row[0], *row[11:]))
+
+
+NAMES = dict(table())
+
+
+@functools.lru_cache(maxsize=None)
+def of_class(name: str) -> Device:
+    return Device(NAMES[name])
+
+
+def named(name: Optional[str]) -> Optional[Device]:
+    """The device that a name means; None of a name that is in no row."""
+    return of_class(NAMES[name][0]) if name in NAMES else None
+
+
+def unknown(name: str) -> str:
+    """What is told of a name that is in no row: names that are near, and where all are."""
+    near = difflib.get_close_matches(name.lower(), NAMES, MOST_NEAR, ALIKE)
+    return f"{len(NAMES)} names but not this one" + (f"; near: {', '.join(near)}" if near else "") + "; docs/DEVICES.md lists them all"
+
+
+def device_of(elf: Any, path: str, asked: Optional[str]) -> Tuple[Optional[str], Device]:
+    """The name for which the file was linked, and the device as which it is taken: its code is read as that device's from then on."""
+    linked_for, wanted = elf.device(), named(asked)
+    if asked and not wanted:
+        raise Misuse(f"--device {asked}: stackbound knows {unknown(asked)}")
+    if linked_for is None and not wanted:
+        raise Misuse(f"{path} does not say for which device it was linked: give --device")
+    device = wanted if linked_for is None else named(linked_for)
+    if device is None:
+        raise Misuse(f"{path} was linked for {linked_for}, and stackbound knows {unknown(linked_for)}")
+    if wanted not in (None, device):
+        raise Misuse(f"{path} was linked for {linked_for}, and not for {asked}")
+    elf.take_for(device)
+    return linked_for, device

@@ -1,0 +1,49 @@
+"""What each vector costs: the bound of the same firmware in which it is never entered, as `check` accepts it."""
+
+import os
+
+from stackcheck_tools.analysis.program import OK, Program
+from stackcheck_tools.spec.lines import Lines
+
+
+class Cost:
+    """A vector by name, and the bound without it; None where there is none."""
+
+    def __init__(self, name, without):
+        self.name, self.without = name, without
+
+
+def with_never(assumed, word):
+    """An assumption file with a `never` line more, in its place."""
+    lines = Lines(assumed)
+    lines.add(word, "never")
+    return lines.text()
+
+
+def bound_without(outcome, assumed, word, folder):
+    """The bound that `check` accepts where the vector of a word is never entered; None where there is none."""
+    paths = [os.path.join(folder, name) for name in ("never.assume", "never.cert")]
+    with open(paths[0], "w", encoding="ascii") as file:
+        file.write(with_never(assumed, word))
+    program = Program(outcome.firmware.image, outcome.firmware.device.name, paths[0])
+    status, text = program.call("analyse")
+    if status != OK:
+        return None
+    with open(paths[1], "w", encoding="ascii") as file:
+        file.write(text)
+    status, text = program.call("check", paths[1])
+    return int(text.split()[2]) if status == OK and text.startswith("accepted bound ") else None
+
+
+def costs(outcome, assumed, vectors, folder):
+    """What each of these vectors costs, the dearest first."""
+    found = [Cost(outcome.firmware.handler(it), bound_without(outcome, assumed, outcome.firmware.device.vector_word(it), folder)) for it in vectors]
+    return sorted(found, key=lambda it: (outcome.bound if it.without is None else it.without, it.name))
+
+
+def told(outcome, found):
+    yield "interrupts (the bound without each):"
+    if not found:
+        yield "  none is entered"
+    for it in found:
+        yield f"  {it.name}: no bound" if it.without is None else f"  {it.without} without {it.name}, which costs {outcome.bound - it.without}"
