@@ -1,5 +1,7 @@
 """The tool `assume`."""
 
+from __future__ import annotations
+
 import sys
 
 from stackcheck_tools.firmware.devices import Misuse, device_of, named
@@ -10,12 +12,12 @@ from stackcheck_tools.spec.spec import SpecFault, assumptions
 DOCUMENT = ""  # the text of the tool, which its script gives
 
 
-def main():
-    words = Words("assume", DOCUMENT)
-    words.add_argument("firmware")
-    words.add_argument("spec")
-    words.add_argument("--device")
-    words = words.parse_args()
+def main() -> int:
+    parser = Words("assume", DOCUMENT)
+    parser.add_argument("firmware")
+    parser.add_argument("spec")
+    parser.add_argument("--device")
+    words = parser.parse_args()
     try:
         elf = Elf(words.firmware)
         is_told = words.device or named(elf.device())

@@ -1,11 +1,14 @@
 """The tool `flagged`."""
 
+from __future__ import annotations
+
 import sys
 import tempfile
+from typing import Iterator, Optional, Tuple
 
 from stackcheck_tools.analysis.mending import Analysis
 from stackcheck_tools.analysis.telling import line_of_spec, text_of_stop, why_not
-from stackcheck_tools.analysis.trials import INPUTS, Trials, handled, reads_inputs
+from stackcheck_tools.analysis.trials import INPUTS, Stop, Trials, handled, reads_inputs
 from stackcheck_tools.firmware.firmware import Firmware
 from stackcheck_tools.habits import FAULTS, Words, in_words
 from stackcheck_tools.spec.lines import Lines
@@ -14,7 +17,7 @@ from stackcheck_tools.spec.spec import SpecFault, assumptions
 DOCUMENT = ""  # the text of the tool, which its script gives
 
 
-def found(search):
+def found(search: Analysis) -> Iterator[Tuple[Stop, Optional[str]]]:
     """Yields each stop once, with the kind of the line that admits it, which is added."""
     seen, is_new = set(), True
     vectors = handled(search.elf, search.device)
@@ -30,7 +33,7 @@ def found(search):
                     break
 
 
-def text_of(search, stop, kind):
+def text_of(search: Analysis, stop: Stop, kind: Optional[str]) -> Iterator[str]:
     yield text_of_stop(search.firmware, stop)
     if not kind:
         yield f"  {why_not(search.firmware, stop)}"
@@ -42,14 +45,14 @@ def text_of(search, stop, kind):
         yield f"  spec: {spec}"
 
 
-def main():
-    words = Words("flagged", DOCUMENT)
-    words.add_argument("firmware")
-    lines = words.add_mutually_exclusive_group()
+def main() -> int:
+    parser = Words("flagged", DOCUMENT)
+    parser.add_argument("firmware")
+    lines = parser.add_mutually_exclusive_group()
     lines.add_argument("--assume")
     lines.add_argument("--spec")
-    words.add_argument("--device")
-    words = words.parse_args()
+    parser.add_argument("--device")
+    words = parser.parse_args()
     count = 0
     try:
         firmware = Firmware(words.firmware, words.device)

@@ -1,5 +1,7 @@
 """The tool `place`."""
 
+from __future__ import annotations
+
 import sys
 
 from stackcheck_tools.firmware.debug_lines import Lines
@@ -9,14 +11,14 @@ from stackcheck_tools.habits import asked, in_words
 DOCUMENT = ""  # the text of the tool, which its script gives
 
 
-def place(elf, lines, word):
+def place(elf: Elf, lines: Lines, word: int) -> str:
     """Function, offset and source line of a word address."""
     symbol = elf.symbol_at(2 * word)
     where = f"{symbol.name}+{2 * word - symbol.address}" if symbol else "-"
     return f"{where} {lines.at(2 * word) or '-'}"
 
 
-def main():
+def main() -> int:
     words = sys.argv[1:]
     if asked("place", DOCUMENT, words):
         return 0

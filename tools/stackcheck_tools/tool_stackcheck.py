@@ -1,11 +1,15 @@
 """The tool `stackcheck`: its words, what it prints and its status."""
 
+from __future__ import annotations
+
 import sys
 import tempfile
+from argparse import Namespace
+from typing import Iterator, Optional
 
 from stackcheck_tools import progress
 from stackcheck_tools.analysis import cures
-from stackcheck_tools.analysis.outcome import Refused, judge
+from stackcheck_tools.analysis.outcome import Outcome, Refused, judge
 from stackcheck_tools.habits import FAULTS, Words, in_words
 from stackcheck_tools.report import reports, verdict
 from stackcheck_tools.spec.spec import SpecFault
@@ -13,14 +17,14 @@ from stackcheck_tools.spec.spec import SpecFault
 DOCUMENT = ""  # the text of the tool, which its script gives
 
 
-def count(text):
+def count(text: str) -> int:
     """A number of bytes."""
     if not text.isdecimal():
         raise ValueError
     return int(text)
 
 
-def read_words():
+def read_words() -> Namespace:
     words = Words("stackcheck", DOCUMENT)
     words.add_argument("firmware")
     words.add_argument("--spec")
@@ -38,7 +42,7 @@ def read_words():
     return words.parse_args()
 
 
-def text_of_refusal(outcome):
+def text_of_refusal(outcome: Refused) -> Iterator[str]:
     yield outcome.refusal
     yield from (f"at {it}" for it in outcome.places)
     yield f"cause: {outcome.cause}"
@@ -48,7 +52,7 @@ def text_of_refusal(outcome):
     yield from (f"assumed: {it}" for it in outcome.written)
 
 
-def text_of(outcome, words):
+def text_of(outcome: Outcome, words: Namespace) -> Iterator[str]:
     """What is printed, line by line."""
     if isinstance(outcome, Refused):
         yield from text_of_refusal(outcome)
@@ -67,13 +71,13 @@ def text_of(outcome, words):
     yield from reports.told(outcome)
 
 
-def spec_of(outcome):
+def spec_of(outcome: Outcome) -> Iterator[str]:
     """The given spec, and behind it the lines that this tool wrote, with their places."""
     yield from outcome.spec.splitlines()
     yield from (f"{it.spec or '# no name: ' + it.words}  # {it.place}" for it in outcome.written)
 
 
-def keep(words, outcome):
+def keep(words: Namespace, outcome: Outcome) -> None:
     """Writes the files that were asked for."""
     certificate = None if isinstance(outcome, Refused) else outcome.certificate
     schedule = None if isinstance(outcome, Refused) else reports.schedule(outcome)
@@ -83,7 +87,7 @@ def keep(words, outcome):
                 file.write(text)
 
 
-def main():
+def main() -> Optional[int]:
     if sys.argv[1:] == ["--cures"]:
         print("\n".join(cures.table()))
         return 0

@@ -1,5 +1,7 @@
 """Stores through pointers that a correct program may mean for a register of the core: SREG, the stack pointer, or the one with IVSEL."""
 
+from __future__ import annotations
+
 import functools
 from typing import Dict, FrozenSet, Iterator, List, Optional, Set, Tuple
 
@@ -50,8 +52,7 @@ def beside_zero(elf: Elf, part: Code, zeros: Set[int]) -> Iterator[int]:
     stores: List[Tuple[str, int, int, Optional[int]]] = []
     for word, opcode in part:
         if opcodes.is_ldi(opcode):
-            register, byte = opcodes.ldi(opcode)
-            held[register] = byte
+            held.update([opcodes.ldi(opcode)])
         elif (store := store_at(elf, word, opcode)) is not None:
             stores.append((*store, held.get(store[2])))
     for number, (where, at, register, byte) in enumerate(stores):

@@ -1,10 +1,16 @@
 """The usual cause of a refusal, and what helps: the table of docs/TROUBLESHOOTING.md, which `stackcheck --cures` prints."""
 
+from __future__ import annotations
+
 import re
+from typing import List, Optional, Tuple
 
 from stackcheck_tools.analysis import registers
 from stackcheck_tools.firmware import candidates, opcodes
+from stackcheck_tools.firmware.devices import Device
+from stackcheck_tools.firmware.elf import Elf
 from stackcheck_tools.firmware.targets import constructors, tables
+from stackcheck_tools.spec.lines import Lines
 from stackcheck_tools.spec.spec import is_unhandled
 
 # By name: the text and where it stands, the usual cause, the cure.
@@ -149,9 +155,12 @@ CURES = {
 REFUSAL = re.compile(r"refused (\d) (\S+)(?: of (\d+))?(?: at ([0-9A-F]{4}))?(?: (.*))?$")
 
 
-def parts(refusal):
+def parts(refusal: str) -> Tuple[str, str, Optional[str], Optional[str], Optional[str]]:
     """The number, the name, the vector, the word and the instruction of a refusal; None for what it has not."""
-    return REFUSAL.match(refusal).groups()
+    found = REFUSAL.match(refusal)
+    if found is None:
+        raise ValueError(f"no refusal: {refusal}")
+    return found[1], found[2], found[3], found[4], found[5]
 
 
 OUT_SREG, IN_SREG, OUT_SPH, OUT_SPL, RETI = 0xBE0F, 0xB60F, 0xBE0E, 0xBE0D, 0x9518
@@ -161,7 +170,7 @@ JUMPERS = ("setjmp", "longjmp")
 SKETCH = ("setup", "loop")  # what the `main` of Arduino's core calls; with -flto both become parts of it, or local
 
 
-def of_jump(elf, name):
+def of_jump(elf: Elf, name: str) -> str:
     if name in STDIO:
         return "stream"
     if name != "__tablejump2__":
@@ -169,26 +178,26 @@ def of_jump(elf, name):
     return "constructors" if candidates.or_none(constructors, elf) and not candidates.or_none(tables, elf) else "tables"
 
 
-def of_recursion(elf, device, word):
+def of_recursion(elf: Elf, device: Device, word: int) -> str:
     """A function that calls itself by its name, and whose address is taken, is most likely the put function of a stream."""
     symbol = elf.symbol_at(2 * word)
     calls = [at for at, _ in opcodes.words_of(elf, symbol) if opcodes.call_target(elf, at) == word] if symbol else []
     return "put" if calls and any(elf.named(it) for it in STDIO) and word in candidates.addressed(elf, device) else "recursion"
 
 
-def is_sketch(elf):
+def is_sketch(elf: Elf) -> bool:
     """Whether the file is an Arduino sketch that was built without -flto: `main` calls global functions of these names."""
     called = {opcodes.call_target(elf, at) for it in elf.named("main") for at, _ in opcodes.words_of(elf, it)}
     return all(any(it.is_global and it.address // 2 in called for it in elf.named(name)) for name in SKETCH)
 
 
-def calls_by_pointer(elf, lines, entry):
+def calls_by_pointer(elf: Elf, lines: Lines, entry: int) -> bool:
     """Whether a function, or one that it enters by name, calls through a pointer whose list the tool wrote."""
     functions = candidates.reached(elf, entry) | {entry}
     return any(kind == "jump" and (symbol := elf.symbol_at(2 * site)) and symbol.address // 2 in functions for site, kind in lines.written())
 
 
-def needs_optimiser(elf, lines, number, word):
+def needs_optimiser(elf: Elf, lines: Lines, number: str, word: int) -> bool:
     """Whether a refusal of a sketch most likely comes of calls through pointers that the compiler resolves with -flto."""
     if not is_sketch(elf) or number == "2" and word in candidates.reached(elf, word):
         return False
@@ -196,13 +205,13 @@ def needs_optimiser(elf, lines, number, word):
     return entry is not None and calls_by_pointer(elf, lines, entry)
 
 
-def is_body(opcode):
+def is_body(opcode: int) -> bool:
     """Whether an instruction is one of a handler's own work: neither saves nor gives back registers, and is neither its call nor its end."""
     return not (opcode & 0xFC0F == 0x900F or opcode & 0xFE0F in (OUT_SREG, IN_SREG) or opcodes.is_clr(opcode) or opcode & 0xFE0E == 0x940E
                 or opcode & 0xF000 == 0xD000 or opcode == RETI)
 
 
-def keeps_flags(elf, entry):
+def keeps_flags(elf: Elf, entry: int) -> bool:
     """Whether a handler, or what it calls, writes SREG with a byte from memory, and nothing of it is `sei`."""
     functions = [it for it in elf.code if it.address // 2 in candidates.reached(elf, entry) | {entry}]
     words = [it for symbol in functions for it in opcodes.words_of(elf, symbol)]
@@ -210,27 +219,29 @@ def keeps_flags(elf, entry):
     return found and not any(opcode == opcodes.SEI for _, opcode in words)
 
 
-def of_re_entry(elf, word):
+def of_re_entry(elf: Elf, word: int) -> str:
     """A handler that does nothing but call a handler was merged with it; one that begins with `sei` is an ISR_NOBLOCK."""
     target = opcodes.jump_target(elf, word)
+    symbol = elf.symbol_at(2 * target) if target is not None else None
     if target is not None and elf.word(target) == opcodes.SEI:
         return "noblock"
-    symbol = elf.symbol_at(2 * target) if target is not None else None
-    for at, _ in opcodes.words_of(elf, symbol) if symbol else ():
+    if target is None or symbol is None:
+        return "re-entry"
+    for at, _ in opcodes.words_of(elf, symbol):
         called = opcodes.call_target(elf, at)
         other = elf.symbol_at(2 * called) if called is not None else None
-        if other and other.name.startswith("__vector_") and other.address == 2 * called:
+        if called is not None and other and other.name.startswith("__vector_") and other.address == 2 * called:
             return "by name" if any(is_body(opcode) for _, opcode in opcodes.words_of(elf, symbol)) else "merged"
-    return "kept flags" if symbol and keeps_flags(elf, target) else "re-entry"
+    return "kept flags" if keeps_flags(elf, target) else "re-entry"
 
 
-def begins_anew(elf, device, lines):
+def begins_anew(elf: Elf, device: Device, lines: Lines) -> bool:
     """Whether a function jumps to address 0 or calls it, and no vector without a handler leads there unless a `never` line names it."""
     jumps = any(0 in (opcodes.jump_target(elf, at), opcodes.call_target(elf, at)) for it in elf.code if it.is_function for at, _ in opcodes.words_of(elf, it))
     return jumps and all(lines.has(device.vector_word(it), "never") for it in device.vectors if is_unhandled(elf, device, it))
 
 
-def of_low_byte(elf, word, name):
+def of_low_byte(elf: Elf, word: int, name: str) -> str:
     """A write of SPL is told by where its byte is from, and by writes of SPH near it."""
     near = [elf.word(at) & 0xFE0F == OUT_SPH for at in range(max(word - NEAR, 0), word + NEAR)]
     if name in JUMPERS:
@@ -238,16 +249,17 @@ def of_low_byte(elf, word, name):
     return "two stacks" if registers.is_from_memory(elf, word) else "low byte first" if any(near[NEAR:]) else "unfollowed" if any(near) else "tiny"
 
 
-def is_low_first(elf, word):
+def is_low_first(elf: Elf, word: int) -> bool:
     """Whether of the writes of SPL and SPH just before a word that of SPH is the last, and one of SPL came before."""
     found = [opcode & 0xFE0F for _, opcode in candidates.before(elf, word, NEAR) if opcode & 0xFE0F in (OUT_SPL, OUT_SPH)]
     return found[:1] == [OUT_SPH] and OUT_SPL in found
 
 
-def of_stack_pointer(elf, device, lines, word, name):
+def of_stack_pointer(elf: Elf, device: Device, lines: Lines, word: int, name: str) -> str:
     """A write of the stack pointer is told by its function, and by what was done to r29 before."""
-    if name == "__epilogue_restores__":
-        begin, end = elf.extent(elf.symbol_at(2 * word))
+    symbol = elf.symbol_at(2 * word)
+    if symbol and name == "__epilogue_restores__":
+        begin, end = elf.extent(symbol)
         if not any(begin <= 2 * it < end for it in lines.sites("frame")):
             return "prologues"
         if not lines.has_pairs():
@@ -263,12 +275,12 @@ def of_stack_pointer(elf, device, lines, word, name):
     return "high byte" if any(opcodes.moves_high_byte(opcode) for opcode in before) else "sized"
 
 
-def is_joined(elf, lines):
+def is_joined(elf: Elf, lines: Lines) -> bool:
     """Whether some transfer through a pointer has no `jump` line."""
     return any(not lines.has(it, "jump") for it in candidates.indirect(elf))
 
 
-def of_opcode(elf, device, lines, text):
+def of_opcode(elf: Elf, device: Device, lines: Lines, text: str) -> str:
     known = {"opcode 95E8": "written flash", "opcode 940C": "device", "opcode 940E": "device"}.get(text)
     if known or is_joined(elf, lines):
         return known or "joined"
@@ -276,18 +288,20 @@ def of_opcode(elf, device, lines, text):
     return "group" if group and group not in device.groups and not device.is_first() else "unsupported"
 
 
-def goes_through_tables(elf, lines):
+def goes_through_tables(elf: Elf, lines: Lines) -> bool:
     """Whether a `jump` line lets the tables of several functions be jumped through."""
     sites = [it for it in lines.sites("jump") if (symbol := elf.symbol_at(2 * it)) and symbol.name == "__tablejump2__"]
     owners = {symbol.address for site in sites for it in lines.of(site, "jump") & candidates.or_none(tables, elf) if (symbol := elf.symbol_at(2 * it))}
     return len(owners) > 1
 
 
-def cure(elf, device, refusal, lines):
+def cure(elf: Elf, device: Device, refusal: str, lines: Lines) -> Tuple[str, Optional[int]]:
     """The name of the row of CURES for a refusal under some lines, and the word that it names (None where it names none)."""
     number, _, _, place, text = parts(refusal)
     word, text = int(place, 16) if place else None, text or ""
-    symbol = elf.symbol_at(2 * word) if place else None
+    if number == "7" or word is None:
+        return "masks" if number == "7" else "deep" if number == "6" else "unfollowed", word
+    symbol = elf.symbol_at(2 * word)
     name = symbol.name if symbol else ""
     if number == "1":
         return of_jump(elf, name), word
@@ -297,8 +311,6 @@ def cure(elf, device, refusal, lines):
         return of_re_entry(elf, word), word
     if number == "5":
         return of_opcode(elf, device, lines, text), word
-    if number == "7":
-        return "masks", word
     if number == "8":
         return "proved" if lines.has(word, "prove") else "copy" if text.endswith("+, r0") else "array", word
     if number in "24" and not text.startswith("out 0x3E") and goes_through_tables(elf, lines):
@@ -317,6 +329,6 @@ def cure(elf, device, refusal, lines):
     return "joined" if is_other and word else "deep" if number == "6" else "unfollowed", word
 
 
-def table():
+def table() -> List[str]:
     """The lines of the table in Markdown."""
     return ["| Text and place | Usual cause | Cure |", "|---|---|---|", *(f"| {' | '.join(row)} |" for row in CURES.values())]

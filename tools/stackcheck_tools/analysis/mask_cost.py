@@ -1,6 +1,7 @@
 """What the line `masks` costs: it is left out where a certificate without it is much smaller and tells the same."""
 
-import os
+from __future__ import annotations
+
 from typing import TYPE_CHECKING, Dict, List, NamedTuple, Optional
 
 from stackcheck_tools.analysis import causes, places, warnings_of_words

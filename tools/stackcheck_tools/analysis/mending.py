@@ -6,6 +6,8 @@ the bound at most.
 `at_refusal` says which function writes lines for which refusal, `add_own` which lines a list of places asks for.
 """
 
+from __future__ import annotations
+
 import os
 from typing import Callable, Dict, Iterable, List, Optional, Set, Tuple
 
@@ -109,7 +111,7 @@ class Mending(Analysis):
         self.lists = Lists()
         self.before_masks = self.lines
         self.told_of_masks: Optional[str] = None  # what the line costs, or why it was left out
-        self.scratched: Dict[Tuple[str, int, Optional[int]], Optional[int]] = {}
+        self.scratched: Dict[Tuple[str, int, int], Optional[int]] = {}
 
     def copy(self) -> "Mending":
         """The same with lines of its own, for a look at what another step would do."""
@@ -406,9 +408,10 @@ class Mending(Analysis):
         if self.stop is None or not self.may_admit(self.stop):
             return False
         if self.stop.kind == "live":
-            return self.lines.add(self.scratch_for(self.stop), scratch.KIND)
+            push = self.scratch_for(self.stop)
+            return push is not None and self.lines.add(push, scratch.KIND)
         kind = self.admit(self.stop)
-        if kind == "jump" and self.stop.other is not None:
+        if kind == "jump":
             self.pinned.add((self.stop.word, self.stop.other))
         if kind == "store" and self.reads_masks():
             self.follow_enables(self.stop.word)

@@ -1,5 +1,7 @@
 """The values of registers at the nodes of a certificate: known bits and ranges, with the intervals of pairs where the line `pairs` stands."""
 
+from __future__ import annotations
+
 from typing import Dict, Iterator, List, NamedTuple, Set, Tuple
 
 from stackcheck_tools.firmware import opcodes

@@ -1,20 +1,30 @@
 """What `stackcheck` finds of one firmware: the bound with what it rests on, or the refusal with its place, cause and cure."""
 
+from __future__ import annotations
+
 import json
 import os
+from argparse import Namespace
 from dataclasses import dataclass, field
-from typing import Any, Dict, List, Optional, Union
+from typing import TYPE_CHECKING, Dict, List, Optional, Union
 
 from stackcheck_tools.analysis import causes, cures, cycles, refusals, warnings_of_words
 from stackcheck_tools.analysis.mending import Mending
-from stackcheck_tools.analysis.program import OK, USAGE, NoProgram
-from stackcheck_tools.analysis.telling import flagged, lines_for, narrower, others, written
-from stackcheck_tools.analysis.trials import INPUTS, reads_inputs
+from stackcheck_tools.analysis.program import OK, USAGE, NoProgram, Program
+from stackcheck_tools.analysis.telling import Written, flagged, lines_for, narrower, others, written
+from stackcheck_tools.analysis.trials import INPUTS, Run, Stop, reads_inputs
 from stackcheck_tools.analysis.widening import Lists
 from stackcheck_tools.firmware import intel_hex
 from stackcheck_tools.firmware.firmware import Firmware
 from stackcheck_tools.spec import recursion
-from stackcheck_tools.spec.spec import UNASSUMED, Spec
+from stackcheck_tools.spec.lines import Lines
+from stackcheck_tools.spec.spec import UNASSUMED, Keep, Spec
+
+if TYPE_CHECKING:
+    from stackcheck_tools.analysis.places import Place
+    from stackcheck_tools.report.call_graph import Graph, Need
+    from stackcheck_tools.report.interrupts import Cost
+    from stackcheck_tools.report.needs import Difference
 
 NOT_MOVED = "IVSEL is not checked without the line `masks`: the bound takes the interrupt vectors to be at 0"
 
@@ -33,7 +43,7 @@ class Refused:
     firmware: Firmware
     spec: str
     assumed: str
-    written: List[Any]
+    written: List[Written]
     refusal: str
     places: List[str] = field(default_factory=list)
     cause: str = ""
@@ -50,18 +60,18 @@ class Accepted:
     firmware: Firmware
     spec: str
     assumed: str
-    written: List[Any]
+    written: List[Written]
     certificate: str
-    own: Any  # the lines under which it was accepted
+    own: Lines  # the lines under which it was accepted
     lists: Lists  # of calls through pointers
-    recursions: List[Any] = field(default_factory=list)  # of the spec, with the depths that they came to
+    recursions: List[recursion.Recursion] = field(default_factory=list)  # of the spec, with the depths that they came to
     seen: Optional[int] = None
     told_of_masks: Optional[str] = None  # what the line `masks` costs, or why it was left out
     flagged: Optional[str] = None
-    stop: Any = None  # the flagged step of a trial run
+    stop: Optional[Stop] = None  # the flagged step of a trial run
     bound: int = 0
     witness: str = "open"
-    deepest: Any = None  # the trial run that is as deep as the bound
+    deepest: Optional[Run] = None  # the trial run that is as deep as the bound
     room: int = 0
     heap: Optional[str] = None
     keeps: bool = True
@@ -69,15 +79,15 @@ class Accepted:
     rests_on: List[str] = field(default_factory=list)
     chain: List[Part] = field(default_factory=list)
     premises: Optional[List[str]] = None
-    causes: Dict[int, Any] = field(default_factory=dict)
+    causes: Dict[int, causes.Cause] = field(default_factory=dict)
     closers: Dict[int, str] = field(default_factory=dict)
     warnings: List[warnings_of_words.Warned] = field(default_factory=list)
-    graph: Any = None
-    table: List[Any] = field(default_factory=list)
-    entries: List[Any] = field(default_factory=list)
-    idle_keeps: List[Any] = field(default_factory=list)
-    costs: Optional[List[Any]] = None
-    difference: Any = None
+    graph: Optional[Graph] = None
+    table: List[Need] = field(default_factory=list)
+    entries: List[Place] = field(default_factory=list)
+    idle_keeps: List[Keep] = field(default_factory=list)
+    costs: Optional[List[Cost]] = None
+    difference: Optional[Difference] = None
     grows_too_much: bool = False
     status: int = 0
 
@@ -101,7 +111,7 @@ def refuse(firmware: Firmware, spec: str, given: str, work: Mending) -> Refused:
     return found
 
 
-def tell_bound(found: Accepted, program: Any, certificate: str, words: Any) -> None:
+def tell_bound(found: Accepted, program: Program, certificate: str, words: Namespace) -> None:
     status, text = program.call("report", certificate, "--json")
     if status != OK:
         raise NoProgram(f"report: status {status}: {text.strip()}")
@@ -124,7 +134,7 @@ def tell_bound(found: Accepted, program: Any, certificate: str, words: Any) -> N
         found.keeps, found.rule = margin >= words.margin, f"{words.margin} bytes must be left"
 
 
-def tell_chain(found: Accepted, program: Any, certificate: str) -> None:
+def tell_chain(found: Accepted, program: Program, certificate: str) -> None:
     """The deepest chain, where the program has `explain`."""
     firmware = found.firmware
     for line in program.lines("explain", certificate) or ():
@@ -137,7 +147,7 @@ def tell_chain(found: Accepted, program: Any, certificate: str) -> None:
             found.chain.append(Part(adds, f"{firmware.instance(kind, entry, None if name == '-' else name)} at {firmware.place(at)}"))
 
 
-def tell_premises(found: Accepted, program: Any, certificate: str) -> None:
+def tell_premises(found: Accepted, program: Program, certificate: str) -> None:
     """What the bound rests on: the places where a step may be flagged, and the assumption file."""
     lines = program.lines("premises", certificate, "--why")
     if lines is None:
@@ -163,7 +173,7 @@ def tell_premises(found: Accepted, program: Any, certificate: str) -> None:
         found.rests_on.append("This stackbound does not list the places where a step may be flagged; the tool `flagged` finds some.")
 
 
-def accept(found: Accepted, program: Any, certificate: str, text: str) -> str:
+def accept(found: Accepted, program: Program, certificate: str, text: str) -> str:
     """Writes a certificate and has it judged: only what is accepted is told."""
     with open(certificate, "w", encoding="ascii") as file:
         file.write(text)
@@ -174,7 +184,7 @@ def accept(found: Accepted, program: Any, certificate: str, text: str) -> str:
     return said.split()[3]
 
 
-def attain(found: Accepted, program: Any, certificate: str, witness: str) -> None:
+def attain(found: Accepted, program: Program, certificate: str, witness: str) -> None:
     """Has a schedule sought that goes as deep as the bound, where the certificate has none and the program has the command."""
     status, text = program.call("attain", certificate) if witness == "open" else (USAGE, "")
     if status == OK:
@@ -183,12 +193,12 @@ def attain(found: Accepted, program: Any, certificate: str, witness: str) -> Non
         raise NoProgram(f"attain: status {status}: {text.strip()}")
 
 
-def take(firmware: Firmware, spec: str, given: str, work: Mending, words: Any, folder: str) -> Accepted:
+def take(firmware: Firmware, spec: str, given: str, work: Mending, words: Namespace, folder: str) -> Accepted:
     """Judges the certificate that was found, and gathers what is told of it."""
     made = work.certificate or ""
     found = Accepted(firmware, spec, given, list(written(firmware, work.lines)), made, work.lines, work.lists, work.recursions, work.deepest, work.told_of_masks)
     if work.stop:
-        found.flagged, found.stop = flagged(firmware, work), work.stop
+        found.flagged, found.stop = flagged(firmware, work, work.stop), work.stop
     program, certificate = work.program(), os.path.join(folder, "certificate")
     witness = accept(found, program, certificate, made)
     if witness == "open" and work.deepest is not None and work.deepest >= found.bound:
@@ -210,7 +220,7 @@ def take(firmware: Firmware, spec: str, given: str, work: Mending, words: Any, f
     return found
 
 
-def judge(words: Any, folder: str) -> Outcome:
+def judge(words: Namespace, folder: str) -> Outcome:
     """Analyses and judges the firmware of the command's words; files are made in the folder."""
     firmware = intel_hex.firmware(words.firmware, words.device, folder) if intel_hex.is_one(words.firmware) else Firmware(words.firmware, words.device)
     firmware.check_start()

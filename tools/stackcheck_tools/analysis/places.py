@@ -4,7 +4,10 @@ A place is ordinary where a correct program may be flagged at it; one of memory 
 complete list where only a call is that enters no function whose address is taken; and a given one where the spec itself says what may happen there.
 """
 
+from __future__ import annotations
+
 import os
+from typing import TYPE_CHECKING, Dict, Iterator, List, Optional, Set, Tuple, Union
 
 from stackcheck_tools.analysis import core_registers
 from stackcheck_tools.analysis.causes import Cause
@@ -12,12 +15,19 @@ from stackcheck_tools.analysis.kinds import CALLS, CORES, GIVEN, MOVES, ORDINARY
 from stackcheck_tools.analysis.node_values import Nodes
 from stackcheck_tools.analysis.widening import RECORDS
 from stackcheck_tools.firmware import debug_lines, fuses, opcodes, start_up
-from stackcheck_tools.firmware.elf import CODE_END
+from stackcheck_tools.firmware.elf import CODE_END, Elf
 from stackcheck_tools.firmware.names import SpecFault, shown
 from stackcheck_tools.firmware.records import has_records
 from stackcheck_tools.spec import recursion, sites
-from stackcheck_tools.spec.spec import START_UP, Spec
+from stackcheck_tools.spec.spec import START_UP, Keep, Spec
 
+if TYPE_CHECKING:
+    from stackcheck_tools.analysis.mask_cost import Answer
+    from stackcheck_tools.analysis.outcome import Accepted
+
+    Told = Union[Accepted, Answer]
+
+Key = Union[str, Tuple[str, int, str]]  # path, line and function; or what an entry is called
 MOST_WORDS = 4  # word addresses that one entry prints
 START = ("__do_clear_bss", "__do_copy_data")
 Z = 30  # the pair of a call
@@ -29,25 +39,30 @@ class Place:
     """One entry: `title` (what it is), its source (path and line, or None), the text of that line, its words, what may happen there with the lines of
     a spec that close it, and the line that judges it."""
 
-    def __init__(self, key, title, source=None):
-        self.key, self.title, self.source, self.words, self.judged, self.warned = key, title, source, [], None, []
-        self.cause, self.closers, self.kinds, self.may_enable, self.keep = Cause(), [], {}, False, None
+    def __init__(self, key: Key, title: str, source: Optional[Tuple[str, int]] = None) -> None:
+        self.key, self.title, self.source, self.cause, self.may_enable = key, title, source, Cause(), False
+        self.words: List[int] = []
+        self.kinds: Dict[Union[int, str], str] = {}  # by words, and by the names of fuses
+        self.warned: List[str] = []
+        self.closers: List[str] = []
+        self.keep: Optional[str] = None
+        self.judged: Union[Keep, recursion.Recursion, None] = None
         self.path = readable(source[0]) if source else None
-        self.code = line_of(self.path, source[1]) if source else None
+        self.code = line_of(self.path, source[1]) if source and self.path else None
 
-    def is_ordinary(self):
+    def is_ordinary(self) -> bool:
         """Whether a correct program may be flagged here."""
         return any(it in ORDINARY for it in self.kinds.values())
 
-    def count(self):
+    def count(self) -> str:
         many = f"{len(self.words)} instruction{'' if len(self.words) == 1 else 's'}"
         return many + " at " + " ".join(f"{it:04X}" for it in self.words[:MOST_WORDS]) + (" .." if len(self.words) > MOST_WORDS else "")
 
-    def where(self):
+    def where(self) -> str:
         """`path:line: ` of a source place, and nothing of another."""
         return f"{self.path}:{self.source[1]}: " if self.source else ""
 
-    def why(self):
+    def why(self) -> Iterator[str]:
         """Yields what may happen there, and the lines that close it."""
         if told := str(self.cause):
             yield told
@@ -56,19 +71,19 @@ class Place:
         if self.keep:
             yield f"judged by: {self.keep}"
 
-    def __str__(self):
+    def __str__(self) -> str:
         code = f"`{self.code}`, " if self.code else ""
         return f"{self.where()}{self.title}: {code}{self.count()}" if self.words else self.title
 
 
-def readable(path):
+def readable(path: str) -> str:
     """A path as an editor finds it: relative to the folder in which the tool runs, where it lies below."""
     path = os.path.normpath(path)
     below = os.path.relpath(path) if os.path.isabs(path) else path
     return path if below.startswith("..") else below
 
 
-def line_of(path, number):
+def line_of(path: str, number: int) -> Optional[str]:
     """The text of a source line without its indentation; None where the file isn't there or has no such line."""
     try:
         with open(path, encoding="utf8", errors="replace") as file:
@@ -78,7 +93,7 @@ def line_of(path, number):
     return text or None
 
 
-def section_at(elf, address):
+def section_at(elf: Elf, address: int) -> str:
     """The name of the section of data at a data address, with a space behind; nothing where none is told."""
     for name, it in elf.sections.items():
         if elf.sram() <= it[3] <= address + CODE_END < it[3] + it[5]:
@@ -86,13 +101,13 @@ def section_at(elf, address):
     return ""
 
 
-def filled(elf, word):
+def filled(elf: Elf, word: int) -> Optional[str]:
     """What a loop of the start-up code fills: `clears .bss 0106 to 0135`; None where a word isn't the store of such a loop."""
     found = start_up.filled(elf, word)
     return found and f"{'copies' if found.copies else 'clears'} {section_at(elf, found.begin)}{found}"
 
 
-def entry_of(outcome, word, found):
+def entry_of(outcome: Told, word: int, found: Dict[Key, Place]) -> Place:
     """The entry to which a word belongs, which is made with its first one."""
     elf, loop = outcome.firmware.elf, filled(outcome.firmware.elf, word)
     symbol, source = elf.symbol_at(2 * word), debug_lines.of(elf).source(2 * word)
@@ -107,7 +122,7 @@ def entry_of(outcome, word, found):
     return found.setdefault(name, Place(name, what))
 
 
-def may_enable(nodes, word, cause):
+def may_enable(nodes: Nodes, word: int, cause: Cause) -> bool:
     """Whether a store may write a register that enables interrupts, as far as the list or the certificate tells."""
     enabling = nodes.elf.chip.enabling
     return bool(cause.addresses & enabling) or cause.more and any(nodes.may_write(word, it) for it in sorted(enabling))
@@ -116,20 +131,20 @@ def may_enable(nodes, word, cause):
 class Look:
     """What an answer's places are told by: the nodes of its certificate, and the registers of the core that its stores may be meant for."""
 
-    def __init__(self, outcome):
+    def __init__(self, outcome: Told) -> None:
         self.outcome, self.elf, self.lines = outcome, outcome.firmware.elf, outcome.own
         self.nodes = Nodes(self.elf, outcome.certificate)
         self.cores = core_registers.found(outcome.firmware.device, self.nodes, self.lines, outcome.causes)
 
-    def unlisted(self, word):
+    def unlisted(self, word: int) -> List[int]:
         """The numbers that the pointer of a call is known to be and that its list doesn't have."""
         return sorted(self.nodes.known(word, Z) - self.lines.of(word, "jump"))
 
-    def is_by_name(self, word):
+    def is_by_name(self, word: int) -> bool:
         """Whether an instruction writes one address that is known."""
         return not opcodes.is_pointer_store(self.elf.word(word)) or self.nodes.fixed(word)
 
-    def kind(self, word):
+    def kind(self, word: int) -> str:
         """What kind of place a word is, by what may happen there and by whose line speaks of it."""
         cause, lines = self.outcome.causes.get(word, Cause()), self.lines
         is_transfer = cause.transfer and not cause.addresses and not cause.live and not lines.has(word, "jump")
@@ -151,7 +166,7 @@ class Look:
         is_followed = follows and not lines.has(word, "store")
         return SAFETY if is_followed or not core_registers.is_enabling(self.nodes, lines, word, cause) else STORES
 
-    def texts(self, word, kind):
+    def texts(self, word: int, kind: str) -> Iterator[str]:
         """Yields what is told of a word beside what the program says may happen there."""
         cause = self.outcome.causes.get(word, Cause())
         if kind == MOVES or cause.moves and not str(cause):
@@ -167,7 +182,7 @@ class Look:
                     yield f"cure: {RECORDS}"
 
 
-def put(look, entry, word):
+def put(look: Look, entry: Place, word: int) -> None:
     """Notes a word and what may happen there in its entry."""
     outcome, kind = look.outcome, look.kind(word)
     cause = outcome.causes.get(word, Cause())
@@ -180,17 +195,18 @@ def put(look, entry, word):
         entry.closers.append(outcome.closers[word])
 
 
-def entry_of_vector(outcome, word):
+def entry_of_vector(outcome: Told, word: int) -> Place:
     """The entry of a vector that a `never` line names."""
-    vector = outcome.firmware.handler(outcome.firmware.device.vector_at(word))
+    number = outcome.firmware.device.vector_of(word)
+    vector = outcome.firmware.handler(number)
     is_given, device = outcome.own.is_given(word, "never"), outcome.firmware.device
-    why = "no header names its enable bit" if device.is_open(device.vector_at(word)) else "may be enabled"
+    why = "no header names its enable bit" if device.is_open(number) else "may be enabled"
     entry = Place(vector, f"{vector}: " + ("a `never` line says that it is not entered" if is_given else f"it has no handler, and {why}"))
     entry.kinds[word] = GIVEN if is_given else VECTORS
     return entry
 
 
-def entry_of_fuses(outcome):
+def entry_of_fuses(outcome: Told) -> Iterator[Place]:
     """Yields the one entry of the fuses that the file itself programs, where it does."""
     entry = Place(fuses.KEPT, "the file's own fuses")
     for it in fuses.programmed(outcome.firmware.elf, outcome.firmware.device.name):
@@ -199,15 +215,16 @@ def entry_of_fuses(outcome):
     yield from [entry] * bool(entry.kinds)
 
 
-def entries(outcome):
+def entries(outcome: Told) -> List[Place]:
     """The entries of what `premises` lists, in the order of their first words, of stores that may be meant for the core, and of what no flag tells."""
-    found, look = {}, Look(outcome)
+    look = Look(outcome)
+    found: Dict[Key, Place] = {}
     for line in outcome.premises or ():
-        kind, word = line.split()[:2]
+        kind, at = line.split()[:2]
         if kind == "never":
-            found[line] = entry_of_vector(outcome, int(word, 16))
+            found[line] = entry_of_vector(outcome, int(at, 16))
         elif kind == "at":
-            put(look, entry_of(outcome, int(word, 16), found), int(word, 16))
+            put(look, entry_of(outcome, int(at, 16), found), int(at, 16))
         else:
             found[line] = Place(line, line)
     for word in look.cores:
@@ -216,41 +233,41 @@ def entries(outcome):
     for it in found.values():
         if set(it.kinds.values()) == {recursion.PLACE}:
             it.judged = recursion.of_call(outcome.firmware.elf, outcome.own, outcome.recursions, it.words[0])
-    for it in outcome.warnings:
-        entry = entry_of(outcome, it.word, found)
-        entry.words += [] if it.word in entry.words else [it.word]
-        entry.kinds[it.word] = it.kind
-        entry.warned.append(it.text)
+    for warned in outcome.warnings:
+        entry = entry_of(outcome, warned.word, found)
+        entry.words += [] if warned.word in entry.words else [warned.word]
+        entry.kinds[warned.word] = warned.kind
+        entry.warned.append(warned.text)
     for entry in found.values():
         if entry.is_ordinary():
             entry.keep = keep_line(outcome, entry)
     return [*found.values(), *entry_of_fuses(outcome)]
 
 
-def words_of(elf, keep):
+def words_of(elf: Elf, keep: Keep) -> Set[int]:
     """The words of which a line `keeps` speaks."""
     if keep.line is not None:
         return set(sites.words_of_line(elf, keep.name, keep.line))
     return sites.words_of(elf, keep.name)
 
 
-def is_of(elf, keep, place):
+def is_of(elf: Elf, keep: Keep, place: Place) -> bool:
     if keep.name in (START_UP, fuses.KEPT):
         return place.key == keep.name
     if not place.words:
-        return keep.line is None and place.key.partition(" ")[0] == keep.name
+        return keep.line is None and str(place.key).partition(" ")[0] == keep.name
     if place.key == START_UP or keep.line is None and keep.name.endswith("_vect"):
         return False
     return set(place.words) <= words_of(elf, keep)
 
 
-def keep_line(outcome, entry):
+def keep_line(outcome: Told, entry: Place) -> Optional[str]:
     """The line of a spec that judges an entry; None where there is none."""
     elf, symbol = outcome.firmware.elf, outcome.firmware.elf.symbol_at(2 * entry.words[0]) if entry.words else None
     name = shown(symbol) if symbol else ""
-    forms = [START_UP] if entry.key == START_UP else [] if entry.words else [f"{entry.key.split()[0]} *"]
+    forms = [START_UP] if entry.key == START_UP else [] if entry.words else [f"{str(entry.key).split()[0]} *"]
     if entry.source:
-        forms += [f"{name}:{entry.source[1]}", f"{os.path.basename(entry.path)}:{entry.source[1]}"]
+        forms += [f"{name}:{entry.source[1]}", f"{os.path.basename(entry.source[0])}:{entry.source[1]}"]
     for form in [*forms, f"{name} *"]:
         try:
             if is_of(elf, Spec(elf, f"keeps {form} # {WHY}", outcome.firmware.device).keeps[0], entry):
@@ -260,7 +277,7 @@ def keep_line(outcome, entry):
     return None
 
 
-def judge(outcome, keeps):
+def judge(outcome: Accepted, keeps: List[Keep]) -> List[Keep]:
     """Notes at each entry the line that judges it, and returns the lines that judge none."""
     idle = []
     for keep in keeps:
@@ -272,12 +289,12 @@ def judge(outcome, keeps):
     return idle
 
 
-def unjudged(outcome, is_strict):
+def unjudged(outcome: Accepted, is_strict: bool) -> List[Place]:
     """The entries that have to be looked at and aren't judged: the ordinary ones, or all where it is asked for all."""
     return [it for it in outcome.entries if not it.judged and (is_strict or it.is_ordinary())]
 
 
-def told(outcome):
+def told(outcome: Accepted) -> Iterator[str]:
     """Yields what is printed of the places: ordinary ones, those of memory safety, and those that were judged."""
     if outcome.premises is None:
         return
@@ -295,5 +312,5 @@ def told(outcome):
     judged = [it for it in outcome.entries if it.judged]
     if judged:
         yield f"judged by the spec: {len(judged)}"
-        yield from (f"{it}; {it.judged.why}" for it in judged)
+        yield from (f"{it}; {it.judged.why}" for it in judged if it.judged)
     yield from (f"line {it.number} of the spec judges no place: keeps {it.name}{it.end()}" for it in outcome.idle_keeps)

@@ -1,7 +1,10 @@
 """Calls of `stackbound`: the one that $STACKBOUND names, else the one beside the tools, which is the launcher in a checkout."""
 
+from __future__ import annotations
+
 import os
 import subprocess
+from typing import Dict, List, Optional, Tuple
 
 from stackcheck_tools import progress
 
@@ -18,12 +21,12 @@ class NoProgram(Exception):
 class Program:
     """Calls on one firmware, device and assumption file."""
 
-    def __init__(self, firmware, device, assumptions=None):
+    def __init__(self, firmware: str, device: str, assumptions: Optional[str] = None) -> None:
         self.path = os.environ.get("STACKBOUND") or os.path.join(TOP, "stackbound")
         self.firmware, self.options = firmware, ["--device", device] + (["--assume", assumptions] if assumptions else [])
-        self.begun = {}
+        self.begun: Dict[Tuple[str, ...], subprocess.Popen[bytes]] = {}
 
-    def begin(self, *words):
+    def begin(self, *words: str) -> None:
         """Lets a command run whose answer a later `call` asks for, so that several run side by side."""
         try:
             # a checkout's launcher would prove and build the program first, for an hour or more
@@ -34,14 +37,14 @@ class Program:
             self.end()
             raise NoProgram(f"{self.path}: {fault.strerror}") from None
 
-    def end(self):
+    def end(self) -> None:
         """Ends all that was begun and isn't asked for any more."""
         for said in self.begun.values():
             said.kill()
             said.communicate()
         self.begun.clear()
 
-    def call(self, *words):
+    def call(self, *words: str) -> Tuple[int, str]:
         """The status and the text of one command."""
         if words[0] in WORK:
             progress.at(WORK[words[0]])
@@ -57,7 +60,7 @@ class Program:
             raise NoProgram(f"{os.path.normpath(self.path)} must be built first: run `stackbound build` there, or name another program in $STACKBOUND")
         return said.returncode, text.decode("ascii", "replace")
 
-    def lines(self, command, *words):
+    def lines(self, command: str, *words: str) -> Optional[List[str]]:
         """The lines of a command that this program may not have yet: None where it answers `usage`."""
         status, text = self.call(command, *words)
         if status == USAGE:

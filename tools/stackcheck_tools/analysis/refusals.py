@@ -1,6 +1,8 @@
 """What leads to a refusal in this firmware, by functions and source lines."""
 
-from typing import Any, Dict, Iterator, List, Optional, Set, Tuple
+from __future__ import annotations
+
+from typing import TYPE_CHECKING, Dict, Iterator, List, Optional, Set, Tuple
 
 from stackcheck_tools.analysis import registers
 from stackcheck_tools.analysis.cures import parts
@@ -8,7 +10,11 @@ from stackcheck_tools.analysis.telling import line_of_spec
 from stackcheck_tools.analysis.trials import handled
 from stackcheck_tools.firmware import candidates, opcodes
 from stackcheck_tools.firmware.devices import Device
+from stackcheck_tools.firmware.elf import Elf
 from stackcheck_tools.firmware.firmware import Firmware
+
+if TYPE_CHECKING:
+    from stackcheck_tools.analysis.mending import Mending
 
 OUT_SREG, RETI, SBI = 0xBE0F, 0x9518, 0x9A00
 MOST_REASONS, NEAR, GUARD = 8, 5, 6
@@ -24,7 +30,7 @@ class Step:
         self.site, self.target, self.own = site, target, own
 
 
-def steps(firmware: Firmware, work: Any) -> Dict[int, List[Step]]:
+def steps(firmware: Firmware, work: Mending) -> Dict[int, List[Step]]:
     """By its first word, what each function enters: by name, and by `jump` lines."""
     elf = firmware.elf
     found: Dict[int, List[Step]] = {}
@@ -60,7 +66,7 @@ def way_back(graph: Dict[int, List[Step]], word: int) -> List[Tuple[int, Step]]:
     return []
 
 
-def of_recursion(firmware: Firmware, work: Any, word: int) -> Iterator[str]:
+def of_recursion(firmware: Firmware, work: Mending, word: int) -> Iterator[str]:
     """The way on which a function comes back to itself, with the `jump` lines of this tool on it."""
     for at, it in way_back(steps(firmware, work), word):
         how = f", by a line of this tool, which lists all that may be called: `{it.own}`" if it.own else ""
@@ -78,7 +84,7 @@ def reached(graph: Dict[int, List[Step]], word: int) -> Set[int]:
     return found
 
 
-def written_address(firmware: Firmware, work: Any, word: int) -> Optional[int]:
+def written_address(firmware: Firmware, work: Mending, word: int) -> Optional[int]:
     """The data address that an instruction writes; None where it isn't known."""
     opcode = firmware.elf.word(word)
     if opcode & 0xFE0F == 0x9200:
@@ -91,7 +97,7 @@ def written_address(firmware: Firmware, work: Any, word: int) -> Optional[int]:
     return min(listed) if len(listed) == 1 else None
 
 
-def may_set(elf: Any, word: int, mask: int, begin: int) -> bool:
+def may_set(elf: Elf, word: int, mask: int, begin: int) -> bool:
     """Whether a write may set a bit of a mask, by what was done to the register just before: `ori`, `andi` or `ldi`."""
     opcode = elf.word(word)
     if opcode & 0xFF00 == SBI:
@@ -106,7 +112,7 @@ def may_set(elf: Any, word: int, mask: int, begin: int) -> bool:
     return register != 1  # r1 is 0 in compiled code
 
 
-def setters(firmware: Firmware, work: Any, functions: Set[int], vector: int) -> Iterator[Tuple[int, str]]:
+def setters(firmware: Firmware, work: Mending, functions: Set[int], vector: int) -> Iterator[Tuple[int, str]]:
     """The words in some functions that may set a vector's enable bit, with the registers."""
     places = {it.address: it for it in firmware.device.rows[vector].places}
     for symbol in firmware.elf.code:
@@ -141,7 +147,7 @@ def is_own_end(words: List[Tuple[int, int]], n: int, is_handler: bool) -> bool:
     return is_handler and RETI in after
 
 
-def is_guarded(elf: Any, word: int) -> bool:
+def is_guarded(elf: Elf, word: int) -> bool:
     """Whether a variable's value decides, a few instructions before, whether a word is come to."""
     words = candidates.before(elf, word, 24)
     loads = [n for n, (_, opcode) in enumerate(words) if opcode & 0xFE0F == 0x9000]
@@ -157,7 +163,7 @@ def stays_enabled(device: Device, vector: int) -> str:
     return f"{device.vectors[vector]} has several enable bits ({names}), so it counts as enabled once one was set, even after it is cleared" if row.stays else ""
 
 
-def of_re_entry(firmware: Firmware, work: Any, vector: int) -> Iterator[str]:
+def of_re_entry(firmware: Firmware, work: Mending, vector: int) -> Iterator[str]:
     """Each place that lets interrupts in while a handler runs, and each that may set its enable bit then: in the handler, or in one that comes meanwhile."""
     elf, device = firmware.elf, firmware.device
     entry = opcodes.jump_target(elf, device.vector_word(vector))
@@ -194,15 +200,15 @@ def of_cause(firmware: Firmware, name: str) -> Iterator[str]:
                 yield f"{firmware.name(symbol)} goes to address 0 at {firmware.place(at)}"
 
 
-def reasons(firmware: Firmware, work: Any, refusal: str) -> List[str]:
+def reasons(firmware: Firmware, work: Mending, refusal: str) -> List[str]:
     """What leads to a refusal here: of recursion the way back, of a re-entry the places that let it in."""
     number, _, vector, place, _ = parts(refusal)
     if not firmware.elf.code:
         return []
     found: Iterator[str] = iter(())
-    if number == "2":
+    if number == "2" and place:
         found = of_recursion(firmware, work, int(place, 16))
-    elif number == "3":
+    elif number == "3" and vector:
         found = of_re_entry(firmware, work, int(vector))
     told = list(dict.fromkeys(found))
     return told[:MOST_REASONS] + ([f"and {len(told) - MOST_REASONS} more"] if len(told) > MOST_REASONS else [])

@@ -1,9 +1,12 @@
 """Which instructions write a register, and where it was written last."""
 
-from typing import Any, Optional
+from __future__ import annotations
+
+from typing import Optional
 
 from stackcheck_tools.analysis.node_values import ONE_WRITE, fits
 from stackcheck_tools.firmware import candidates, opcodes
+from stackcheck_tools.firmware.elf import Elf, Symbol
 
 FAR = 24  # instructions before a word in which a write is looked for
 ZERO = 1  # the register that compiled code takes to be 0
@@ -28,18 +31,18 @@ def writes(opcode: int, register: int) -> bool:
     return opcode >> 4 & 31 == register and (opcode & 0xFE00 == 0x9000 or fits(opcode, ONE_WRITE))
 
 
-def last_write(elf: Any, word: int, register: int) -> Optional[int]:
+def last_write(elf: Elf, word: int, register: int) -> Optional[int]:
     """The last instruction of the same function before a word that writes a register; None where none is near."""
     return next((opcode for _, opcode in candidates.before(elf, word, FAR) if writes(opcode, register)), None)
 
 
-def is_from_memory(elf: Any, word: int) -> bool:
+def is_from_memory(elf: Elf, word: int) -> bool:
     """Whether the byte that an `out` at a word writes was loaded from memory."""
     found = last_write(elf, word, elf.word(word) >> 4 & 31)
     return found is not None and is_load(found)
 
 
-def keeps_zero(elf: Any, symbol: Any) -> bool:
+def keeps_zero(elf: Elf, symbol: Symbol) -> bool:
     """Whether a function that computes with r1 clears it behind that, or gives back what it was."""
     found = [opcode for _, opcode in opcodes.words_of(elf, symbol) if writes(opcode, ZERO)]
     return not found or opcodes.is_clr(found[-1]) or found[-1] & 0xFE0F == POP

@@ -1,10 +1,21 @@
 """What is told of lines that `stackcheck` writes, of flagged steps, and of what no line cures."""
 
+from __future__ import annotations
+
+from typing import TYPE_CHECKING, Dict, Iterator, List, Optional, Set, Tuple
+
+from stackcheck_tools.analysis.widening import Lists
 from stackcheck_tools.firmware import candidates, opcodes
+from stackcheck_tools.firmware.elf import Elf
+from stackcheck_tools.firmware.firmware import Firmware
 from stackcheck_tools.firmware.targets import constructors, tables
 from stackcheck_tools.spec import recursion, scratch
 from stackcheck_tools.spec.lines import Lines, name_of, spec_line
 from stackcheck_tools.spec.spec import MASKS, NOWHERE, PAIRS, UNASSUMED, is_unhandled
+
+if TYPE_CHECKING:
+    from stackcheck_tools.analysis.mending import Mending
+    from stackcheck_tools.analysis.trials import Stop
 
 MOST_OTHERS = 8  # vectors that are tried behind the first that lets itself in
 BY_LINES = ("tables", "constructors", "pointer", "stream", "prologues", "high byte", "unhandled", "joined", "array", "copy")  # causes that lines cure
@@ -13,35 +24,35 @@ BY_LINES = ("tables", "constructors", "pointer", "stream", "prologues", "high by
 class Written:
     """A line that the tool wrote: its text for a spec (None where a function has no name of its own), its text by words, and where it stands."""
 
-    def __init__(self, spec, words, place):
+    def __init__(self, spec: Optional[str], words: str, place: str) -> None:
         self.spec, self.words, self.place = spec, words, place
 
-    def __str__(self):
+    def __str__(self) -> str:
         return f"{self.spec or self.words}, {self.place}"
 
 
-def names_of_tables(elf, items):
+def names_of_tables(elf: Elf, items: Set[int]) -> Optional[str]:
     """`@constructors` and `@tables` where they are these words; None else."""
     known = {"@constructors": candidates.or_none(constructors, elf), "@tables": candidates.or_none(tables, elf)}
     found = [name for name, words in known.items() if words and words <= items]
     return " ".join(found) if found and set().union(*(known[it] for it in found)) == items else None
 
 
-def line_of_spec(firmware, lines, site, kind):
+def line_of_spec(firmware: Firmware, lines: Lines, site: int, kind: str) -> Optional[str]:
     """The line of a spec for a line of an assumption file; None where it has none."""
     names = names_of_tables(firmware.elf, lines.of(site, kind)) if kind == "jump" else None
     return spec_line(firmware.elf, firmware.device, lines, site, kind, names)
 
 
-def own_never(firmware, lines):
+def own_never(firmware: Firmware, lines: Lines) -> Tuple[List[int], bool]:
     """The vectors of the `never` lines that weren't given, by number; and whether they are all that have no handler."""
-    found = [firmware.device.vector_at(site) for site, kind in lines.written() if kind == "never"]
+    found = [firmware.device.vector_of(site) for site, kind in lines.written() if kind == "never"]
     return found, found == [it for it in firmware.device.vectors if is_unhandled(firmware.elf, firmware.device, it)]
 
 
-def scratches(firmware, lines):
+def scratches(firmware: Firmware, lines: Lines) -> Iterator[Written]:
     """The `scratch` lines that weren't given, one for each function."""
-    found = {}
+    found: Dict[str, List[int]] = {}
     for site, kind in lines.written():
         if kind == scratch.KIND:
             found.setdefault(firmware.function(site), []).append(site)
@@ -53,7 +64,7 @@ def scratches(firmware, lines):
         yield Written(spec, ", ".join(lines.line(it, scratch.KIND) for it in words), f"bytes that {name} pushes for others to write; no bound rests on it")
 
 
-def written(firmware, lines):
+def written(firmware: Firmware, lines: Lines) -> Iterator[Written]:
     """The lines that weren't given: `pairs` and `masks` first, the `frame` lines as one, and `never` lines of all vectors without a handler too."""
     for kind in (PAIRS, MASKS):
         if lines.has(NOWHERE, kind) and not lines.is_given(NOWHERE, kind):
@@ -74,7 +85,7 @@ def written(firmware, lines):
             yield Written(line_of_spec(firmware, lines, site, kind), lines.line(site, kind), f"at {site:04X} {place}{more}")
 
 
-def narrower(firmware, lists, lines):
+def narrower(firmware: Firmware, lists: Lists, lines: Lines) -> Iterator[str]:
     """Yields the lower bound that was found before the lists of calls were complete, and the lines of a spec that claim it."""
     if lists.bound is None:
         return
@@ -88,15 +99,15 @@ def narrower(firmware, lists, lines):
     yield from (f"  {it}" for it in told)
 
 
-def text_of_stop(firmware, stop):
+def text_of_stop(firmware: Firmware, stop: Stop) -> str:
     """A flagged step: its kind, the word, the address or target, and the place."""
-    other = f" {stop.other:04X}" if stop.other is not None else ""
+    other = f" {stop.other:04X}" if stop.has_other() else ""
     register = firmware.device.register_name(stop.other) if stop.kind == "protected" else ""
     name = f" ({register})" if register else f" ({firmware.place(stop.other)})" if stop.kind == "transfer" else ""
     return f"{stop.kind} {stop.word:04X}{other}{name} at {firmware.place(stop.word)}"
 
 
-def why_not(firmware, stop):
+def why_not(firmware: Firmware, stop: Stop) -> str:
     """Why no line admits a flagged step."""
     if stop.kind == "live":
         why = "a live byte of the stack is written"
@@ -109,7 +120,7 @@ def why_not(firmware, stop):
     return f"no line admits it: {why}"
 
 
-def line_that_admits(firmware, work, stop):
+def line_that_admits(firmware: Firmware, work: Mending, stop: Stop) -> Optional[Tuple[str, Set[int]]]:
     """The kind and the items of the line that admits a flagged step, whether or not a line was given there; None where there is none."""
     free = work.copy()
     free.lines.given = set()
@@ -117,13 +128,12 @@ def line_that_admits(firmware, work, stop):
     return (kind, free.lines.of(stop.word, kind)) if kind else None
 
 
-def flagged(firmware, work):
+def flagged(firmware: Firmware, work: Mending, stop: Stop) -> str:
     """The one line that stands before a bound that says nothing of a run beyond a flagged step."""
-    stop = work.stop
     if told := recursion.text_of_stop(firmware, work.recursions, stop):
         return told
     if stop.kind == "transfer" and work.lines.has(stop.other, "never") and not work.lines.is_given(stop.other, "never"):
-        vector = firmware.device.vector_at(stop.other)
+        vector = firmware.device.vector_of(stop.other)
         return (f"FLAGGED: in a simulated run {firmware.device.vectors[vector]}, enabled but without a handler, fires at {firmware.place(stop.word)}: the program "
                 "restarts there, and the bound covers only what comes before; write a handler, or do not enable it")
     told = f"FLAGGED: a simulated run stops with {text_of_stop(firmware, stop)}; the bound covers only what comes before; "
@@ -136,16 +146,16 @@ def flagged(firmware, work):
     return told + f"admitted by: {line_of_spec(firmware, line, stop.word, kind) or line.line(stop.word, kind)}"
 
 
-def lines_for(firmware, work, name):
+def lines_for(firmware: Firmware, work: Mending, name: str) -> List[str]:
     """The lines of a spec that this tool would write for a refusal of this cause, with all candidates."""
     more = work.copy()
     more.lines.given = set(more.lines.items)
-    if name == "division" and more.lines.add_pairs() or name in BY_LINES and more.at_refusal(work.refusal):
+    if name == "division" and more.lines.add_pairs() or name in BY_LINES and more.at_refusal(work.refusal or ""):
         return [it.spec or it.words for it in written(firmware, more.lines)]
     return []
 
 
-def others(firmware, work, name, word):
+def others(firmware: Firmware, work: Mending, name: str, word: Optional[int]) -> List[str]:
     """The other places of the same kind, as far as the file or the program tells them."""
     elf = firmware.elf
     if name in ("recursion", "put"):
@@ -159,9 +169,9 @@ def others(firmware, work, name, word):
     return [f"{at:04X} {firmware.place(at)}" for at in sorted(set(found) - {word})]
 
 
-def other_vectors(firmware, work):
+def other_vectors(firmware: Firmware, work: Mending) -> Iterator[Tuple[int, int]]:
     """Yields word and number of the vectors that let themselves in, beside the first: each with the ones before it left out."""
-    probe, text = work.copy(), work.refusal
+    probe, text = work.copy(), work.refusal or ""
     for _ in range(MOST_OTHERS):
         words = text.split()
         if words[:3] != ["refused", "3", "re-entry"]:

@@ -1,5 +1,7 @@
 """Runs of a firmware on the simulator of `stackbound`, in search of steps that are flagged and of how deep the stack goes."""
 
+from __future__ import annotations
+
 import os
 import re
 from typing import Iterable, Iterator, List, NamedTuple, Optional, Set, Tuple
@@ -21,13 +23,19 @@ INPUTS = "simulated runs read input bytes where `elpm` reads flash, so their fla
 DEVICE_LINES, MOST_RECEIVED = 32, 64
 
 
-class Stop:
-    """A stop: its kind, the word of the step, and the address or target."""
+NO_OTHER = -1  # no address and no target
 
-    def __init__(self, kind: str, word: int, other: Optional[int]) -> None:
+
+class Stop:
+    """A stop: its kind, the word of the step, and the address or target where it has one."""
+
+    def __init__(self, kind: str, word: int, other: int) -> None:
         self.kind, self.word, self.other = kind, word, other
 
-    def key(self) -> Tuple[str, int, Optional[int]]:
+    def has_other(self) -> bool:
+        return self.other != NO_OTHER
+
+    def key(self) -> Tuple[str, int, int]:
         return self.kind, self.word, self.other
 
 
@@ -148,12 +156,12 @@ class Trials:
             self.deepest, self.deepest_run = int(found[2]), run
         if found[3] not in FLAGGED:
             return None
-        stop = Stop(found[3], int(found[4], 16), int(found[5], 16) if found[5] else None)
+        stop = Stop(found[3], int(found[4], 16), int(found[5], 16) if found[5] else NO_OTHER)
         return stop if not self.reads_inputs or self.is_entry(stop) else None
 
     def is_entry(self, stop: Stop) -> bool:
         """Whether a step that was flagged is the entry of an interrupt."""
-        return stop.kind == "transfer" and stop.other is not None and self.device.vector_at(stop.other) is not None
+        return stop.kind == "transfer" and self.device.vector_at(stop.other) is not None
 
     def simulation(self, fill: int, lines: List[str], steps: int) -> Optional[Stop]:
         """The stop of a run with these timers and receivers; None also where the program has no `simulate`."""

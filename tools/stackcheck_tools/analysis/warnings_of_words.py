@@ -1,5 +1,7 @@
 """What no flag tells of a firmware: a stack that is used before SP is set, and a heap that shares the room."""
 
+from __future__ import annotations
+
 from typing import Iterator, List, NamedTuple, Optional, Set
 
 from stackcheck_tools.analysis.kinds import UNSET

@@ -1,6 +1,8 @@
 """Lets the list of each call through a pointer have every function whose address is taken, where there is a bound then: no list is a guess but those
 that can't have them all."""
 
+from __future__ import annotations
+
 from dataclasses import dataclass, field
 from typing import TYPE_CHECKING, Dict, FrozenSet, List, Optional, Set
 

@@ -1,5 +1,9 @@
 """The names of C++ as they are written, from the names that the compiler gives its symbols (the Itanium ABI's mangling, as far as firmware has it)."""
 
+from __future__ import annotations
+
+from typing import List, Optional
+
 BUILTIN = dict(zip("vwbcahstijlmxynofdegz", (
     "void", "wchar_t", "bool", "char", "signed char", "unsigned char", "short", "unsigned short", "int", "unsigned int", "long", "unsigned long",
     "long long", "unsigned long long", "__int128", "unsigned __int128", "float", "double", "long double", "__float128", "...")))
@@ -19,32 +23,34 @@ class Unknown(Exception):
     """A name that isn't read."""
 
 
-def filled(kind):
+def filled(kind: str) -> str:
     return kind.replace(f" ({HOLE})(", " (").replace(f" ({HOLE}) [", " [").replace(HOLE, "")
 
 
 class Reader:
     """Reads one mangled name from its second letter on."""
 
-    def __init__(self, text):
-        self.text, self.at, self.held, self.arguments = text, 2, [], []
+    def __init__(self, text: str) -> None:
+        self.text, self.at = text, 2
+        self.held: List[str] = []
+        self.arguments: List[str] = []
 
-    def has(self, start):
+    def has(self, start: str) -> bool:
         if not self.text.startswith(start, self.at):
             return False
         self.at += len(start)
         return True
 
-    def peek(self):
+    def peek(self) -> str:
         return self.text[self.at:self.at + 1]
 
-    def number(self):
+    def number(self) -> Optional[int]:
         begin = self.at
         while self.peek().isdigit():
             self.at += 1
         return int(self.text[begin:self.at]) if self.at > begin else None
 
-    def source_name(self):
+    def source_name(self) -> str:
         length = self.number()
         if length is None or self.at + length > len(self.text):
             raise Unknown
@@ -52,11 +58,11 @@ class Reader:
         self.at += length
         return "(anonymous namespace)" if name.startswith("_GLOBAL_") else name
 
-    def hold(self, name):
+    def hold(self, name: str) -> str:
         self.held.append(name)
         return name
 
-    def substitution(self):
+    def substitution(self) -> str:
         """What `S_`, `S0_`, .. stand for, or a name of the standard library."""
         start = self.text[self.at:self.at + 2]
         if start in STANDARD:
@@ -73,7 +79,7 @@ class Reader:
             raise Unknown
         return self.held[place]
 
-    def parameter(self):
+    def parameter(self) -> str:
         """An argument of the template by `T_`, `T0_`, .."""
         self.at += 1
         place = self.number()
@@ -81,7 +87,7 @@ class Reader:
         place = 0 if place is None else place + 1
         return self.arguments[place] if place < len(self.arguments) else "auto"
 
-    def unqualified(self, last):
+    def unqualified(self, last: str) -> str:
         """One part of a name; the part before it names a constructor's class."""
         if self.peek().isdigit():
             return self.source_name()
@@ -104,13 +110,13 @@ class Reader:
             raise Unknown
         return f"operator{' ' if operator[0].isalpha() else ''}{operator}"
 
-    def types_up_to_end(self):
+    def types_up_to_end(self) -> str:
         kinds = []
         while not self.has("E"):
             kinds.append(self.type())
         return "" if kinds == ["void"] else ", ".join(kinds)
 
-    def template(self):
+    def template(self) -> str:
         """The arguments of a template, whose `I` was read."""
         found = []
         while not self.has("E"):
@@ -127,7 +133,7 @@ class Reader:
         self.arguments = found
         return f"<{', '.join(it for it in found if it)}>"
 
-    def nested(self):
+    def nested(self) -> str:
         self.end = ""
         while self.peek() in ("K", "V", "r", "R", "O"):
             self.end = " const" if self.peek() == "K" else self.end
@@ -149,7 +155,7 @@ class Reader:
                 self.hold(name)
         return name
 
-    def local(self):
+    def local(self) -> str:
         """A name within a function."""
         outer = self.encoding()
         if not self.has("E"):
@@ -161,7 +167,7 @@ class Reader:
             self.number()
         return f"{outer}::{inner}"
 
-    def name(self):
+    def name(self) -> str:
         if self.has("N"):
             return self.nested()
         if self.has("Z"):
@@ -174,10 +180,10 @@ class Reader:
                 self.hold(name)
         return name + self.template() if self.has("I") else name
 
-    def type(self):
+    def type(self) -> str:
         return filled(self.hole_type())
 
-    def hole_type(self):
+    def hole_type(self) -> str:
         """A type; one of a function or an array has a hole where the sign of a pointer to it stands."""
         letter = self.peek()
         for sign, text in (("P", "*"), ("R", "&"), ("O", "&&"), ("K", " const"), ("V", " volatile")):
@@ -205,7 +211,7 @@ class Reader:
             return BUILTIN[letter]
         return self.hold(self.name())
 
-    def encoding(self):
+    def encoding(self) -> str:
         """A name, and the types of its parameters where it is a function's."""
         for start, text in SPECIAL.items():
             if self.has(start):
@@ -222,7 +228,7 @@ class Reader:
         return f"{result}{name}({'' if kinds == ['void'] else ', '.join(kinds)}){end}" if kinds else name
 
 
-def written(symbol):
+def written(symbol: str) -> Optional[str]:
     """A symbol's name as C++ has it, with the types of its parameters; None where it has none of C++, or one that isn't read."""
     if not symbol.startswith("_Z"):
         return None
@@ -232,7 +238,7 @@ def written(symbol):
         return None
 
 
-def without_parameters(name):
+def without_parameters(name: str) -> str:
     """`Button::poll` of `Button::poll(int) const`: all before the parenthesis that the last one closes."""
     name = name.removesuffix(" const")
     if not name.endswith(")"):
@@ -245,7 +251,7 @@ def without_parameters(name):
     return name
 
 
-def qualified(symbol):
+def qualified(symbol: str) -> Optional[str]:
     """A symbol's name as C++ has it, without parameters and result; None where it isn't read."""
     try:
         return Reader(symbol).name()

@@ -1,10 +1,15 @@
 """The devices of stackbound: their names, flash, SRAM and vectors, and the registers that enable vectors, as avr-libc calls them."""
 
+from __future__ import annotations
+
 import difflib
 import functools
-from typing import Any, Dict, Iterator, List, NamedTuple, Optional, Tuple
+from typing import TYPE_CHECKING, Iterator, List, NamedTuple, Optional, Tuple
 
 from stackcheck_tools.firmware.device_table import CLASSES, VECTORS
+
+if TYPE_CHECKING:
+    from stackcheck_tools.firmware.elf import Elf
 
 FIRST = ("atmega48pa", "atmega88pa", "atmega168pa", "atmega328p")  # those of certificates without a device's name
 DEFAULT = "atmega328p"  # the one that stackbound takes without --device
@@ -80,6 +85,13 @@ class Device:
         vector = word // self.vector_words + 1
         return vector if vector in self.vectors and self.vector_word(vector) == word else None
 
+    def vector_of(self, word: int) -> int:
+        """The vector whose word this is, which is that of one."""
+        vector = self.vector_at(word)
+        if vector is None:
+            raise ValueError(f"{word:04X} is the word of no vector")
+        return vector
+
     def vector_named(self, name: str) -> Optional[int]:
         """The vector that one of avr-libc's headers calls so."""
         return next((number for number, it in self.rows.items() if name in it.names), None)
@@ -116,13 +128,18 @@ def named(name: Optional[str]) -> Optional[Device]:
     return of_class(NAMES[name][0]) if name in NAMES else None
 
 
+def default() -> Device:
+    """The device that stackbound takes without --device."""
+    return of_class(NAMES[DEFAULT][0])
+
+
 def unknown(name: str) -> str:
     """What is told of a name that is in no row: names that are near, and where all are."""
     near = difflib.get_close_matches(name.lower(), NAMES, MOST_NEAR, ALIKE)
     return f"{len(NAMES)} names but not this one" + (f"; near: {', '.join(near)}" if near else "") + "; docs/DEVICES.md lists them all"
 
 
-def device_of(elf: Any, path: str, asked: Optional[str]) -> Tuple[Optional[str], Device]:
+def device_of(elf: Elf, path: str, asked: Optional[str]) -> Tuple[Optional[str], Device]:
     """The name for which the file was linked, and the device as which it is taken: its code is read as that device's from then on."""
     linked_for, wanted = elf.device(), named(asked)
     if asked and not wanted:
@@ -131,7 +148,7 @@ def device_of(elf: Any, path: str, asked: Optional[str]) -> Tuple[Optional[str],
         raise Misuse(f"{path} does not say for which device it was linked: give --device")
     device = wanted if linked_for is None else named(linked_for)
     if device is None:
-        raise Misuse(f"{path} was linked for {linked_for}, and stackbound knows {unknown(linked_for)}")
+        raise Misuse(f"{path} was linked for {linked_for}, and stackbound knows {unknown(linked_for or '')}")
     if wanted not in (None, device):
         raise Misuse(f"{path} was linked for {linked_for}, and not for {asked}")
     elf.take_for(device)

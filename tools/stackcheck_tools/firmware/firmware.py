@@ -1,10 +1,12 @@
 """A firmware with its device, and how its places are called."""
 
+from __future__ import annotations
+
 from typing import Dict, Optional, Set
 
 from stackcheck_tools.firmware.cxx_names import written
 from stackcheck_tools.firmware.debug_lines import Lines
-from stackcheck_tools.firmware.devices import Device, Misuse, device_of
+from stackcheck_tools.firmware.devices import Misuse, device_of
 from stackcheck_tools.firmware.elf import Elf, Symbol
 from stackcheck_tools.firmware.names import base, shown
 from stackcheck_tools.firmware.opcodes import jump_target

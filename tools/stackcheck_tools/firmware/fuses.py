@@ -1,6 +1,10 @@
 """Fuses that an ELF file says are programmed (section `.fuse`) and of which no flag speaks: they change where the chip starts, or what chip it is."""
 
-from typing import Any, Iterator, NamedTuple, Tuple
+from __future__ import annotations
+
+from typing import Iterator, NamedTuple, Tuple
+
+from stackcheck_tools.firmware.elf import Elf
 
 FUSES = "fuses"  # a kind of places
 KEPT = "@fuses"  # by which a line `keeps` of a spec names them
@@ -39,7 +43,7 @@ def of_device(device: str) -> Iterator[Fuse]:
         yield Fuse(name, EXTENDED, bit, OLDER.format(older, device.replace("atmega", "ATmega")))
 
 
-def programmed(elf: Any, device: str) -> Iterator[Fuse]:
+def programmed(elf: Elf, device: str) -> Iterator[Fuse]:
     """Yields those of these fuses that the file's own section programs."""
     section = elf.section(".fuse")
     yield from (it for it in of_device(device) if it.byte < len(section) and not section[it.byte] >> it.bit & 1)

@@ -1,8 +1,13 @@
 """Where the compiler has put the code of functions into others, from the debug information of an ELF file: DWARF of versions 2 to 4."""
 
+from __future__ import annotations
+
+import functools
 import struct
+from typing import Dict, Iterator, List, NamedTuple, Optional, Tuple, Union
 
 from stackcheck_tools.firmware.debug_lines import Reader
+from stackcheck_tools.firmware.elf import Elf
 
 SUBPROGRAM, INLINED = 0x2E, 0x1D
 NAME, LOW, HIGH, ORIGIN, FILE, SPECIFICATION, RANGES = 0x03, 0x11, 0x12, 0x31, 0x3A, 0x47, 0x55
@@ -11,16 +16,44 @@ FIXED = {0x05: "H", 0x06: "I", 0x07: "Q", 0x0B: "B", 0x0C: "B", 0x11: "B", 0x12:
 BLOCKS = {0x03: "H", 0x04: "I", 0x0A: "B"}
 
 
-class Unit:
+Span = Tuple[int, int]  # begin and end, by byte addresses
+Kinds = Dict[int, Tuple[int, List[Tuple[int, int]]]]  # the kinds of entries by their codes: (tag, [(attribute, form)])
+
+
+class Unit(NamedTuple):
     """A compilation unit: where it begins, the size of addresses, and its abbreviations."""
 
-    def __init__(self, begin, version, address, kinds):
-        self.begin, self.version, self.address, self.kinds = begin, version, address, kinds
+    begin: int
+    version: int
+    address: int
+    kinds: Kinds
 
 
-def abbreviations(data, at):
-    """The kinds of entries by their codes: (tag, [(attribute, form)])."""
-    reader, found = Reader(data, at), {}
+class Attribute(NamedTuple):
+    """The form and the value of an attribute: a number, a text, or nothing that is needed here."""
+
+    form: int
+    value: Union[int, str, None]
+
+    def number(self) -> int:
+        """Its value, which has to be a number."""
+        if not isinstance(self.value, int):
+            raise ValueError
+        return self.value
+
+
+class Entry(NamedTuple):
+    """An entry of the debug information that is a function or a copy of one."""
+
+    offset: int
+    tag: int
+    attributes: Dict[int, Attribute]
+
+
+def abbreviations(data: bytes, at: int) -> Kinds:
+    """The kinds of entries of a unit."""
+    reader = Reader(data, at)
+    found: Kinds = {}
     while code := reader.number():
         tag, _ = reader.number(), reader.take("B")
         pairs = []
@@ -30,7 +63,7 @@ def abbreviations(data, at):
     return found
 
 
-def attribute(reader, form, unit, strings):
+def attribute(reader: Reader, form: int, unit: Unit, strings: bytes) -> Union[int, str, None]:
     """The value of an attribute; references count from the begin of the section."""
     if form in (0x01, 0x10):
         return reader.take("I" if form == 0x10 and unit.version > 2 or unit.address == 4 else "H")
@@ -56,8 +89,8 @@ def attribute(reader, form, unit, strings):
     raise ValueError
 
 
-def entries(elf):
-    """Yields (offset, tag, attributes, unit) of each entry that is a function or a copy of one."""
+def entries(elf: Elf) -> Iterator[Entry]:
+    """Yields the entries of a file."""
     data, kinds, strings = (elf.section(it) for it in (".debug_info", ".debug_abbrev", ".debug_str"))
     at = 0
     while at + 11 <= len(data):
@@ -69,38 +102,41 @@ def entries(elf):
             offset, code = reader.at, reader.number()
             if code:
                 tag, pairs = unit.kinds[code]
-                found = {name: (form, attribute(reader, form, unit, strings)) for name, form in pairs}
+                found = {name: Attribute(form, attribute(reader, form, unit, strings)) for name, form in pairs}
                 if tag in (SUBPROGRAM, INLINED):
-                    yield offset, tag, found, unit
+                    yield Entry(offset, tag, found)
         at = end
 
 
-def spans(elf, found, base):
+def spans(elf: Elf, found: Dict[int, Attribute]) -> List[Span]:
     """The byte addresses of a copy: one span, or those of a list."""
     if LOW in found and HIGH in found:
-        low, (form, high) = found[LOW][1], found[HIGH]
-        return [(low, high if form == 0x01 else low + high)]
+        low, high = found[LOW].number(), found[HIGH].number()
+        return [(low, high if found[HIGH].form == 0x01 else low + high)]
     if RANGES not in found:
         return []
-    reader, held = Reader(elf.section(".debug_ranges"), found[RANGES][1]), []
+    base, reader = 0, Reader(elf.section(".debug_ranges"), found[RANGES].number())
+    held: List[Span] = []
     while (pair := (reader.take("I"), reader.take("I"))) != (0, 0):
         base = pair[1] if pair[0] == 0xFFFFFFFF else base
         held += [(base + pair[0], base + pair[1])] if pair[0] != 0xFFFFFFFF else []
     return held
 
 
-def read(elf):
+def read(elf: Elf) -> Dict[str, List[Span]]:
     """The spans of all copies by the names of their functions, those of the linker for C++ too."""
-    names, origins, copies = {}, {}, []
-    for offset, tag, found, _ in entries(elf):
-        own = [found[it][1] for it in (NAME, *LINKAGE) if it in found]
-        names[offset] = own
-        origins[offset] = next((found[it][1] for it in (ORIGIN, SPECIFICATION) if it in found), None)
+    names: Dict[int, List[str]] = {}
+    origins: Dict[int, Optional[int]] = {}
+    found_copies: List[Tuple[int, List[Span]]] = []
+    for offset, tag, found in entries(elf):
+        names[offset] = [str(found[it].value) for it in (NAME, *LINKAGE) if it in found]
+        origins[offset] = next((found[it].number() for it in (ORIGIN, SPECIFICATION) if it in found), None)
         if tag == INLINED:
-            copies.append((offset, spans(elf, found, 0)))
-    held = {}
-    for offset, parts in copies:
-        told, at = [], offset
+            found_copies.append((offset, spans(elf, found)))
+    held: Dict[str, List[Span]] = {}
+    for offset, parts in found_copies:
+        told: List[str] = []
+        at: Optional[int] = offset
         while at is not None:
             told += names.get(at, [])
             at = origins.get(at)
@@ -109,11 +145,10 @@ def read(elf):
     return held
 
 
-def copies(elf):
+@functools.lru_cache(maxsize=None)
+def copies(elf: Elf) -> Dict[str, List[Span]]:
     """The spans by names; none without debug information, or as far as it can be read."""
-    if elf.inlined is None:
-        try:
-            elf.inlined = read(elf)
-        except (struct.error, ValueError, IndexError, KeyError):
-            elf.inlined = {}
-    return elf.inlined
+    try:
+        return read(elf)
+    except (struct.error, ValueError, IndexError, KeyError):
+        return {}

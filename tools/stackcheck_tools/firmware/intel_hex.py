@@ -4,9 +4,11 @@ The format: Intel, Hexadecimal Object File Format Specification, revision A, 198
 at 810000 and behind, where no flash is.
 """
 
+from __future__ import annotations
+
 import os
 import re
-from typing import Any, Dict, Iterator, List, NamedTuple, Optional
+from typing import Dict, Iterator, List, NamedTuple, Optional
 
 from stackcheck_tools.firmware import start_up
 from stackcheck_tools.firmware.devices import DEFAULT, of_class
@@ -92,7 +94,7 @@ class Image(Elf):
     """The flash of a file of Intel HEX, as an ELF file without names and sections. `data_end` is the data address behind what the start-up code fills."""
 
     def __init__(self, path: str) -> None:
-        self.path, self.lines, self.inlined = path, None, None
+        self.path = path
         self.data, self.loaded, self.headers, self.sections = b"", [], [], {}
         self.flash, self.flash_end, self.fuses = bytearray(b"\xff" * FLASH), 0, bytearray()
         self.filled: List[start_up.Filled] = []
@@ -146,7 +148,7 @@ class Image(Elf):
         return bytes(self.flash[:self.flash_end + self.flash_end % 2])
 
 
-def firmware(path: str, device: Optional[str], folder: str) -> Any:
+def firmware(path: str, device: Optional[str], folder: str) -> Firmware:
     """The firmware of a file of Intel HEX, whose raw image is made in a folder."""
     image = Image(path)
     found = Firmware(path, device, image)

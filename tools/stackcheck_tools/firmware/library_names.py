@@ -1,5 +1,7 @@
 """Names that begin with `__` and are the compiler's own: of its library, of avr-libc, and of their start-up code."""
 
+from __future__ import annotations
+
 import re
 
 MODE = r"(u?[qhsdt][qa]|[qhsd]i|psi|[sd][fc])"  # a type of operands, as the compiler's library calls it

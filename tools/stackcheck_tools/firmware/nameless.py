@@ -1,5 +1,7 @@
 """Code without names: functions whose names were taken away (`strip -x`), between those that have one with a size."""
 
+from __future__ import annotations
+
 import functools
 from typing import Dict, FrozenSet, List, Tuple
 

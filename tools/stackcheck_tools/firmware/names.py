@@ -1,9 +1,13 @@
 """Functions by the names that a spec gives them: symbols, their clones, and names of C++ as they are written."""
 
+from __future__ import annotations
+
 import difflib
 import re
+from typing import List, Tuple
 
 from stackcheck_tools.firmware.cxx_names import qualified, without_parameters, written
+from stackcheck_tools.firmware.elf import Elf, Symbol
 
 CLONE = re.compile(r"(\.(part|constprop|isra|lto_priv|cold)(\.\d+)?|\.\d+)+$")  # what the compiler puts behind the name of a function that it has copied or cut
 
@@ -16,22 +20,22 @@ class Missing(SpecFault):
     """A function that isn't in this build."""
 
 
-def base(name):
+def base(name: str) -> str:
     """The name of the function of which a symbol is a clone, or its own."""
     return CLONE.sub("", name)
 
 
-def plain(name):
+def plain(name: str) -> str:
     return re.sub(r"\s+", "", name)
 
 
-def shown(symbol):
+def shown(symbol: Symbol) -> str:
     """A symbol's name as a reader knows it: that of C++ without parameters where it is one of C++, and without a clone's end."""
     own = base(symbol.name)
     return without_parameters(written(own) or own)
 
 
-def forms(name):
+def forms(name: str) -> Tuple[str, ...]:
     """The names by which a function of C++ may be called, the exact ones first: with the types of parameters, without, and the last part."""
     whole = written(name)
     if whole is None:
@@ -42,7 +46,7 @@ def forms(name):
     return plain(whole), plain(whole_name), plain(re.sub(r"<.*>$", "", whole_name)), plain(last)
 
 
-def near(elf, name):
+def near(elf: Elf, name: str) -> str:
     """What a name may have been meant for: names that are alike, in whole or in their last part."""
     known = sorted({shown(it) for it in elf.code if it.is_function and not it.name.startswith("__")})
     last_of = {it: re.split(r"::", re.sub(r"[(<].*", "", it))[-1] for it in known}
@@ -53,7 +57,7 @@ def near(elf, name):
     return f"; near: {', '.join(found[:4])}" if found else ""
 
 
-def of_cxx(elf, name):
+def of_cxx(elf: Elf, name: str) -> List[Symbol]:
     """The symbols of C++ that are written so: in whole, without parameters, or by the last parts of their names."""
     wanted = plain(name)
     known = [(it, forms(base(it.name))) for it in elf.code if it.is_function and it.name.startswith("_Z")]
@@ -63,7 +67,7 @@ def of_cxx(elf, name):
     return [it for it, names in known if any(each.endswith("::" + wanted) for each in names[:3])]
 
 
-def named(elf, name):
+def named(elf: Elf, name: str) -> Tuple[List[Symbol], List[Symbol]]:
     """The symbols that a name means, and its clones: those of this name, else those of C++ that are written so. A vector's name means its handler."""
     name = elf.chip.handlers.get(name, name)
     found = elf.named(name)
@@ -75,7 +79,7 @@ def named(elf, name):
     return [it for it in found if base(it.name) == it.name], [it for it in found if base(it.name) != it.name]
 
 
-def functions(elf, name):
+def functions(elf: Elf, name: str) -> List[Symbol]:
     """The symbols of a function: its own and its clones', one for each address."""
     own, clones = named(elf, name)
     if not own and not clones:
@@ -87,7 +91,7 @@ def functions(elf, name):
     return list({it.address: it for it in [*own, *clones]}.values())
 
 
-def function(elf, name):
+def function(elf: Elf, name: str) -> Symbol:
     """The one symbol of a function: its own, else its only clone."""
     found = functions(elf, name)
     own = [it for it in found if base(it.name) == it.name] or found

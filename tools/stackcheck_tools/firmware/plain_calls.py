@@ -1,6 +1,8 @@
 """Calls through a pointer that is loaded from a variable, or from the object that the function was given: none reads a table of virtual functions, so
 that a function which stands in such tables alone isn't entered there. In C++ nothing but a call of a virtual function reads them."""
 
+from __future__ import annotations
+
 from typing import List, Optional, Tuple
 
 from stackcheck_tools.firmware import opcodes

@@ -1,5 +1,7 @@
 """The linker's own records in an ELF file (`-Wl,--emit-relocs`): which words of code a firmware names otherwise than by a call or a jump."""
 
+from __future__ import annotations
+
 import functools
 import struct
 from typing import Iterable, Iterator, List, NamedTuple, Optional, Set, Tuple

@@ -1,6 +1,10 @@
 """The loops of start-up code that fill static data, by their instructions."""
 
-from typing import Any, NamedTuple, Optional
+from __future__ import annotations
+
+from typing import NamedTuple, Optional
+
+from stackcheck_tools.firmware.elf import Elf
 
 XL, XH, ZL, ZH = 26, 27, 30, 31
 ST_X_R1, ST_X_R0 = 0x921D, 0x920D
@@ -19,7 +23,7 @@ class Filled(NamedTuple):
         return f"{self.begin:04X} to {self.end - 1:04X}"
 
 
-def loaded(elf: Any, word: int, register: int) -> Optional[int]:
+def loaded(elf: Elf, word: int, register: int) -> Optional[int]:
     """The byte that the last `ldi` of a register among the few instructions before a word loads; None where there is none."""
     for at in range(word - 1, max(word - BACK - 1, -1), -1):
         opcode = elf.word(at)
@@ -28,13 +32,13 @@ def loaded(elf: Any, word: int, register: int) -> Optional[int]:
     return None
 
 
-def pair(elf: Any, word: int, low: int) -> Optional[int]:
+def pair(elf: Elf, word: int, low: int) -> Optional[int]:
     """The number that `ldi` loads into a pair of registers before a word."""
     bytes_of = [loaded(elf, word, it) for it in (low, low + 1)]
     return None if None in bytes_of else bytes_of[1] << 8 | bytes_of[0]  # type: ignore[operator]
 
 
-def filled(elf: Any, word: int) -> Optional[Filled]:
+def filled(elf: Elf, word: int) -> Optional[Filled]:
     """What the loop fills whose store stands at a word; None where it isn't the store of such a loop."""
     store, compare, other = (elf.word(word + it) for it in range(3))
     if store not in (ST_X_R0, ST_X_R1) or compare & 0xF0F0 != 0x30A0 or other & 0xFDF0 != 0x05B0:

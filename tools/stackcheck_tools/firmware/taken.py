@@ -1,6 +1,8 @@
 """The functions whose address a firmware takes: all that a call through a pointer enters, if it keeps to its functions. By the linker's records, or
 else by a search in the file."""
 
+from __future__ import annotations
+
 import functools
 from typing import Dict, FrozenSet, Iterator, List, NamedTuple, Optional, Set, Tuple
 

@@ -1,16 +1,20 @@
 """Where an indirect transfer may go: functions, constructors of static objects, tables of `switch`, virtual functions, and what has its address taken."""
 
+from __future__ import annotations
+
 import functools
 import struct
+from typing import Dict, Iterable, Iterator, List, Optional, Set, Tuple
 
 from stackcheck_tools.firmware import opcodes
+from stackcheck_tools.firmware.elf import Elf
 from stackcheck_tools.firmware.names import SpecFault, base, function
 
 NEAR = 4  # how many instructions the two halves of an address are apart, at most
 NONE = ("main", "exit", "_exit", "abort")  # functions that nothing calls through a pointer
 
 
-def constructors(elf):
+def constructors(elf: Elf) -> Set[int]:
     """The words of the constructors of static objects, from the list that the start-up code walks through."""
     begin, end = elf.all.get("__ctors_start", 0), elf.all.get("__ctors_end", 0)
     if begin == end:
@@ -18,7 +22,7 @@ def constructors(elf):
     return {elf.word(at // 2) for at in range(begin, end, 2)}
 
 
-def tables(elf):
+def tables(elf: Elf) -> Set[int]:
     """The words of all tables of `switch` that are jumped through by `__tablejump2__`, a table as far as its words lie in its function."""
     helper = [it.address // 2 for it in elf.named("__tablejump2__")]
     found = []
@@ -39,7 +43,7 @@ def tables(elf):
     return targets
 
 
-def virtual(elf, name, number):
+def virtual(elf: Elf, name: str, number: str) -> int:
     """The word of the N-th virtual function, counted from 1, of a class by its table in the image of initialised data."""
     parts = name.split("::")
     mangled = "".join(f"{len(it)}{it}" for it in parts)
@@ -55,10 +59,10 @@ def virtual(elf, name, number):
     return word
 
 
-def addresses_loaded(elf):
+def addresses_loaded(elf: Elf) -> Iterator[int]:
     """Numbers of two bytes that a pair of `ldi` loads into a register and the next one, the two a few instructions apart at most."""
     for symbol in elf.code:
-        halves = []
+        halves: List[Optional[Tuple[int, int]]] = []
         for _, opcode in opcodes.words_of(elf, symbol) if symbol.is_function else ():
             if opcode & 0xF000 == 0xE000:
                 register, byte = 16 + (opcode >> 4 & 15), opcode & 15 | opcode >> 4 & 0xF0
@@ -70,7 +74,7 @@ def addresses_loaded(elf):
             del halves[:-NEAR]
 
 
-def words_in_data(elf, but=()):
+def words_in_data(elf: Elf, but: Iterable[Tuple[int, int]] = ()) -> Iterator[int]:
     """Numbers of two bytes at each place of the image of initialised data, and of what stands in flash between the vectors and the code; those
     that begin within one of some spans of addresses are left out."""
     for address, size, offset in elf.loaded:
@@ -83,17 +87,17 @@ def words_in_data(elf, but=()):
         yield struct.unpack_from("<H", elf.flash, at)[0]
 
 
-def starts(elf):
+def starts(elf: Elf) -> Set[int]:
     """The words of the functions that something may call through a pointer."""
     return {it.address // 2 for it in elf.code if it.is_function and base(it.name) not in NONE and not it.name.startswith("__")}
 
 
-def taken(elf):
+def taken(elf: Elf) -> Set[int]:
     """The words of the functions whose address is taken: by a pair of `ldi`, in the image of initialised data, or in a table in flash."""
     return starts(elf) & {*addresses_loaded(elf), *words_in_data(elf)}
 
 
-def tables_of_virtual(elf):
+def tables_of_virtual(elf: Elf) -> Iterator[Tuple[int, List[int]]]:
     """Yields the address and the words of each table of virtual functions."""
     for name, (address, size) in elf.objects.items():
         data = elf.at_data_address(address, size) if name.startswith("_ZTV") and size else None
@@ -102,9 +106,10 @@ def tables_of_virtual(elf):
 
 
 @functools.lru_cache(maxsize=None)
-def slots(elf):
+def slots(elf: Elf) -> Dict[int, Set[int]]:
     """The functions by the slots in which a table of virtual functions has them. A table has two words in front, and so has each part of a base."""
-    found, known = {}, starts(elf)
+    known = starts(elf)
+    found: Dict[int, Set[int]] = {}
     for _, words in tables_of_virtual(elf):
         begins = [2] + [at + 2 for at, word in enumerate(words) if at > 1 and (word == 0 or word > 0xF000)]
         for at, word in enumerate(words):
@@ -115,14 +120,15 @@ def slots(elf):
 
 
 @functools.lru_cache(maxsize=None)
-def taken_elsewhere(elf):
+def taken_elsewhere(elf: Elf) -> Set[int]:
     """The functions whose address is taken elsewhere than in a table of virtual functions."""
     spans = [(address, address + 2 * len(words)) for address, words in tables_of_virtual(elf)]
     return starts(elf) & {*addresses_loaded(elf), *words_in_data(elf, spans)}
 
 
-def targets(elf, words):
-    found, words = set(), list(words)
+def targets(elf: Elf, words: List[str]) -> Set[int]:
+    words = list(words)
+    found: Set[int] = set()
     while words:
         word = words.pop(0)
         if word == "@constructors":

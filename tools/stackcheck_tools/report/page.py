@@ -1,12 +1,14 @@
 """What `stackcheck` found, as one page of HTML that stands alone."""
 
+from __future__ import annotations
+
 import os
 from html import escape
+from typing import Dict, Iterator, List, Tuple
 
-from stackcheck_tools.analysis.outcome import Refused
-from stackcheck_tools.analysis.places import unjudged
-from stackcheck_tools.report import flame, needs
-from stackcheck_tools.report import verdict as verdicts
+from stackcheck_tools.analysis.outcome import Accepted, Outcome, Refused
+from stackcheck_tools.analysis.places import Place, unjudged
+from stackcheck_tools.report import flame, needs, verdict as verdicts
 
 STYLE = """
 :root { color-scheme: light dark; --page: #fff; --text: #1d2430; --soft: #5a6372; --line: #eef0f3; --grid: #e3e6ea; --edge: #8a93a1; --code: #f1f3f6; --end: #3b4453;
@@ -45,12 +47,12 @@ GREEN, AMBER = "var(--green)", "var(--amber)"
 MOST_LETTERS = 120  # of a source line
 
 
-def with_code(text):
+def with_code(text: str) -> str:
     """Escaped text, in which what stands between back quotes is code."""
     return "".join(f"<code>{escape(part)}</code>" if n % 2 else escape(part) for n, part in enumerate(text.split("`")))
 
 
-def bar(parts):
+def bar(parts: List[Tuple[int, str, str]]) -> Iterator[str]:
     """A bar to scale with its key: parts are (bytes, colour, text)."""
     whole = sum(count for count, _, _ in parts) or 1
     yield '<div class="bar">'
@@ -58,13 +60,13 @@ def bar(parts):
     yield "</div>"
 
 
-def keys(parts):
+def keys(parts: List[Tuple[int, str, str]]) -> Iterator[str]:
     yield '<ul class="keys">'
     yield from (f'<li><i style="background:{colour}"></i>{escape(text)}: {count} bytes</li>' for count, colour, text in parts)
     yield "</ul>"
 
 
-def memory(outcome):
+def memory(outcome: Accepted) -> Iterator[str]:
     """SRAM from its first byte to its last: static data, what is left, the stack."""
     device = outcome.firmware.device
     static, left = device.sram() - outcome.room, outcome.room - outcome.bound
@@ -78,7 +80,7 @@ def memory(outcome):
     yield from keys(parts)
 
 
-def chain_colours(outcome, colours):
+def chain_colours(outcome: Accepted, colours: Dict[str, str]) -> Iterator[str]:
     """A colour for each link of the chain: that of its box where the link before has another; of interrupts from the handler on."""
     handlers, is_in_handler, last = {it.name for it in outcome.table if it.is_handler}, False, None
     for it in outcome.chain:
@@ -89,7 +91,7 @@ def chain_colours(outcome, colours):
         yield last
 
 
-def chain(outcome, colours):
+def chain(outcome: Accepted, colours: Dict[str, str]) -> Iterator[str]:
     yield "<h2>The deepest chain</h2>"
     if not outcome.chain:
         yield "<p>This stackbound has no command that prints the chain.</p>"
@@ -99,8 +101,10 @@ def chain(outcome, colours):
     yield from keys(parts)
 
 
-def tree(outcome):
+def tree(outcome: Accepted) -> Iterator[str]:
     """The tree of needs, and the deepest chain of it in the same colours."""
+    if outcome.graph is None:
+        return
     root, colours = flame.painted(outcome.graph)
     yield "<h2>Where the bytes go<small>width: bytes of stack; blue and green: calls; orange and red: interrupts</small></h2>"
     yield '<figure class="wide">'
@@ -109,7 +113,7 @@ def tree(outcome):
     yield from chain(outcome, colours)
 
 
-def needs_table(outcome):
+def needs_table(outcome: Accepted) -> Iterator[str]:
     most = max((it.all for it in outcome.table), default=0) or 1
     yield "<h2>What each function needs</h2><table><tr><th>function</th>"
     yield "".join(f'<th class="count">{name}</th>' for name in needs.COLUMNS.split(", ")) + "<th></th></tr>"
@@ -121,12 +125,12 @@ def needs_table(outcome):
     yield "</table>"
 
 
-def cut(line):
+def cut(line: str) -> str:
     """A source line as the page has room for it."""
     return line if len(line) <= MOST_LETTERS else line[:MOST_LETTERS - 1] + "…"
 
 
-def place_row(it):
+def place_row(it: Place) -> str:
     where = f"<b>{escape(it.where().rstrip(': '))}</b> in {escape(it.title)}" if it.source else escape(it.title)
     code = f"<code>{escape(cut(it.code))}</code>" if it.code else ""
     why = f'<div class="soft">judged: {escape(it.judged.why)}</div>' if it.judged else "".join(f'<div class="soft">{with_code(told)}</div>' for told in it.why())
@@ -134,7 +138,7 @@ def place_row(it):
             f'<td class="soft">{escape(it.count()) if it.words else ""}</td></tr>')
 
 
-def places(outcome):
+def places(outcome: Accepted) -> Iterator[str]:
     """The places that must be judged, and those that were."""
     if outcome.premises is None:
         return
@@ -148,7 +152,7 @@ def places(outcome):
     yield "</table>"
 
 
-def changes(outcome):
+def changes(outcome: Accepted) -> Iterator[str]:
     """What each interrupt costs, and what grew, where that was asked for."""
     if outcome.costs:
         yield "<h2>What each interrupt costs</h2><table>"
@@ -160,20 +164,20 @@ def changes(outcome):
         yield f"<h2>What changed</h2><p>{escape(first)}</p><ul>" + "".join(f"<li>{escape(it.strip())}</li>" for it in rest) + "</ul>"
 
 
-def verdict(outcome):
+def verdict(outcome: Accepted) -> Tuple[str, str]:
     """The colour of a bound, and what is wrong with it."""
     if outcome.flagged:
         return "red", f"this bound may say nothing: {outcome.flagged}"
     if not outcome.keeps:
         return "red", f"too deep ({outcome.rule})"
-    if outcome.grows_too_much:
+    if outcome.grows_too_much and outcome.difference:
         return "red", f"it has grown by {outcome.difference.grown()} bytes"
     is_amber = outcome.premises is None or unjudged(outcome, False)
     text = verdicts.holds(outcome)
     return "amber" if is_amber else "green", f"fits; the bound {'' if text.startswith('holds') else 'holds '}{text}"
 
 
-def accepted(outcome):
+def accepted(outcome: Accepted) -> Iterator[str]:
     colour, text = verdict(outcome)
     seen = outcome.seen
     yield (f'<p class="verdict {colour}"><b>{outcome.bound} bytes</b> at most ({outcome.witness}){"" if seen is None else f", {seen} seen"}; '
@@ -188,7 +192,7 @@ def accepted(outcome):
     yield "</ul>"
 
 
-def refused(outcome):
+def refused(outcome: Refused) -> Iterator[str]:
     yield f'<p class="verdict red">There is no bound: <code>{escape(outcome.refusal)}</code></p><dl>'
     rows = [("Place", "; ".join(outcome.places) or "none"), ("Usual cause", outcome.cause), *([("Here", "; ".join(outcome.reasons))] if outcome.reasons else []), ("What helps", outcome.cure)]
     rows += [("Lines for a spec", "; ".join(f"`{it}`" for it in outcome.cure_lines))] if outcome.cure_lines else []
@@ -196,7 +200,7 @@ def refused(outcome):
     yield "</dl>"
 
 
-def html(outcome):
+def html(outcome: Outcome) -> str:
     firmware = outcome.firmware
     name = escape(os.path.basename(firmware.path))
     taken = f", linked for {firmware.linked_for}" if firmware.linked_for not in (None, firmware.device.name) else ""

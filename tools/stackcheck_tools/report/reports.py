@@ -1,11 +1,16 @@
 """What `stackcheck` tells beside the bound, and the words that ask for it: needs, places, interrupts, growth, files for people and machines."""
 
+from __future__ import annotations
+
 import sys
+from argparse import Namespace
+from typing import Callable, Iterator, Optional
 
 from stackcheck_tools.analysis import idle_lines, places
-from stackcheck_tools.analysis.outcome import Refused
+from stackcheck_tools.analysis.outcome import Accepted, Outcome, Refused
 from stackcheck_tools.firmware.devices import Misuse
-from stackcheck_tools.report import annotations, call_graph, dot, interrupts, machine_report, needs
+from stackcheck_tools.habits import Words
+from stackcheck_tools.report import call_graph, dot, github, interrupts, machine_report, needs
 from stackcheck_tools.report.page import html
 from stackcheck_tools.spec.spec import Spec
 
@@ -15,7 +20,7 @@ FILES = {"json": lambda outcome: machine_report.text(outcome),
          "page": lambda outcome: html(outcome)}
 
 
-def add_words(words, count):
+def add_words(words: Words, count: Callable[[str], int]) -> None:
     """The words that ask for what this module tells; `count` reads a number of bytes."""
     for name in FILES:
         words.add_argument(f"--{name}")
@@ -28,21 +33,21 @@ def add_words(words, count):
     words.add_argument("--github", action="store_true")
 
 
-def check_words(words):
+def check_words(words: Namespace) -> None:
     if words.grow is not None and not words.diff:
         raise Misuse("--grow limits what grew since the file of --diff: give that too")
     if sum(getattr(words, name) == "-" for name in FILES) > 1:
         raise Misuse("one file alone can be `-`, which is printed in place of the text")
 
 
-def assumed(certificate):
+def assumed(certificate: str) -> str:
     """The assumption file under which a certificate was accepted."""
     lines = certificate.splitlines()
     begin = next(n for n, line in enumerate(lines) if line.startswith("assume "))
     return "".join(f"{it}\n" for it in lines[begin + 1:begin + 1 + int(lines[begin].split()[1])])
 
 
-def complete(outcome, words, folder):
+def complete(outcome: Outcome, words: Namespace, folder: str) -> None:
     """Works out what is told beside a bound."""
     if isinstance(outcome, Refused):
         return
@@ -62,7 +67,7 @@ def complete(outcome, words, folder):
         outcome.grows_too_much = words.grow is not None and outcome.difference.grown() > words.grow
 
 
-def told(outcome):
+def told(outcome: Accepted) -> Iterator[str]:
     """What is printed of this behind what the bound rests on."""
     yield from places.told(outcome)
     if outcome.chain:
@@ -75,9 +80,9 @@ def told(outcome):
         yield from outcome.difference.told()
 
 
-def verdict(outcome, words):
+def verdict(outcome: Accepted, words: Namespace) -> Iterator[str]:
     """What is printed in front where the growth or a place fails."""
-    if outcome.grows_too_much:
+    if outcome.grows_too_much and outcome.difference:
         yield f"TOO MUCH: the bound has grown by {outcome.difference.grown()} bytes, and --grow permits {words.grow}"
     if outcome.firmware.lost:
         yield outcome.firmware.lost
@@ -87,7 +92,7 @@ def verdict(outcome, words):
         yield f"NOT JUDGED: {len(left)} of the {len(outcome.entries)} entries below"
 
 
-def write(outcome, words):
+def write(outcome: Outcome, words: Namespace) -> Optional[str]:
     """Writes the files that were asked for; the text of the one that is `-`, which is printed in place of all else."""
     printed = None
     for name, make in FILES.items():
@@ -101,15 +106,15 @@ def write(outcome, words):
     return printed
 
 
-def show(outcome, words, text):
+def show(outcome: Outcome, words: Namespace, text: str) -> None:
     """Prints the text, or the one file in its place, and what a workflow of GitHub shows."""
     printed = write(outcome, words)
     sys.stdout.write(text if printed is None else printed)
     if words.github:
-        print("\n".join(annotations.told(outcome, words)))
+        print("\n".join(github.told(outcome, words)))
 
 
-def schedule(outcome):
+def schedule(outcome: Accepted) -> Optional[str]:
     """The run that is as deep as the bound: the certificate's schedule, or the files of a trial run with the command that does it again."""
     lines = outcome.certificate.splitlines()
     if "witness attained" in lines:

@@ -1,6 +1,9 @@
 """What a bound rests on, in words: the first line of what `stackcheck` prints, and its status."""
 
-from typing import Any, List, Optional
+from __future__ import annotations
+
+from argparse import Namespace
+from typing import List, Optional
 
 from stackcheck_tools.analysis.kinds import (
     CALLS,
@@ -18,7 +21,7 @@ from stackcheck_tools.analysis.kinds import (
     moving,
 )
 from stackcheck_tools.analysis.outcome import Accepted, Outcome, Refused
-from stackcheck_tools.analysis.places import unjudged
+from stackcheck_tools.analysis.places import Place, unjudged
 from stackcheck_tools.firmware import fuses
 from stackcheck_tools.spec import recursion
 
@@ -75,14 +78,14 @@ def first(outcome: Accepted) -> str:
     return f"bound {outcome.bound}, {holds(outcome)}"
 
 
-def left(outcome: Accepted, words: Any) -> List[Any]:
+def left(outcome: Accepted, words: Namespace) -> List[Place]:
     """The entries that make the status 5."""
     if words.accept_places:
         return []
     return unjudged(outcome, words.judged)
 
 
-def status(outcome: Outcome, words: Any) -> int:
+def status(outcome: Outcome, words: Namespace) -> int:
     """The exit status: no bound, then an empty one, then the limits, then the places."""
     if isinstance(outcome, Refused):
         return REFUSED

@@ -1,12 +1,20 @@
 """Lines `recursion FUNCTION N` of a spec: at most N activations stand on the stack at a time. They become lines `recur ENTRY K` of an assumption
 file: no call enters ENTRY while more than K bytes are on the stack, K the most that a call has above it within these numbers."""
 
+from __future__ import annotations
+
 import itertools
-from typing import Any, Dict, Iterator, List, NamedTuple, Optional, Tuple
+from typing import TYPE_CHECKING, Dict, Iterator, List, NamedTuple, Optional, Tuple
 
 from stackcheck_tools.firmware import opcodes
 from stackcheck_tools.firmware.devices import Device
+from stackcheck_tools.firmware.elf import Elf
 from stackcheck_tools.firmware.names import SpecFault, functions, shown
+
+if TYPE_CHECKING:
+    from stackcheck_tools.analysis.trials import Stop
+    from stackcheck_tools.firmware.firmware import Firmware
+    from stackcheck_tools.spec.lines import Lines
 
 RETURN = 2  # bytes of a return address
 KIND = "recur"
@@ -37,7 +45,7 @@ class Recursion:
         return f"recursion {self.name} {self.count}: calls up to {self.depths.get(entry, 0)} bytes deep{more}"
 
 
-def read(elf: Any, number: int, words: List[str], why: str) -> Recursion:
+def read(elf: Elf, number: int, words: List[str], why: str) -> Recursion:
     """A line `recursion FUNCTION N`."""
     if len(words) != 3:
         raise SpecFault("expected `recursion FUNCTION N`")
@@ -62,7 +70,7 @@ class Edge(NamedTuple):
 class Nest:
     """The instances of a certificate under lines of depth 0, with all their edges: those into words with a line too."""
 
-    def __init__(self, firmware: Any, certificate: str, entries: List[int]) -> None:
+    def __init__(self, firmware: Firmware, certificate: str, entries: List[int]) -> None:
         self.elf, self.device, self.entries = firmware.elf, firmware.device, entries
         self.ranks: List[int] = []
         self.entry_of: List[int] = []
@@ -154,7 +162,7 @@ def numbered(recursions: List[Recursion]) -> List[Tuple[int, Recursion]]:
     return sorted(found.items(), key=lambda it: it[0])
 
 
-def settle(firmware: Any, certificate: str, recursions: List[Recursion]) -> Dict[int, int]:
+def settle(firmware: Firmware, certificate: str, recursions: List[Recursion]) -> Dict[int, int]:
     """The K of each word by a certificate under depth 0, noted at the lines too."""
     words = numbered(recursions)
     nest = Nest(firmware, certificate, [entry for entry, _ in words])
@@ -181,14 +189,14 @@ def conditions(recursions: List[Recursion]) -> Iterator[str]:
     yield from (f"{it.name} nests at most {it.count} deep" for it in recursions)
 
 
-def of_call(elf: Any, lines: Any, recursions: List[Recursion], word: int) -> Optional[Recursion]:
+def of_call(elf: Elf, lines: Lines, recursions: List[Recursion], word: int) -> Optional[Recursion]:
     """The line that speaks of the call at a word, by name or by a `jump` line."""
     target = opcodes.call_target(elf, word)
     targets = {target} if target is not None else lines.of(word, "jump") if elf.word(word) == opcodes.ICALL else set()
     return next((found for it in sorted(targets) if (found := line_at(recursions, it))), None)
 
 
-def text_of_stop(firmware: Any, recursions: List[Recursion], stop: Any) -> Optional[str]:
+def text_of_stop(firmware: Firmware, recursions: List[Recursion], stop: Stop) -> Optional[str]:
     """What a trial run says that passes a line; None of another stop."""
     found = line_at(recursions, stop.other) if stop.kind == "transfer" else None
     if found is None:
@@ -197,6 +205,6 @@ def text_of_stop(firmware: Any, recursions: List[Recursion], stop: Any) -> Optio
             f"{found.count} is too small in `recursion {found.name} {found.count}`; the bound covers only what comes before")
 
 
-def name_of_entry(firmware: Any, entry: int) -> str:
+def name_of_entry(firmware: Firmware, entry: int) -> str:
     symbol = firmware.elf.symbol_at(2 * entry)
     return shown(symbol) if symbol else f"{entry:04X}"

@@ -1,8 +1,11 @@
 """Lines `scratch`: pushes whose bytes a program means to write later, as avr-libc's `exp` does with four of its own."""
 
-from typing import Any, Iterator, List
+from __future__ import annotations
+
+from typing import Iterable, Iterator, List, Tuple
 
 from stackcheck_tools.firmware import opcodes
+from stackcheck_tools.firmware.elf import Elf
 
 KIND = "scratch"
 # `push r0` three times, `in r20, SPL`, `in r21, SPH`, `push r0`: avr-libc's `exp` gives `modf` the address of these four bytes.
@@ -15,7 +18,7 @@ def is_push(opcode: int) -> bool:
     return opcode & 0xFE0F == PUSH
 
 
-def of_exp(elf: Any) -> List[int]:
+def of_exp(elf: Elf) -> List[int]:
     """The words of the pushes of avr-libc's `exp`, wherever it is linked."""
     found = []
     for word in range((elf.flash_end + 1) // 2 - len(EXP) + 1):
@@ -24,7 +27,7 @@ def of_exp(elf: Any) -> List[int]:
     return found
 
 
-def candidates_of(functions: Any) -> Iterator[int]:
+def candidates_of(functions: Iterable[List[Tuple[int, int]]]) -> Iterator[int]:
     """Yields the pushes of functions that take the stack pointer's address beside a frame: those near the read of SPL, the nearest first."""
     for words in functions:
         for at, (_, opcode) in enumerate(words):

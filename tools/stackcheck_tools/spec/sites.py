@@ -1,9 +1,13 @@
 """Sites of a function to which a line of a spec speaks: by their number, all of them, or those of a source line."""
 
+from __future__ import annotations
+
 import os
 import re
+from typing import Callable, Iterator, List, Set, Tuple
 
 from stackcheck_tools.firmware import debug_lines, opcodes
+from stackcheck_tools.firmware.elf import Elf, Symbol
 from stackcheck_tools.firmware.inlined import copies
 from stackcheck_tools.firmware.names import SpecFault, base, forms, function, functions, named, plain
 from stackcheck_tools.spec.scratch import is_push
@@ -14,14 +18,14 @@ SITES = {"jump": (opcodes.is_indirect, "indirect transfer"), "scratch": (is_push
 STORES = opcodes.is_pointer_store, "pointer store"
 
 
-def copies_of(elf, name):
+def copies_of(elf: Elf, name: str) -> List[Tuple[int, int]]:
     """The spans of byte addresses where a function's code stands within others, as the debug information tells."""
     name = elf.chip.handlers.get(name, name)
     wanted = plain(name if "::" in name else name.rpartition(":")[2])
     return [span for key, parts in copies(elf).items() if base(key) == wanted or wanted in forms(base(key)) for span in parts]
 
 
-def words_of(elf, name, test=lambda _: True):
+def words_of(elf: Elf, name: str, test: Callable[[int], bool] = lambda _: True) -> Set[int]:
     """The words of the instructions of a function, its clones, and its code within others, for which a test holds."""
     spans = copies_of(elf, name)
     symbols = functions(elf, name) if not spans or any(named(elf, name)) else []
@@ -32,11 +36,11 @@ def words_of(elf, name, test=lambda _: True):
     return found
 
 
-def counted(count, what):
+def counted(count: int, what: str) -> str:
     return f"{count} {what}{'' if count == 1 else 's'}"
 
 
-def numbered(elf, kind, name, number):
+def numbered(elf: Elf, kind: str, name: str, number: str) -> Set[int]:
     """The word of the N-th site, counted from 1, of this kind in a function."""
     test, what = SITES.get(kind, STORES)
     if copies_of(elf, name) and not any(named(elf, name)):
@@ -47,7 +51,7 @@ def numbered(elf, kind, name, number):
     return {found[int(number) - 1]}
 
 
-def each(elf, kind, name):
+def each(elf: Elf, kind: str, name: str) -> Set[int]:
     """The words of all sites of this kind in a function, its clones, and its code within others."""
     test, what = SITES.get(kind, STORES)
     found = words_of(elf, name, test)
@@ -56,7 +60,7 @@ def each(elf, kind, name):
     return found
 
 
-def file_of(elf, name):
+def file_of(elf: Elf, name: str) -> str:
     """The source file of a function, or a file's own name."""
     own, clones = named(elf, name)
     for address in [*(it.address for it in [*own, *clones]), *(begin for begin, _ in copies_of(elf, name))]:
@@ -70,7 +74,7 @@ def file_of(elf, name):
     return name
 
 
-def words_of_line(elf, name, line):
+def words_of_line(elf: Elf, name: str, line: int) -> List[int]:
     """The words of a source line, wherever the compiler has put them, and of no other function's line where a function is named."""
     file = file_of(elf, name)
     found = debug_lines.of(elf).words(file, line)
@@ -79,9 +83,9 @@ def words_of_line(elf, name, line):
     return found
 
 
-def at_line(elf, kind, text):
+def at_line(elf: Elf, kind: str, text: str) -> Set[int]:
     """The words of the sites of this kind on a source line, FUNCTION:LINE or FILE:LINE."""
-    name, line = AT_LINE.match(text).groups()
+    name, _, line = text.rpartition(":")
     test, what = SITES.get(kind, STORES)
     found = {word for word in words_of_line(elf, name, int(line)) if test(elf.word(word))}
     if not found:
@@ -89,7 +93,7 @@ def at_line(elf, kind, text):
     return found
 
 
-def frames_of(elf, symbol):
+def frames_of(elf: Elf, symbol: Symbol) -> Iterator[int]:
     """The words of a function where `add` and `adc` give its frame back, and where the frame's high byte alone is moved."""
     code = list(opcodes.words_of(elf, symbol))
     for n, (word, opcode) in enumerate(code):
@@ -101,7 +105,7 @@ def frames_of(elf, symbol):
             yield word
 
 
-def frames(elf, name):
+def frames(elf: Elf, name: str) -> Set[int]:
     """The words of the `frame` lines of a function, or of all that give a frame back in the firmware."""
     if name == "@frames":
         found = {word for symbol in elf.code for word in frames_of(elf, symbol)}

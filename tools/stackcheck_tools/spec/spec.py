@@ -1,8 +1,13 @@
 """Reads a spec, whose lines name sites by functions, and makes the lines of an assumption file from it."""
 
+from __future__ import annotations
+
 import re
+from typing import Dict, List, Optional, Set, Tuple
 
 from stackcheck_tools.firmware import opcodes
+from stackcheck_tools.firmware.devices import Device
+from stackcheck_tools.firmware.elf import Elf
 from stackcheck_tools.firmware.fuses import KEPT as FUSES_KEPT
 from stackcheck_tools.firmware.names import Missing, SpecFault
 from stackcheck_tools.firmware.targets import targets
@@ -20,7 +25,7 @@ AT_SITES = ("jump", "store", "prove", "free")  # those whose site may be told by
 START_UP = "@startup"
 
 
-def assumption_line(kind, place, items):
+def assumption_line(kind: str, place: int, items: Set[int]) -> str:
     """The line of an assumption file of this kind, at this word, with these items."""
     written = (str(it) if kind == recursion.KIND else f"{it:04X}" for it in sorted(items))
     return " ".join([kind, *([] if place == NOWHERE else [f"{place:04X}"]), *written])
@@ -29,22 +34,22 @@ def assumption_line(kind, place, items):
 class Line:
     """A line for the assumption file: its number and text in the spec, its kind, the words at which it stands, and its items."""
 
-    def __init__(self, number, text, kind, places, items):
+    def __init__(self, number: int, text: str, kind: str, places: Set[int], items: Set[int]) -> None:
         self.number, self.text, self.kind, self.places, self.items = number, text, kind, places, items
 
 
 class Keep:
     """A line that says of places that they were judged: those of a function, all or of one source line; and why they keep the bound."""
 
-    def __init__(self, number, name, line, why):
+    def __init__(self, number: int, name: str, line: Optional[int], why: str) -> None:
         self.number, self.name, self.line, self.why = number, name, line, why
 
-    def end(self):
+    def end(self) -> str:
         """What stands behind the name."""
         return "" if self.name in (START_UP, FUSES_KEPT) else " *" if self.line is None else f":{self.line}"
 
 
-def register(device, word):
+def register(device: Device, word: str) -> int:
     """The data address of a protected register of a device, by its name in avr-libc, r0 to r31, or 0x and digits."""
     if word in device.registers:
         return device.registers[word]
@@ -57,9 +62,10 @@ def register(device, word):
     return address
 
 
-def is_unhandled(elf, device, vector):
+def is_unhandled(elf: Elf, device: Device, vector: int) -> bool:
     """Whether a vector leads by jumps alone to where the program begins, as avr-libc's default does."""
-    word, passed = device.vector_word(vector), set()
+    word: Optional[int] = device.vector_word(vector)
+    passed: Set[int] = set()
     while word and word not in passed:
         passed.add(word)
         word = opcodes.jump_target(elf, word)
@@ -67,7 +73,7 @@ def is_unhandled(elf, device, vector):
     return word == 0
 
 
-def vectors(elf, device, name):
+def vectors(elf: Elf, device: Optional[Device], name: str) -> Set[int]:
     """The words of a vector by its name in avr-libc, or of each that has no handler."""
     if device is None:
         raise SpecFault("the file does not say for which device it was linked: give --device")
@@ -76,13 +82,14 @@ def vectors(elf, device, name):
         if not found:
             raise SpecFault("each vector has a handler")
     else:
-        found = {device.vector_named(name)} - {None}
-        if not found:
+        vector = device.vector_named(name)
+        if vector is None:
             raise SpecFault(f"{name} is no vector")
+        found = {vector}
     return {device.vector_word(it) for it in found}
 
 
-def sites_of(elf, kind, rest):
+def sites_of(elf: Elf, kind: str, rest: List[str]) -> Tuple[Set[int], List[str]]:
     """The sites that the words behind a kind name, and the words behind these: FUNCTION N, FUNCTION *, FUNCTION:LINE or FILE:LINE."""
     if AT_LINE.match(rest[0]):
         return sites.at_line(elf, kind, rest[0]), rest[1:]
@@ -91,7 +98,7 @@ def sites_of(elf, kind, rest):
     return sites.numbered(elf, kind, rest[0], rest[1]), rest[2:]
 
 
-def is_of_form(kind, rest):
+def is_of_form(kind: str, rest: List[str]) -> bool:
     """Whether the words behind a kind are as many as its form has."""
     form = FORMS[kind].split()
     if kind in AT_SITES and rest and AT_LINE.match(rest[0]):
@@ -99,16 +106,17 @@ def is_of_form(kind, rest):
     return len(rest) >= len(form) if form[-1:] == [".."] else len(rest) == len(form)
 
 
-def words_of(line):
+def words_of(line: str) -> List[str]:
     """The words of a line; a name of C++ may have spaces within its brackets."""
-    words, depth = [], 0
+    words: List[str] = []
+    depth = 0
     for word in line.split():
         words.append(f"{words.pop()} {word}" if depth > 0 else word)
         depth += sum(word.count(it) for it in "(<") - sum(word.count(it) for it in ")>")
     return words
 
 
-def read_line(elf, device, words):
+def read_line(elf: Elf, device: Optional[Device], words: List[str]) -> Tuple[str, Set[int], Set[int]]:
     """The kind, the sites and the items of one line."""
     kind, rest = words[0], words[1:]
     if kind not in FORMS:
@@ -129,14 +137,15 @@ def read_line(elf, device, words):
     return kind, places, {register(elf.chip, word) for word in rest}
 
 
-def read_keep(elf, number, words, why):
+def read_keep(elf: Elf, number: int, words: List[str], why: str) -> Keep:
     """A line `keeps`, whose function has to be there."""
     rest = words[1:]
     if not (len(rest) == 2 and rest[1] == "*" or len(rest) == 1 and (rest[0] in (START_UP, FUSES_KEPT) or AT_LINE.match(rest[0]))):
         raise SpecFault(f"expected `keeps FUNCTION:LINE`, `keeps FUNCTION *`, `keeps {START_UP}` or `keeps {FUSES_KEPT}`")
     if not why:
         raise SpecFault("a line `keeps` says after # why the place keeps the bound")
-    name, line = (rest[0], None) if rest[-1] in ("*", START_UP, FUSES_KEPT) else AT_LINE.match(rest[0]).groups()
+    has_line = rest[-1] not in ("*", START_UP, FUSES_KEPT)
+    name, line = (rest[0].rpartition(":")[0], int(rest[0].rpartition(":")[2])) if has_line else (rest[0], None)
     vector = elf.chip.vector_named(name)
     if line is not None:
         sites.file_of(elf, name)
@@ -144,14 +153,16 @@ def read_keep(elf, number, words, why):
         name = elf.chip.vectors[vector]
     elif name not in (START_UP, FUSES_KEPT):
         sites.words_of(elf, name)
-    return Keep(number, name, int(line) if line else None, why)
+    return Keep(number, name, line, why)
 
 
 class Spec:
     """`lines` for the assumption file, `keeps` and `recursions`; `never` lines ask for the firmware's device."""
 
-    def __init__(self, elf, text, device=None):
-        self.lines, self.keeps, self.recursions = [], [], []
+    def __init__(self, elf: Elf, text: str, device: Optional[Device] = None) -> None:
+        self.lines: List[Line] = []
+        self.keeps: List[Keep] = []
+        self.recursions: List[recursion.Recursion] = []
         above = ""
         for number, line in enumerate(text.splitlines(), start=1):
             line, _, comment = re.sub(r"^\s*\?", " ? ", line).partition("#")
@@ -171,9 +182,10 @@ class Spec:
             above = comment if not words else ""
         recursion.numbered(self.recursions)
 
-    def text(self):
+    def text(self) -> str:
         """The text of the assumption file. Lines on one site are one line, and those of `pairs` and of `masks` too."""
-        lines, number = {}, 0
+        lines: Dict[Tuple[int, int], Set[int]] = {}
+        number = 0
         for line in self.lines:
             number = line.number
             for place in line.places:
@@ -186,7 +198,7 @@ class Spec:
         return "".join(assumption_line(KINDS[kind], place, items) + "\n" for (place, kind), items in sorted(lines.items()))
 
 
-def assumptions(elf, text, device=None):
+def assumptions(elf: Elf, text: str, device: Optional[Device] = None) -> str:
     """The text of the assumption file that a spec makes of this firmware; of lines `recursion` alone the analysis makes lines."""
     spec = Spec(elf, text, device)
     for it in spec.recursions:
