@@ -56,7 +56,8 @@ class Words(argparse.ArgumentParser):
         super().__init__(prog=name, add_help=False, allow_abbrev=False)
         self.document = document
 
-    def parse_args(self, args: Optional[Sequence[str]] = None, namespace: Optional[Namespace] = None) -> Namespace:  # type: ignore[override]
+    def parse_args(  # type: ignore[override]
+            self, args: Optional[Sequence[str]] = None, namespace: Optional[Namespace] = None) -> Namespace:
         if asked(self.prog, self.document, sys.argv[1:] if args is None else args):
             sys.exit(DONE)
         return super().parse_args(args, namespace)
@@ -78,7 +79,8 @@ def of_itself(fault: BaseException) -> str:
 
 
 def run(main: Callable[[], int]) -> None:
-    """Calls a tool's `main` and ends with its status; a closed pipe, an interrupt from the keyboard and a fault end without a trace of the calls."""
+    """Calls a tool's `main` and ends with its status; a closed pipe, an interrupt from the keyboard and a fault end without a trace of the
+    calls."""
     try:
         status: Union[int, str, None]
         try:

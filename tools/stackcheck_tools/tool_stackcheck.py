@@ -66,7 +66,8 @@ def text_of(outcome: Outcome, words: Namespace) -> Iterator[str]:
         yield f"TOO DEEP: {outcome.rule}"
     yield from reports.verdict(outcome, words)
     firmware = outcome.firmware
-    yield f"device {firmware.device.name}" + (f", linked for {firmware.linked_for}" if firmware.linked_for not in (None, firmware.device.name) else "")
+    yield f"device {firmware.device.name}" + (f", linked for {firmware.linked_for}"
+                                              if firmware.linked_for not in (None, firmware.device.name) else "")
     yield from outcome.rests_on
     yield from reports.told(outcome)
 
@@ -81,7 +82,8 @@ def keep(words: Namespace, outcome: Outcome) -> None:
     """Writes the files that were asked for."""
     certificate = None if isinstance(outcome, Refused) else outcome.certificate
     schedule = None if isinstance(outcome, Refused) else reports.schedule(outcome)
-    for path, text in ((words.cert, certificate), (words.schedule, schedule), (words.write_spec, "".join(f"{line}\n" for line in spec_of(outcome)))):
+    for path, text in ((words.cert, certificate), (words.schedule, schedule),
+                       (words.write_spec, "".join(f"{line}\n" for line in spec_of(outcome)))):
         if path and text is not None:
             with open(path, "w", encoding="utf8") as file:
                 file.write(text)

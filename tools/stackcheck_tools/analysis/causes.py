@@ -19,8 +19,8 @@ MOST_TRIED = 4  # places at which a line is tried
 
 
 class Cause:
-    """`addresses` of protected registers of a `device` that may be written, and whether there are `more`; `live`: a pushed byte may be; `transfer`:
-    to an unlisted word; `moves`: the interrupt vectors may be moved. The device is None where there are no addresses."""
+    """`addresses` of protected registers of a `device` that may be written, and whether there are `more`; `live`: a pushed byte may be;
+    `transfer`: to an unlisted word; `moves`: the interrupt vectors may be moved. The device is None where there are no addresses."""
 
     def __init__(self, device: Optional[Device] = None, addresses: Iterable[int] = (), more: bool = False, live: bool = False,
                  transfer: bool = False, moves: bool = False) -> None:
@@ -39,9 +39,11 @@ class Cause:
         self.moves = self.moves or other.moves
 
     def __str__(self) -> str:
-        names = " ".join(self.device.register_name(it) if self.device else f"{it:04X}" for it in sorted(self.addresses)) + (" .." if self.more else "")
+        names = " ".join(self.device.register_name(it) if self.device else f"{it:04X}"
+                         for it in sorted(self.addresses)) + (" .." if self.more else "")
         written = [f"a protected register ({names})"] * bool(self.addresses) + ["a pushed byte"] * self.live
-        told = ["may write " + ", or ".join(written)] * bool(written) + ["may go to a word that its `jump` line does not list"] * self.transfer
+        told = ["may write " + ", or ".join(written)] * bool(written)
+        told += ["may go to a word that its `jump` line does not list"] * self.transfer
         return ", and ".join(told)
 
 
@@ -72,7 +74,8 @@ def without(work: Mending, lines: Lines, folder: str) -> Optional[Set[int]]:
 
 
 def closers(firmware: Firmware, work: Mending, causes: Dict[int, Cause], folder: str) -> Dict[int, str]:
-    """For places at which a store may write a few protected registers and nothing else, the line of a spec that takes them off the list: tried, by word."""
+    """For places at which a store may write a few protected registers and nothing else, the line of a spec that takes them off the list:
+    tried, by word."""
     found, few = {}, [word for word, it in sorted(causes.items()) if it.is_few() and work.lines.may_add(word, "store", it.addresses)]
     for word in few[:MOST_TRIED]:
         lines = work.lines.copy()

@@ -75,7 +75,8 @@ def bytes_loaded(elf: Elf) -> FrozenSet[int]:
 
 @functools.lru_cache(maxsize=None)
 def numbers_meant(elf: Elf) -> FrozenSet[int]:
-    """The numbers of two bytes in the data that aren't known to be addresses of functions or objects: by a record, or in a table of virtual functions."""
+    """The numbers of two bytes in the data that aren't known to be addresses of functions or objects: by a record, or in a table of virtual
+    functions."""
     known = {place + more for place in records.places(elf) for more in (-1, 0, 1)}
     known.update(*(range(begin - 1, end) for begin, end in virtual_tables(elf)))
     return frozenset(number for address, number in numbers_at(elf) if address not in known)
@@ -117,8 +118,8 @@ def is_meant(nodes: Nodes, word: int, address: int, cause: Cause) -> bool:
 
 
 def reads_into_registers(nodes: Nodes, word: int) -> bool:
-    """Whether a store is the one of avr-libc's `eeprom_read_block` where `eeprom_read_word` and its like alone enter it, behind its begin: these give it
-    the addresses of the registers in which they return."""
+    """Whether a store is the one of avr-libc's `eeprom_read_block` where `eeprom_read_word` and its like alone enter it, behind its begin:
+    these give it the addresses of the registers in which they return."""
     elf = nodes.elf
     begins = [it.address for it in elf.named("eeprom_read_block")]
     inner = [it.address for it in elf.named("eeprom_read_blraw")]
@@ -126,8 +127,8 @@ def reads_into_registers(nodes: Nodes, word: int) -> bool:
 
 
 def is_enabling(nodes: Nodes, lines: Lines, word: int, cause: Cause) -> bool:
-    """Whether a store may be meant for a register that enables interrupts and that its line doesn't list. Their drivers have structs of registers, so
-    that all numbers in the file are asked for."""
+    """Whether a store may be meant for a register that enables interrupts and that its line doesn't list. Their drivers have structs of
+    registers, so that all numbers in the file are asked for."""
     elf = nodes.elf
     if reads_into_registers(nodes, word):
         return False
@@ -152,7 +153,8 @@ def is_asked(nodes: Nodes, word: int, is_listed: bool) -> bool:
 
 
 def names_of(nodes: Nodes, device: Device, word: int, cause: Cause, listed: Set[int]) -> List[str]:
-    """The names of the registers of the core that a store may be meant for; of a pointer that is one constant, those that the list of places names."""
+    """The names of the registers of the core that a store may be meant for; of a pointer that is one constant, those that the list of
+    places names."""
     if nodes.fixed(word):
         return [name for address, name in sorted(core(device).items()) if address in cause.addresses - listed]
     return [name for address, name in sorted(core(device).items()) if address not in listed
@@ -170,5 +172,6 @@ def found(device: Device, nodes: Nodes, lines: Lines, causes: Dict[int, Cause]) 
 
 
 def seeds(elf: Elf, device: Device) -> Set[int]:
-    """The bytes by which the firmware names registers of the core whose addresses stand in it, as addresses of data and of inputs and outputs."""
+    """The bytes by which the firmware names registers of the core whose addresses stand in it, as addresses of data and of inputs and
+    outputs."""
     return {it & 0xFF for address in core(device) if stands(elf, address) for it in (address, address - 0x20)}

@@ -42,7 +42,8 @@ CURES = {
     "sketch": (
         "`refused 2` or `3` of an Arduino sketch, where functions are called through pointers",
         "the sketch was built without `-flto`, so the compiler leaves calls through pointers that it could resolve",
-        "`-flto` for compiling and linking, as Arduino's IDE builds; with the core's USB code (Leonardo, Micro) this helps some sketches only"),
+        "`-flto` for compiling and linking, as Arduino's IDE builds; with the core's USB code (Leonardo, Micro) this helps some sketches "
+        "only"),
     "merged": (
         "`refused 3` of a handler that calls a handler",
         "the compiler has merged handlers with equal bodies, and the `reti` of the called one enables interrupts",
@@ -54,7 +55,8 @@ CURES = {
     "kept flags": (
         "`refused 3` of a handler whose code writes SREG with a byte from memory",
         "`SREG = old` with `old` in memory, such as the frame: its bit I is not known there, so it may enable interrupts",
-        "`old` in a register: not `volatile`, its address not taken; in a handler, where interrupts are off, neither `cli()` nor `SREG = old` is needed"),
+        "`old` in a register: not `volatile`, its address not taken; in a handler, where interrupts are off, neither `cli()` nor `SREG = "
+        "old` is needed"),
     "noblock": (
         "`refused 3` of a handler that begins with `sei`",
         "`ISR_NOBLOCK`, which re-enables its own interrupt immediately",
@@ -69,7 +71,8 @@ CURES = {
         "`frame @frames`; or build without it, and do without these functions (`utoa` and `itoa` need none of it)"),
     "division": (
         "the same, with `frame @frames` and without `pairs`",
-        "32-bit division (`__udivmodsi4`) or `sscanf` beside such a function: libgcc counts r1 down to 0, which bits and ranges do not show after the loop",
+        "32-bit division (`__udivmodsi4`) or `sscanf` beside such a function: libgcc counts r1 down to 0, which bits and ranges do not "
+        "show after the loop",
         "`pairs`; or `docs/examples/udivmodsi4.S` linked in, in place of libgcc's routine; or `sscanf` left out"),
     "zero register": (
         "the same with both, if a function computes with r1 and does not clear it",
@@ -108,7 +111,8 @@ CURES = {
         "`-mtiny-stack`, with which a frame is made by the low byte of the stack pointer alone",
         "build without `-mtiny-stack`"),
     "joined": (
-        "`refused 2` of a function that no direct call leads back to; `4`, `5` or `6` elsewhere, if an `icall` or `ijmp` has no `jump` line",
+        "`refused 2` of a function that no direct call leads back to; `4`, `5` or `6` elsewhere, if an `icall` or `ijmp` has no `jump` "
+        "line",
         "a pointer that is one of some constants: their bits may join to a word that none of them is",
         "`jump FUNCTION N TARGET ..` for each such transfer"),
     "unfollowed": (
@@ -194,7 +198,8 @@ def is_sketch(elf: Elf) -> bool:
 def calls_by_pointer(elf: Elf, lines: Lines, entry: int) -> bool:
     """Whether a function, or one that it enters by name, calls through a pointer whose list the tool wrote."""
     functions = candidates.reached(elf, entry) | {entry}
-    return any(kind == "jump" and (symbol := elf.symbol_at(2 * site)) and symbol.address // 2 in functions for site, kind in lines.written())
+    return any(kind == "jump" and (symbol := elf.symbol_at(2 * site)) and symbol.address // 2 in functions
+               for site, kind in lines.written())
 
 
 def needs_optimiser(elf: Elf, lines: Lines, number: str, word: int) -> bool:
@@ -206,7 +211,8 @@ def needs_optimiser(elf: Elf, lines: Lines, number: str, word: int) -> bool:
 
 
 def is_body(opcode: int) -> bool:
-    """Whether an instruction is one of a handler's own work: neither saves nor gives back registers, and is neither its call nor its end."""
+    """Whether an instruction is one of a handler's own work: neither saves nor gives back registers, and is neither its call nor its
+    end."""
     return not (opcode & 0xFC0F == 0x900F or opcode & 0xFE0F in (OUT_SREG, IN_SREG) or opcodes.is_clr(opcode) or opcode & 0xFE0E == 0x940E
                 or opcode & 0xF000 == 0xD000 or opcode == RETI)
 
@@ -237,7 +243,8 @@ def of_re_entry(elf: Elf, word: int) -> str:
 
 def begins_anew(elf: Elf, device: Device, lines: Lines) -> bool:
     """Whether a function jumps to address 0 or calls it, and no vector without a handler leads there unless a `never` line names it."""
-    jumps = any(0 in (opcodes.jump_target(elf, at), opcodes.call_target(elf, at)) for it in elf.code if it.is_function for at, _ in opcodes.words_of(elf, it))
+    jumps = any(0 in (opcodes.jump_target(elf, at), opcodes.call_target(elf, at)) for it in elf.code if it.is_function
+                for at, _ in opcodes.words_of(elf, it))
     return jumps and all(lines.has(device.vector_word(it), "never") for it in device.vectors if is_unhandled(elf, device, it))
 
 
@@ -246,7 +253,9 @@ def of_low_byte(elf: Elf, word: int, name: str) -> str:
     near = [elf.word(at) & 0xFE0F == OUT_SPH for at in range(max(word - NEAR, 0), word + NEAR)]
     if name in JUMPERS:
         return "unfollowed"
-    return "two stacks" if registers.is_from_memory(elf, word) else "low byte first" if any(near[NEAR:]) else "unfollowed" if any(near) else "tiny"
+    if registers.is_from_memory(elf, word):
+        return "two stacks"
+    return "low byte first" if any(near[NEAR:]) else "unfollowed" if any(near) else "tiny"
 
 
 def is_low_first(elf: Elf, word: int) -> bool:
@@ -291,7 +300,8 @@ def of_opcode(elf: Elf, device: Device, lines: Lines, text: str) -> str:
 def goes_through_tables(elf: Elf, lines: Lines) -> bool:
     """Whether a `jump` line lets the tables of several functions be jumped through."""
     sites = [it for it in lines.sites("jump") if (symbol := elf.symbol_at(2 * it)) and symbol.name == "__tablejump2__"]
-    owners = {symbol.address for site in sites for it in lines.of(site, "jump") & candidates.or_none(tables, elf) if (symbol := elf.symbol_at(2 * it))}
+    owners = {symbol.address for site in sites for it in lines.of(site, "jump") & candidates.or_none(tables, elf)
+              if (symbol := elf.symbol_at(2 * it))}
     return len(owners) > 1
 
 

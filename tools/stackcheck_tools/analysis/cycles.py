@@ -1,4 +1,5 @@
-"""Lines `recursion` for a firmware that is refused for a recursion: the functions of its cycles, with as many activations as trial runs saw."""
+"""Lines `recursion` for a firmware that is refused for a recursion: the functions of its cycles, with as many activations as trial runs
+saw."""
 
 from __future__ import annotations
 

@@ -1,4 +1,5 @@
-"""Lines `store` of a spec that name no store which the analysis lets write their register: they say something of another place than was meant."""
+"""Lines `store` of a spec that name no store which the analysis lets write their register: they say something of another place than was
+meant."""
 
 from __future__ import annotations
 
@@ -18,5 +19,6 @@ def check(outcome: Accepted, spec: Spec) -> None:
         for address in sorted(line.items):
             if not any(nodes.may_write(word, address) for word in line.places):
                 name = outcome.firmware.device.register_name(address)
-                raise SpecFault(f"line {line.number}: no store that `{line.text}` names may write {name}: it names another store than was meant, "
+                raise SpecFault(f"line {line.number}: no store that `{line.text}` names may write {name}: it names another store than was "
+                                f"meant, "
                                 "or one that never runs (build with -g if the compiler may have inlined it)")

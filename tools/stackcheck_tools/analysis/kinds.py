@@ -10,12 +10,14 @@ from stackcheck_tools.spec.recursion import PLACE
 if TYPE_CHECKING:
     from stackcheck_tools.analysis.outcome import Accepted
 
-CALLS, STORES, VECTORS, CORES, MOVES, UNSET = "calls", "stores", "vectors", "cores", "moves", "unset"  # a correct program may be flagged there
+# a correct program may be flagged there
+CALLS, STORES, VECTORS, CORES, MOVES, UNSET = "calls", "stores", "vectors", "cores", "moves", "unset"
 SAFETY, WHOLE = "memory safety", "whole lists"  # only a program without a meaning in its language is
 GIVEN = "given"  # the spec says itself what happens there
 ORDINARY = (CALLS, STORES, VECTORS, CORES, MOVES, UNSET, FUSES)
 WORDS = {CALLS: "call{s}", STORES: "store{s}", VECTORS: "vector{s}", CORES: "store{s} near the core", MOVES: "write{s} of {moving}",
-         UNSET: "use{s} of the stack before SPL is written", FUSES: "fuse{s}", SAFETY: "of memory safety", WHOLE: "call{s} with a complete list", GIVEN: "given line{s}",
+         UNSET: "use{s} of the stack before SPL is written", FUSES: "fuse{s}", SAFETY: "of memory safety",
+         WHOLE: "call{s} with a complete list", GIVEN: "given line{s}",
          PLACE: "limited call{s}"}
 
 
@@ -48,5 +50,6 @@ def core(outcome: Accepted) -> str:
 def counted(outcome: Accepted) -> str:
     """How many places of each kind there are, in brackets."""
     found = counts(outcome)
-    told = [f"{found[kind]} " + text.format(s="" if found[kind] == 1 else "s", moving=moving(outcome)) for kind, text in WORDS.items() if kind in found]
+    told = [f"{found[kind]} " + text.format(s="" if found[kind] == 1 else "s", moving=moving(outcome)) for kind, text in WORDS.items()
+            if kind in found]
     return f" ({', '.join(told)})" if told else ""

@@ -64,7 +64,8 @@ def lean(work: "Mending") -> Optional["Mending"]:
 
 
 def weigh(work: "Mending") -> None:
-    """Leaves the line out where bound, places and trial runs are the same without it, and it costs much; else notes what it costs and saves."""
+    """Leaves the line out where bound, places and trial runs are the same without it, and it costs much; else notes what it costs and
+    saves."""
     nodes = nodes_in(work.certificate or "")
     if nodes <= MANY or work.lines.is_given(NOWHERE, MASKS) or not (work.lines.has_masks() and work.device.is_first()):
         return

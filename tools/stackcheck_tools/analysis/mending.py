@@ -1,10 +1,9 @@
 """Looks for the lines of an assumption file under which a firmware has a bound that no trial run shows to be empty.
 
-Each line is safe: `pairs`, `masks` and `frame` assume nothing (and on all devices but the first four a list is read as with `masks` anyway); a run that leaves the targets of a `jump` line, writes a register that no `store`
-line lists, or takes the vector of a `never` line is flagged there, and `premises` lists these places; a line that lists too much costs bytes of
-the bound at most.
-`at_refusal` says which function writes lines for which refusal, `add_own` which lines a list of places asks for.
-"""
+Each line is safe: `pairs`, `masks` and `frame` assume nothing (and on all devices but the first four a list is read as with `masks`
+anyway); a run that leaves the targets of a `jump` line, writes a register that no `store` line lists, or takes the vector of a `never` line
+is flagged there, and `premises` lists these places; a line that lists too much costs bytes of the bound at most. `at_refusal` says which
+function writes lines for which refusal, `add_own` which lines a list of places asks for. """
 
 from __future__ import annotations
 
@@ -55,8 +54,8 @@ class Analysis:
         return status == OK, text
 
     def trials(self, folder: str, certificate: Scope) -> Trials:
-        """Trial runs that take each vector that has a handler, and each that a `never` line of this tool names, as far as a run takes so many. One
-        that no known bit enables isn't taken without a handler: that it may come says nothing of the firmware."""
+        """Trial runs that take each vector that has a handler, and each that a `never` line of this tool names, as far as a run takes so
+        many. One that no known bit enables isn't taken without a handler: that it may come says nothing of the firmware."""
         has_handler, vectors = handled(self.elf, self.device), []
         for vector in self.device.vectors:
             word = self.device.vector_word(vector)
@@ -65,11 +64,13 @@ class Analysis:
                 vectors.append(vector)
         vectors = sorted(sorted(vectors, key=lambda it: it not in has_handler)[:DEVICE_LINES])
         words = {it: self.device.vector_word(it) for it in vectors}
-        idle = [it for it in vectors if certificate.entered is not None and self.lines.has(words[it], "never") and words[it] not in certificate.entered]
+        idle = [it for it in vectors if certificate.entered is not None and self.lines.has(words[it], "never")
+                and words[it] not in certificate.entered]
         return Trials(self.program(), folder, self.elf, self.device, vectors, idle)
 
     def is_beyond_lines(self, stop: Stop) -> bool:
-        """Whether no line may admit a flagged step: a write of a live byte or of IVSEL, a vector that a `never` line names, a call that is too deep."""
+        """Whether no line may admit a flagged step: a write of a live byte or of IVSEL, a vector that a `never` line names, a call that is
+        too deep."""
         if stop.kind == "transfer":
             is_deep = self.lines.has(stop.other, recursion.KIND) and stop.other in self.lines.of(stop.word, "jump")
             return self.lines.has(stop.other, "never") or is_deep or not opcodes.is_indirect(self.elf.word(stop.word))
@@ -80,19 +81,23 @@ class Analysis:
         if self.is_beyond_lines(stop):
             return None
         if stop.kind == "transfer":
-            return "jump" if self.lines.may_add(stop.word, "jump", {stop.other}) and self.lines.add(stop.word, "jump", {stop.other}) else None
+            return "jump" if self.adds(stop, "jump") else None
         if not self.lines.has(stop.word, "prove") and not self.lines.has(stop.word, "free"):
             proved = self.lines.copy()
             proved.add(stop.word, "prove")
             if self.analyse(proved)[0]:
                 self.lines.add(stop.word, "prove")
                 return "prove"
-        return "store" if self.lines.may_add(stop.word, "store", {stop.other}) and self.lines.add(stop.word, "store", {stop.other}) else None
+        return "store" if self.adds(stop, "store") else None
+
+    def adds(self, stop: Stop, kind: str) -> bool:
+        """Adds the target or the address of a stop to the line of its site; whether it may be added and is new."""
+        return self.lines.may_add(stop.word, kind, {stop.other}) and self.lines.add(stop.word, kind, {stop.other})
 
 
 class Mending(Analysis):
-    """Adds lines until nothing changes. `refusal` is the last one, or None; `stop` the flagged step of a trial run that no line admits, or None, and
-    `stopped_at` the number of that run."""
+    """Adds lines until nothing changes. `refusal` is the last one, or None; `stop` the flagged step of a trial run that no line admits, or
+    None, and `stopped_at` the number of that run."""
 
     def __init__(self, firmware: Firmware, folder: str, text: str, count: Optional[int], recursions: Iterable[Recursion] = ()) -> None:
         super().__init__(firmware, folder, text)
@@ -203,8 +208,8 @@ class Mending(Analysis):
             self.certificate = None
 
     def begin_with_masks(self) -> bool:
-        """Writes `masks`, where the device doesn't make it needless, with `never` lines for the vectors that have no handler; whether that was done:
-        the program has to know the line, and it mustn't be given."""
+        """Writes `masks`, where the device doesn't make it needless, with `never` lines for the vectors that have no handler; whether that
+        was done: the program has to know the line, and it mustn't be given."""
         if self.lines.has_masks() and self.device.is_first():
             return False
         self.before_masks = self.lines.copy()
@@ -218,7 +223,8 @@ class Mending(Analysis):
         return status == DEVICES
 
     def without_masks(self) -> None:
-        """Where the line `masks` alone leads to a refusal: takes it back at the stores that lead there, or leaves it out where the device lets it."""
+        """Where the line `masks` alone leads to a refusal: takes it back at the stores that lead there, or leaves it out where the device
+        lets it."""
         plain = self.copy()
         if self.device.is_first():
             plain.lines, plain.tried = self.before_masks.copy(), set()
@@ -254,11 +260,13 @@ class Mending(Analysis):
                 self.attempt(drop(site))
 
     def groups(self, wild: Set[int]) -> Iterable[Set[int]]:
-        """Stores that may lead to a refusal of handlers: those of the handler that is named with what it calls, then those of all handlers."""
+        """Stores that may lead to a refusal of handlers: those of the handler that is named with what it calls, then those of all
+        handlers."""
         found = REFUSAL.match(self.refusal or "")
         entry = opcodes.jump_target(self.elf, int(found[4], 16)) if found and found[1] == "3" and found[4] else None
         entries = [] if entry is None else [{entry}]
-        entries.append({it for it in (opcodes.jump_target(self.elf, self.device.vector_word(vector)) for vector in self.device.vectors) if it is not None})
+        entries.append({it for it in (opcodes.jump_target(self.elf, self.device.vector_word(vector)) for vector in self.device.vectors)
+                        if it is not None})
         last: Set[int] = set()
         for begins in entries:
             reached = set(begins).union(*(candidates.reached(self.elf, it) for it in begins))
@@ -312,7 +320,8 @@ class Mending(Analysis):
         return {it for it in found if not any(self.lines.has(it, kind) for kind in ("store", "prove", "free"))}
 
     def add_own(self) -> bool:
-        """Adds lines that the list of places asks for: `prove` where a pointer is one constant, `store` where it may be few registers; whether one was."""
+        """Adds lines that the list of places asks for: `prove` where a pointer is one constant, `store` where it may be few registers;
+        whether one was."""
         told = causes.by_word(self.device, self.told() or [])
         if not told:
             return False
@@ -321,13 +330,16 @@ class Mending(Analysis):
         if self.add_all(fixed, "prove", {}):
             return True
         few = {word: it.addresses for word, it in told.items()
-               if it.is_few() and (len(it.addresses) == 1 or it.addresses <= self.device.enabling) and self.is_open(word, "store", it.addresses)}
+               if it.is_few() and (len(it.addresses) == 1 or it.addresses <= self.device.enabling)
+               and self.is_open(word, "store", it.addresses)}
         return self.add_all(sorted(few), "store", few)
 
     def is_open(self, word: int, kind: str, items: Iterable[int] = ()) -> bool:
         """Whether a line may be added at a store, and wasn't tried before."""
         others = ("free", "prove") if kind == "store" else ("free", "prove", "store")
-        return (word, kind) not in self.tried and not any(self.lines.has(word, it) for it in others) and self.lines.may_add(word, kind, items)
+        if (word, kind) in self.tried or any(self.lines.has(word, it) for it in others):
+            return False
+        return self.lines.may_add(word, kind, items)
 
     def add_all(self, sites: List[int], kind: str, items: Dict[int, Set[int]]) -> bool:
         """Adds lines of a kind at these sites, all together or else those that are accepted one by one; whether one was added."""
@@ -378,7 +390,8 @@ class Mending(Analysis):
         return number
 
     def may_admit(self, stop: Stop) -> bool:
-        """Whether a line may admit a flagged step, and a program may mean it where it is a transfer: a write of a live byte by one of `scratch` alone."""
+        """Whether a line may admit a flagged step, and a program may mean it where it is a transfer: a write of a live byte by one of
+        `scratch` alone."""
         if stop.kind == "live":
             return self.scratch_for(stop) is not None
         if self.is_beyond_lines(stop):
@@ -418,7 +431,8 @@ class Mending(Analysis):
         return kind is not None
 
     def follow_enables(self, site: int) -> None:
-        """Lets a `store` line of this tool list the registers that enable interrupts and whose address stands in the file, where there is a bound then."""
+        """Lets a `store` line of this tool list the registers that enable interrupts and whose address stands in the file, where there is a
+        bound then."""
         named, more = [it for it in self.device.enabling if core_registers.stands(self.elf, it)], self.lines.copy()
         if named and more.may_add(site, "store", named):
             more.add(site, "store", named)
@@ -440,7 +454,9 @@ class Mending(Analysis):
             return True
         if number == "4" and self.add_frames():
             return True
-        return self.add_targets(candidates.indirect(self.elf)) or number == "2" and self.narrow() or number == "3" and self.add_proofs(word, text)
+        if self.add_targets(candidates.indirect(self.elf)):
+            return True
+        return number == "2" and self.narrow() or number == "3" and self.add_proofs(word, text)
 
     def add_targets(self, sites: Iterable[int]) -> bool:
         """A `jump` line with all that is known for each of these sites that has none."""
@@ -460,10 +476,13 @@ class Mending(Analysis):
         is_new = False
         for site, kind in self.lines.written():
             caller = self.elf.symbol_at(2 * site)
-            if kind != "jump" or caller is None or caller.name == TABLES or site in self.lists.whole or candidates.table_of_jumps(self.elf, site):
+            if kind != "jump" or caller is None or caller.name == TABLES:
+                continue
+            if site in self.lists.whole or candidates.table_of_jumps(self.elf, site):
                 continue
             own = caller.address // 2
-            kept = {it for it in self.lines.of(site, kind) if (site, it) in self.pinned or it != own and own not in candidates.reached(self.elf, it)}
+            kept = {it for it in self.lines.of(site, kind) if (site, it) in self.pinned or it != own
+                    and own not in candidates.reached(self.elf, it)}
             if kept and kept != self.lines.of(site, kind):
                 self.lines.put(site, kind, kept)
                 is_new = True
@@ -473,7 +492,8 @@ class Mending(Analysis):
         return not self.lines.has(site, "prove") and self.lines.add(site, "free")
 
     def add_proofs(self, vector: int, text: str) -> bool:
-        """`prove` lines for the stores of a handler whose pointers the analysis knows then, where another answer comes of it than the refusal's text."""
+        """`prove` lines for the stores of a handler whose pointers the analysis knows then, where another answer comes of it than the
+        refusal's text."""
         symbol = self.elf.symbol_at(2 * (opcodes.jump_target(self.elf, vector) or 0))
         sites = opcodes.sites(self.elf, symbol, opcodes.is_pointer_store) if symbol else []
         sites = [it for it in sites if not any(self.lines.has(it, kind) for kind in ("store", "prove", "free"))]

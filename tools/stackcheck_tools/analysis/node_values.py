@@ -1,4 +1,5 @@
-"""The values of registers at the nodes of a certificate: known bits and ranges, with the intervals of pairs where the line `pairs` stands."""
+"""The values of registers at the nodes of a certificate: known bits and ranges, with the intervals of pairs where the line `pairs`
+stands."""
 
 from __future__ import annotations
 
@@ -28,8 +29,10 @@ class Value(NamedTuple):
 
 UNKNOWN = Value(0, 0, 0, 255)
 NO_WRITES = (  # mask and opcode of instructions that write no register
-    (0xFC00, 0x1400), (0xFC00, 0x0400), (0xF000, 0x3000), (0xFC00, 0x1000), (0xFE0F, 0x920F), (0xF800, 0xB800), (0xFC00, 0x9800), (0xF800, 0xF000),
-    (0xFE08, 0xFA00), (0xFC08, 0xFC00), (0xF000, 0xC000), (0xFE0E, 0x940C), (0xFFFF, 0x0000), (0xFF0F, 0x9408), (0xFE0F, 0x9200), (0xFFEF, 0x9588))
+    (0xFC00, 0x1400), (0xFC00, 0x0400), (0xF000, 0x3000), (0xFC00, 0x1000), (0xFE0F, 0x920F), (0xF800, 0xB800), (0xFC00, 0x9800),
+    (0xF800, 0xF000),
+    (0xFE08, 0xFA00), (0xFC08, 0xFC00), (0xF000, 0xC000), (0xFE0E, 0x940C), (0xFFFF, 0x0000), (0xFF0F, 0x9408), (0xFE0F, 0x9200),
+    (0xFFEF, 0x9588))
 ONE_WRITE = ((0xFC00, 0x0C00), (0xFC00, 0x1C00), (0xFC00, 0x0800), (0xFC00, 0x1800), (0xF000, 0x2000), (0xFE08, 0x9400), (0xFE0F, 0x940A),
              (0xFE0F, 0x9000), (0xFE0F, 0x900F), (0xD200, 0x8000), (0xF800, 0xB000), (0xFE08, 0xF800))
 
@@ -63,8 +66,8 @@ def with_byte(opcode: int, it: Value, byte: int) -> Value:
 
 
 def after(opcode: int, values: List[Value], follows_clr: bool) -> List[Value]:
-    """The 32 values behind an instruction, as far as they are followed here: loaded constants and copies, and `clr` where that is asked for; what
-    else is written isn't known."""
+    """The 32 values behind an instruction, as far as they are followed here: loaded constants and copies, and `clr` where that is asked
+    for; what else is written isn't known."""
     values = list(values)
     low, byte = opcode >> 4 & 15, opcode & 15 | opcode >> 4 & 0xF0
     if follows_clr and opcodes.is_clr(opcode):

@@ -196,7 +196,8 @@ def attain(found: Accepted, program: Program, certificate: str, witness: str) ->
 def take(firmware: Firmware, spec: str, given: str, work: Mending, words: Namespace, folder: str) -> Accepted:
     """Judges the certificate that was found, and gathers what is told of it."""
     made = work.certificate or ""
-    found = Accepted(firmware, spec, given, list(written(firmware, work.lines)), made, work.lines, work.lists, work.recursions, work.deepest, work.told_of_masks)
+    found = Accepted(firmware, spec, given, list(written(firmware, work.lines)), made, work.lines, work.lists, work.recursions,
+                     work.deepest, work.told_of_masks)
     if work.stop:
         found.flagged, found.stop = flagged(firmware, work, work.stop), work.stop
     program, certificate = work.program(), os.path.join(folder, "certificate")
@@ -222,7 +223,8 @@ def take(firmware: Firmware, spec: str, given: str, work: Mending, words: Namesp
 
 def judge(words: Namespace, folder: str) -> Outcome:
     """Analyses and judges the firmware of the command's words; files are made in the folder."""
-    firmware = intel_hex.firmware(words.firmware, words.device, folder) if intel_hex.is_one(words.firmware) else Firmware(words.firmware, words.device)
+    path, device = words.firmware, words.device
+    firmware = intel_hex.firmware(path, device, folder) if intel_hex.is_one(path) else Firmware(path, device)
     firmware.check_start()
     spec, given, recursions = "", "", []
     if words.spec:

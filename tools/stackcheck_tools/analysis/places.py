@@ -1,8 +1,8 @@
 """The places at which a step may be flagged, as they can be judged: by source lines, library functions, and the loops of the start-up code.
 
-A place is ordinary where a correct program may be flagged at it; one of memory safety where only a store that leaves its object is, or one with a
-complete list where only a call is that enters no function whose address is taken; and a given one where the spec itself says what may happen there.
-"""
+A place is ordinary where a correct program may be flagged at it; one of memory safety where only a store that leaves its object is, or one
+with a complete list where only a call is that enters no function whose address is taken; and a given one where the spec itself says what
+may happen there. """
 
 from __future__ import annotations
 
@@ -36,8 +36,8 @@ MOVED = "may move the interrupt vectors (IVSEL); the bound takes them to be at 0
 
 
 class Place:
-    """One entry: `title` (what it is), its source (path and line, or None), the text of that line, its words, what may happen there with the lines of
-    a spec that close it, and the line that judges it."""
+    """One entry: `title` (what it is), its source (path and line, or None), the text of that line, its words, what may happen there with
+    the lines of a spec that close it, and the line that judges it."""
 
     def __init__(self, key: Key, title: str, source: Optional[Tuple[str, int]] = None) -> None:
         self.key, self.title, self.source, self.cause, self.may_enable = key, title, source, Cause(), False
@@ -216,7 +216,8 @@ def entry_of_fuses(outcome: Told) -> Iterator[Place]:
 
 
 def entries(outcome: Told) -> List[Place]:
-    """The entries of what `premises` lists, in the order of their first words, of stores that may be meant for the core, and of what no flag tells."""
+    """The entries of what `premises` lists, in the order of their first words, of stores that may be meant for the core, and of what no
+    flag tells."""
     look = Look(outcome)
     found: Dict[Key, Place] = {}
     for line in outcome.premises or ():

@@ -57,7 +57,8 @@ class Program:
             raise
         said = self.begun.pop(words)
         if said.returncode == UNBUILT:
-            raise NoProgram(f"{os.path.normpath(self.path)} must be built first: run `stackbound build` there, or name another program in $STACKBOUND")
+            raise NoProgram(f"{os.path.normpath(self.path)} must be built first: run `stackbound build` there, or name another program in "
+                            f"$STACKBOUND")
         return said.returncode, text.decode("ascii", "replace")
 
     def lines(self, command: str, *words: str) -> Optional[List[str]]:

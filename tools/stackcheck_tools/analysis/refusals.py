@@ -20,7 +20,8 @@ OUT_SREG, RETI, SBI = 0xBE0F, 0x9518, 0x9A00
 MOST_REASONS, NEAR, GUARD = 8, 5, 6
 SET_AGAIN = ("its own enable bit is set again before it ends, while interrupts are enabled",
              "set the bit again only after its `cli()`, or where it cannot run; no step may set it meanwhile, whatever variables say")
-STAYS = ("it enables interrupts while its own vector counts as enabled, which nothing in the handler changes", "do not enable interrupts while this handler runs")
+STAYS = ("it enables interrupts while its own vector counts as enabled, which nothing in the handler changes",
+         "do not enable interrupts while this handler runs")
 
 
 class Step:
@@ -107,7 +108,8 @@ def may_set(elf: Elf, word: int, mask: int, begin: int) -> bool:
         if at < begin:
             break
         byte, is_same = other & 15 | other >> 4 & 0xF0, 16 + (other >> 4 & 15) == register
-        if is_same and (0xE000 == other & 0xF000 or byte & mask and other & 0xF000 == 0x6000 or not byte & mask and other & 0xF000 == 0x7000):
+        if is_same and (0xE000 == other & 0xF000 or byte & mask and other & 0xF000 == 0x6000 or not byte & mask
+                        and other & 0xF000 == 0x7000):
             return other & 0xF000 != 0x7000 and bool(byte & mask)
     return register != 1  # r1 is 0 in compiled code
 
@@ -160,11 +162,15 @@ def stays_enabled(device: Device, vector: int) -> str:
     if device.is_open(vector):
         return f"no enable bit of {device.vectors[vector]} is known, so it counts as always enabled"
     names = " and ".join(device.register_name(it.address) for it in row.places)
-    return f"{device.vectors[vector]} has several enable bits ({names}), so it counts as enabled once one was set, even after it is cleared" if row.stays else ""
+    if not row.stays:
+        return ""
+    return (f"{device.vectors[vector]} has several enable bits ({names}), so it counts as enabled once one was set, "
+            "even after it is cleared")
 
 
 def of_re_entry(firmware: Firmware, work: Mending, vector: int) -> Iterator[str]:
-    """Each place that lets interrupts in while a handler runs, and each that may set its enable bit then: in the handler, or in one that comes meanwhile."""
+    """Each place that lets interrupts in while a handler runs, and each that may set its enable bit then: in the handler, or in one that
+    comes meanwhile."""
     elf, device = firmware.elf, firmware.device
     entry = opcodes.jump_target(elf, device.vector_word(vector))
     if entry is None:

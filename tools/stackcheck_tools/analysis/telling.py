@@ -18,11 +18,13 @@ if TYPE_CHECKING:
     from stackcheck_tools.analysis.trials import Stop
 
 MOST_OTHERS = 8  # vectors that are tried behind the first that lets itself in
-BY_LINES = ("tables", "constructors", "pointer", "stream", "prologues", "high byte", "unhandled", "joined", "array", "copy")  # causes that lines cure
+# causes that lines cure
+BY_LINES = ("tables", "constructors", "pointer", "stream", "prologues", "high byte", "unhandled", "joined", "array", "copy")
 
 
 class Written:
-    """A line that the tool wrote: its text for a spec (None where a function has no name of its own), its text by words, and where it stands."""
+    """A line that the tool wrote: its text for a spec (None where a function has no name of its own), its text by words, and where it
+    stands."""
 
     def __init__(self, spec: Optional[str], words: str, place: str) -> None:
         self.spec, self.words, self.place = spec, words, place
@@ -61,17 +63,20 @@ def scratches(firmware: Firmware, lines: Lines) -> Iterator[Written]:
         pushes = opcodes.sites(firmware.elf, symbol, scratch.is_push) if symbol else []
         own = symbol and name_of(firmware.elf, symbol)
         spec = " ".join([scratch.KIND, own, *(str(pushes.index(it) + 1) for it in words)]) if own and set(words) <= set(pushes) else None
-        yield Written(spec, ", ".join(lines.line(it, scratch.KIND) for it in words), f"bytes that {name} pushes for others to write; no bound rests on it")
+        yield Written(spec, ", ".join(lines.line(it, scratch.KIND) for it in words),
+                      f"bytes that {name} pushes for others to write; no bound rests on it")
 
 
 def written(firmware: Firmware, lines: Lines) -> Iterator[Written]:
-    """The lines that weren't given: `pairs` and `masks` first, the `frame` lines as one, and `never` lines of all vectors without a handler too."""
+    """The lines that weren't given: `pairs` and `masks` first, the `frame` lines as one, and `never` lines of all vectors without a handler
+    too."""
     for kind in (PAIRS, MASKS):
         if lines.has(NOWHERE, kind) and not lines.is_given(NOWHERE, kind):
             yield Written(kind, kind, "on which no bound rests")
     frames = [site for site, kind in lines.written() if kind == "frame"]
     if frames:
-        yield Written("frame @frames", ", ".join(lines.line(it, "frame") for it in frames), f"at {len(frames)} places; no bound rests on it")
+        yield Written("frame @frames", ", ".join(lines.line(it, "frame") for it in frames),
+                      f"at {len(frames)} places; no bound rests on it")
     vectors, is_all = own_never(firmware, lines)
     is_all = is_all and len(vectors) > 1
     if is_all:
@@ -95,7 +100,8 @@ def narrower(firmware: Firmware, lists: Lists, lines: Lines) -> Iterator[str]:
         less.put(site, "jump", words)
         if words != lines.of(site, "jump"):
             told.append(line_of_spec(firmware, less, site, "jump") or less.line(site, "jump"))
-    yield f"bound {lists.bound} if fewer functions are called through pointers, as {'this line' if len(told) == 1 else 'these lines'} of a spec would claim:"
+    lines_of_spec = "this line" if len(told) == 1 else "these lines"
+    yield f"bound {lists.bound} if fewer functions are called through pointers, as {lines_of_spec} of a spec would claim:"
     yield from (f"  {it}" for it in told)
 
 
@@ -134,7 +140,8 @@ def flagged(firmware: Firmware, work: Mending, stop: Stop) -> str:
         return told
     if stop.kind == "transfer" and work.lines.has(stop.other, "never") and not work.lines.is_given(stop.other, "never"):
         vector = firmware.device.vector_of(stop.other)
-        return (f"FLAGGED: in a simulated run {firmware.device.vectors[vector]}, enabled but without a handler, fires at {firmware.place(stop.word)}: the program "
+        return (f"FLAGGED: in a simulated run {firmware.device.vectors[vector]}, enabled but without a handler, fires at "
+                f"{firmware.place(stop.word)}: the program "
                 "restarts there, and the bound covers only what comes before; write a handler, or do not enable it")
     told = f"FLAGGED: a simulated run stops with {text_of_stop(firmware, stop)}; the bound covers only what comes before; "
     found = line_that_admits(firmware, work, stop)

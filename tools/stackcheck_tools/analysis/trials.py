@@ -40,8 +40,8 @@ class Stop:
 
 
 class Kind(NamedTuple):
-    """A trial run behind a bound: how many steps, `timers` (all vectors ask again and again), `bytes` (those that receive bring bytes) or `polls`
-    (inputs change without interrupts), the first request, the steps between two, and which byte comes first."""
+    """A trial run behind a bound: how many steps, `timers` (all vectors ask again and again), `bytes` (those that receive bring bytes) or
+    `polls` (inputs change without interrupts), the first request, the steps between two, and which byte comes first."""
 
     steps: int
     what: str
@@ -68,8 +68,8 @@ KINDS = (
 
 
 class Scope(NamedTuple):
-    """What runs can still tell of a certificate: its bound, whether a run as deep is known, whether a step of a run may be flagged, and which
-    vectors with a `never` line a run may take before that (None where nothing tells)."""
+    """What runs can still tell of a certificate: its bound, whether a run as deep is known, whether a step of a run may be flagged, and
+    which vectors with a `never` line a run may take before that (None where nothing tells)."""
 
     bound: int
     is_attained: bool
@@ -82,8 +82,8 @@ class Scope(NamedTuple):
 
 
 def scope(certificate: str, told: Optional[List[str]]) -> Scope:
-    """The scope of a certificate, by the lines that `premises` prints of it: a run is flagged at its places alone, or where it takes the vector of
-    one of its `never` lines."""
+    """The scope of a certificate, by the lines that `premises` prints of it: a run is flagged at its places alone, or where it takes the
+    vector of one of its `never` lines."""
     lines = certificate.splitlines()
     bound = next(int(it.split()[1]) for it in lines if it.startswith("bound "))
     entered = None if told is None else {int(it.split()[1], 16) for it in told if it.startswith("never ")}
@@ -101,12 +101,13 @@ class Run(NamedTuple):
 def handled(elf: Elf, device: Device) -> List[int]:
     """The vectors that don't lead to the compiler's default."""
     default = {it.address for it in elf.named("__bad_interrupt")}
-    return [it for it in device.vectors if (target := opcodes.jump_target(elf, device.vector_word(it))) is not None and target != start(elf) and 2 * target not in default]
+    return [it for it in device.vectors if (target := opcodes.jump_target(elf, device.vector_word(it))) is not None and target != start(elf)
+            and 2 * target not in default]
 
 
 def told_apart(elf: Elf, device: Device) -> List[int]:
-    """The bytes that the firmware tells apart, ascending: those that it compares with, those that name registers of the core whose addresses stand in
-    it, and some that any may."""
+    """The bytes that the firmware tells apart, ascending: those that it compares with, those that name registers of the core whose
+    addresses stand in it, and some that any may."""
     found = {0x00, 0xFF, 0x55, 0xAA, 0x01, 0x80, 0x7F, 0xFE} | core_registers.seeds(elf, device)
     for word in range(min(device.words, (elf.flash_end + 1) // 2)):
         opcode = elf.word(word)
@@ -121,8 +122,8 @@ def told_apart(elf: Elf, device: Device) -> List[int]:
 
 
 def reads_inputs(elf: Elf, device: Device) -> bool:
-    """Whether runs read bytes of inputs where the firmware reads flash by `elpm`: initialised data, tables of `switch`. What is flagged behind that
-    says nothing of the firmware."""
+    """Whether runs read bytes of inputs where the firmware reads flash by `elpm`: initialised data, tables of `switch`. What is flagged
+    behind that says nothing of the firmware."""
     return "elpm" in device.groups and any(opcodes.is_elpm(opcode) for words in code(elf) for _, opcode in words)
 
 
@@ -132,8 +133,8 @@ def is_receiver(device: Device, vector: int) -> bool:
 
 
 class Trials:
-    """Runs on one program, whose files are made in a folder. `deepest` is how deep they went before a flagged step, `deepest_run` the run; None
-    where none was done. `idle` are those of the vectors that no run takes."""
+    """Runs on one program, whose files are made in a folder. `deepest` is how deep they went before a flagged step, `deepest_run` the run;
+    None where none was done. `idle` are those of the vectors that no run takes."""
 
     def __init__(self, program: Program, folder: str, elf: Elf, device: Device, vectors: List[int], idle: Iterable[int] = ()) -> None:
         self.program, self.folder, self.device, self.vectors, self.idle = program, folder, device, vectors, set(idle)
@@ -179,7 +180,8 @@ class Trials:
                 return
 
     def legal(self, byte: int, takes: List[Tuple[int, int]]) -> Tuple[Optional[Stop], Optional[int]]:
-        """The stop of a schedule with these takes (step, vector) and a long run behind them; the number of the first take that isn't legal."""
+        """The stop of a schedule with these takes (step, vector) and a long run behind them; the number of the first take that isn't
+        legal."""
         lines, at, numbers = ["schedule 1", f"fill {byte:02X}"], 0, {}
         for number, (step, vector) in enumerate(takes):
             if step > at:
@@ -194,7 +196,8 @@ class Trials:
         return self.stop(status, text, run), None
 
     def replayed(self, byte: int) -> Iterator[Optional[Stop]]:
-        """Yields the stops of schedules: none, each vector alone at several steps, and then all that could be taken, one behind the other."""
+        """Yields the stops of schedules: none, each vector alone at several steps, and then all that could be taken, one behind the
+        other."""
         yield self.legal(byte, [])[0]
         taken = []
         for vector in self.vectors:

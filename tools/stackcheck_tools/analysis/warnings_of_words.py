@@ -38,7 +38,8 @@ def writes_low_half(elf: Elf, nodes: Nodes, word: int) -> bool:
 
 
 def first_use(elf: Elf, nodes: Nodes) -> Optional[int]:
-    """The word of a first instruction on a way from reset that uses the stack or lets interrupts in before SPL is written; None if there is none."""
+    """The word of a first instruction on a way from reset that uses the stack or lets interrupts in before SPL is written; None if there is
+    none."""
     seen: Set[int] = set()
     left = [0]
     while left:
@@ -57,8 +58,10 @@ def unset_pointer(firmware: Firmware, certificate: str) -> Iterator[Warned]:
     device: Device = firmware.device
     word = None if device.is_first() else first_use(firmware.elf, Nodes(firmware.elf, certificate))
     if word is not None:
-        yield Warned(word, UNSET, f"uses the stack before SPL is written; the bound takes SP to be {device.last:04X} at reset, and older chips start with 0000: "
-                                  f"write SPH and SPL first, as avr-libc's start-up code does, or judge this place if the data sheet says {device.last:04X}")
+        yield Warned(word, UNSET, f"uses the stack before SPL is written; the bound takes SP to be {device.last:04X} at reset, and older "
+                                  f"chips start with 0000: "
+                                  f"write SPH and SPL first, as avr-libc's start-up code does, or judge this place if the data sheet says "
+                                  f"{device.last:04X}")
 
 
 def warnings(firmware: Firmware, certificate: str) -> List[Warned]:

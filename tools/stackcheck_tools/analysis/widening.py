@@ -1,5 +1,5 @@
-"""Lets the list of each call through a pointer have every function whose address is taken, where there is a bound then: no list is a guess but those
-that can't have them all."""
+"""Lets the list of each call through a pointer have every function whose address is taken, where there is a bound then: no list is a guess
+but those that can't have them all."""
 
 from __future__ import annotations
 
@@ -27,8 +27,8 @@ RECORDS = "link with -Wl,--emit-relocs: then the linker's records name every fun
 
 @dataclass
 class Lists:
-    """What is known of the lists of calls through pointers: at which sites they are complete, why at others they aren't, and the lines under which
-    the bound was lower, with that bound."""
+    """What is known of the lists of calls through pointers: at which sites they are complete, why at others they aren't, and the lines
+    under which the bound was lower, with that bound."""
 
     whole: Set[int] = field(default_factory=set)
     why: Dict[int, str] = field(default_factory=dict)
@@ -61,7 +61,8 @@ class Widening:
         """The sites of calls through pointers whose lines this tool wrote and of which nothing is known yet."""
         lists = self.work.lists
         calls = set(candidates.indirect(self.elf))
-        return [site for site, kind in self.work.lines.written() if kind == "jump" and site in calls and site not in lists.whole and site not in lists.why]
+        return [site for site, kind in self.work.lines.written() if kind == "jump" and site in calls and site not in lists.whole
+                and site not in lists.why]
 
     def want(self, site: int) -> None:
         """Works out the complete list of a site, or why there is none."""

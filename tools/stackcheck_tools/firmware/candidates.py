@@ -55,7 +55,8 @@ def code(elf: Elf) -> Iterator[List[Tuple[int, int]]]:
 
 @functools.lru_cache(maxsize=None)
 def addressed(elf: Elf, device: Device) -> Set[int]:
-    """The words of all functions whose address is taken. Where none has a name, a function is what begins behind the end of another, and no handler."""
+    """The words of all functions whose address is taken. Where none has a name, a function is what begins behind the end of another, and no
+    handler."""
     if elf.code:
         return taken(elf)
     begins = {after for words in code(elf) for (_, opcode), (after, _) in zip(words, words[1:]) if opcodes.ends(opcode)}
@@ -65,7 +66,8 @@ def addressed(elf: Elf, device: Device) -> Set[int]:
 
 
 def table_of_jumps(elf: Elf, site: int) -> Set[int]:
-    """The words of a table of `rjmp` that the `ijmp` at a word goes through, as far as they lead into its function; none where it has no such table."""
+    """The words of a table of `rjmp` that the `ijmp` at a word goes through, as far as they lead into its function; none where it has no
+    such table."""
     symbol, table = elf.symbol_at(2 * site), opcodes.pair_loaded(elf, site - 2)
     if symbol is None or table is None or elf.word(site) != opcodes.IJMP:
         return set()
@@ -111,7 +113,8 @@ def of_flash_table(elf: Elf, site: int) -> Set[int]:
 
 
 def of_pointer(elf: Elf, device: Device, site: int) -> Set[int]:
-    """The functions that a call through a pointer may reach: of tables of virtual functions only those in the slot from which the pointer is loaded."""
+    """The functions that a call through a pointer may reach: of tables of virtual functions only those in the slot from which the pointer
+    is loaded."""
     if not elf.code or not slots(elf):
         return addressed(elf, device)
     words = [opcode for _, opcode in before(elf, site, LOOK_BACK) if not opcodes.leaves_pointer(opcode)]
@@ -138,11 +141,14 @@ def targets(elf: Elf, device: Device, site: int) -> Set[int]:
 
 
 def may_be_entered(elf: Elf, site: int, word: int) -> bool:
-    """Whether a transfer that a run made is one that a program means: to where a function begins, or within a table's function; not to reset."""
+    """Whether a transfer that a run made is one that a program means: to where a function begins, or within a table's function; not to
+    reset."""
     symbol, caller = elf.symbol_at(2 * word), elf.symbol_at(2 * site)
     if symbol is None or caller is None:
         return word != 0 and not elf.code
-    return symbol.address == 2 * word != 0 or word in nameless(elf) or caller.name == "__tablejump2__" or caller.address == symbol.address != 0
+    if symbol.address == 2 * word != 0 or word in nameless(elf):
+        return True
+    return caller.name == "__tablejump2__" or caller.address == symbol.address != 0
 
 
 def indirect(elf: Elf) -> Iterator[int]:
@@ -156,7 +162,8 @@ def indirect(elf: Elf) -> Iterator[int]:
 
 @functools.lru_cache(maxsize=None)
 def entered(elf: Elf) -> Dict[int, Set[int]]:
-    """For each function's first word those of the functions that it enters by calls and jumps that name them, itself where it calls itself."""
+    """For each function's first word those of the functions that it enters by calls and jumps that name them, itself where it calls
+    itself."""
     found: Dict[int, Set[int]] = {}
     for symbol in elf.code:
         held = found.setdefault(symbol.address // 2, set())

@@ -1,16 +1,21 @@
-"""The names of C++ as they are written, from the names that the compiler gives its symbols (the Itanium ABI's mangling, as far as firmware has it)."""
+"""The names of C++ as they are written, from the names that the compiler gives its symbols (the Itanium ABI's mangling, as far as firmware
+has it)."""
 
 from __future__ import annotations
 
 from typing import List, Optional
 
 BUILTIN = dict(zip("vwbcahstijlmxynofdegz", (
-    "void", "wchar_t", "bool", "char", "signed char", "unsigned char", "short", "unsigned short", "int", "unsigned int", "long", "unsigned long",
+    "void", "wchar_t", "bool", "char", "signed char", "unsigned char", "short", "unsigned short", "int", "unsigned int", "long",
+    "unsigned long",
     "long long", "unsigned long long", "__int128", "unsigned __int128", "float", "double", "long double", "__float128", "...")))
 OPERATORS = {
-    "nw": "new", "na": "new[]", "dl": "delete", "da": "delete[]", "pl": "+", "mi": "-", "ml": "*", "dv": "/", "rm": "%", "eo": "^", "an": "&",
-    "or": "|", "co": "~", "aS": "=", "pL": "+=", "mI": "-=", "mL": "*=", "dV": "/=", "rM": "%=", "eO": "^=", "aN": "&=", "oR": "|=", "ls": "<<",
-    "rs": ">>", "lS": "<<=", "rS": ">>=", "eq": "==", "ne": "!=", "lt": "<", "gt": ">", "le": "<=", "ge": ">=", "nt": "!", "aa": "&&", "oo": "||",
+    "nw": "new", "na": "new[]", "dl": "delete", "da": "delete[]", "pl": "+", "mi": "-", "ml": "*", "dv": "/", "rm": "%", "eo": "^",
+    "an": "&",
+    "or": "|", "co": "~", "aS": "=", "pL": "+=", "mI": "-=", "mL": "*=", "dV": "/=", "rM": "%=", "eO": "^=", "aN": "&=", "oR": "|=",
+    "ls": "<<",
+    "rs": ">>", "lS": "<<=", "rS": ">>=", "eq": "==", "ne": "!=", "lt": "<", "gt": ">", "le": "<=", "ge": ">=", "nt": "!", "aa": "&&",
+    "oo": "||",
     "pp": "++", "mm": "--", "cm": ",", "pt": "->", "cl": "()", "ix": "[]", "ps": "+", "ng": "-", "ad": "&", "de": "*"}
 STANDARD = {"St": "std", "Sa": "std::allocator", "Ss": "std::string"}
 SPECIAL = {"TV": "vtable for ", "TI": "typeinfo for ", "TS": "typeinfo name for ", "GV": "guard variable for "}

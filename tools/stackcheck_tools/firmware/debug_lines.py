@@ -43,8 +43,8 @@ class Reader:
 
 
 def dwarf_rows(data: bytes, texts: bytes = b"", line_texts: bytes = b"") -> Iterator[Row]:
-    """Yields (begin, end, file, line) of each row of the line tables. A table of another version is passed over. Texts are those of `.debug_str` and
-    `.debug_line_str`, to which version 5 refers."""
+    """Yields (begin, end, file, line) of each row of the line tables. A table of another version is passed over. Texts are those of
+    `.debug_str` and `.debug_line_str`, to which version 5 refers."""
     at = 0
     while at + 4 <= len(data):
         reader = Reader(data, at)
@@ -99,7 +99,8 @@ class Header:
         self.lengths = [reader.take("B") for _ in range(self.special - 1)]
         if version == 5:
             self.folders = [name for name, _ in listed(reader, texts)]
-            self.files = [os.path.join(self.folders[folder] if folder < len(self.folders) else "", name) for name, folder in listed(reader, texts)]
+            self.files = [os.path.join(self.folders[folder] if folder < len(self.folders) else "", name)
+                          for name, folder in listed(reader, texts)]
             reader.at = start
             return
         self.folders = [""]
@@ -251,7 +252,8 @@ class Lines:
         return f"{os.path.basename(found[0])}:{found[1]}" if found else None
 
     def words(self, file: str, line: int) -> List[int]:
-        """The words of the instructions of a line of a file, which is named with as much of its path as tells it; none without line tables."""
+        """The words of the instructions of a line of a file, which is named with as much of its path as tells it; none without line
+        tables."""
         return sorted({at // 2 for at, it in self.places.items() if it and it[1] == line and ("/" + it[0]).endswith("/" + file)})
 
 

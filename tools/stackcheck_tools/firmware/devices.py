@@ -14,7 +14,8 @@ if TYPE_CHECKING:
 FIRST = ("atmega48pa", "atmega88pa", "atmega168pa", "atmega328p")  # those of certificates without a device's name
 DEFAULT = "atmega328p"  # the one that stackbound takes without --device
 MOST_NEAR, ALIKE = 4, 0.85
-CORE = {**{f"r{n}": n for n in range(32)}, "SPL": 0x5D, "SPH": 0x5E, "SREG": 0x5F}  # protected registers of all devices, with their data addresses
+# protected registers of all devices, with their data addresses
+CORE = {**{f"r{n}": n for n in range(32)}, "SPL": 0x5D, "SPH": 0x5E, "SREG": 0x5F}
 
 
 class Misuse(Exception):
@@ -37,8 +38,8 @@ def place(text: str) -> Place:
 
 
 class Vector:
-    """An interrupt's vector: its names, the places of its enable bit, and whether it stays enabled once it was. Without a place it counts as
-    always enabled."""
+    """An interrupt's vector: its names, the places of its enable bit, and whether it stays enabled once it was. Without a place it counts
+    as always enabled."""
 
     def __init__(self, how: str, names: List[str]) -> None:
         self.names = [f"{it}_vect" for it in names]
@@ -47,10 +48,10 @@ class Vector:
 
 
 class Device:
-    """A class of equal devices, by a line of the table: `words` of flash, the `first` and the `last` byte of SRAM, how many words a vector has,
-    the `last_vector`, and the vector of the `watchdog`. `vectors` has the name of each vector that may come, by number; `registers` the
-    protected addresses by name; `enabling` those of registers that enable interrupts; `handlers` the functions of handlers by their vectors'
-    names; `moving` the bit that moves the vectors."""
+    """A class of equal devices, by a line of the table: `words` of flash, the `first` and the `last` byte of SRAM, how many words a vector
+    has, the `last_vector`, and the vector of the `watchdog`. `vectors` has the name of each vector that may come, by number; `registers`
+    the protected addresses by name; `enabling` those of registers that enable interrupts; `handlers` the functions of handlers by their
+    vectors' names; `moving` the bit that moves the vectors."""
 
     def __init__(self, row: List[str]) -> None:
         self.name, self.words, self.vector_words, self.last_vector = row[0], int(row[1]), int(row[5]), int(row[7])
@@ -70,8 +71,8 @@ class Device:
             self.names[self.moving.address] = self.moving.registers[0]
 
     def is_first(self) -> bool:
-        """Whether it is one of the four whose chips start with SP at the end of SRAM, and whose assumption files are read as they are written.
-        All others are read as with the line `masks`."""
+        """Whether it is one of the four whose chips start with SP at the end of SRAM, and whose assumption files are read as they are
+        written. All others are read as with the line `masks`."""
         return self.name in FIRST
 
     def sram(self) -> int:

@@ -24,8 +24,8 @@ class NoElf(Exception):
 
 
 class Symbol:
-    """A symbol of code: its name, byte address, size in bytes (0: not told), whether it is a function, its source file where it is local, and
-    whether other files see it."""
+    """A symbol of code: its name, byte address, size in bytes (0: not told), whether it is a function, its source file where it is local,
+    and whether other files see it."""
 
     def __init__(self, name: str, address: int, size: int, is_function: bool, file: str, is_global: bool = False) -> None:
         self.name, self.address, self.size, self.is_function, self.file, self.is_global = name, address, size, is_function, file, is_global
@@ -42,7 +42,8 @@ def what_else(data: bytes) -> Optional[str]:
     """What a file is, where it is no linked ELF file of an AVR; None where it is one."""
     if data[:4] != b"\x7fELF":
         if re.match(rb"\s*:[0-9A-Fa-f]{10}", data):
-            return "is a file of Intel HEX, which has no names and no sections: give the ELF file from which it was made, or read it with `stackcheck --device NAME`"
+            return ("is a file of Intel HEX, which has no names and no sections: give the ELF file from which it was made, "
+                    "or read it with `stackcheck --device NAME`")
         if data[:7] == b"!<arch>":
             return "is a library (.a) and no linked firmware: give the ELF file that the linker writes"
         return "is no ELF file of an AVR"
@@ -55,9 +56,9 @@ def what_else(data: bytes) -> Optional[str]:
 
 
 class Elf:
-    """`path` is the file's name, `flash` has 131,072 bytes (FF where nothing is placed), `placed` the begin and the end of each part of it, `code`
-    the symbols of code by address, `all` the addresses of all names, `objects` address and size of those of data, `chip` the device as whose code
-    it is read: that of its note, and else the one that stackbound takes."""
+    """`path` is the file's name, `flash` has 131,072 bytes (FF where nothing is placed), `placed` the begin and the end of each part of it,
+    `code` the symbols of code by address, `all` the addresses of all names, `objects` address and size of those of data, `chip` the device
+    as whose code it is read: that of its note, and else the one that stackbound takes."""
 
     def __init__(self, path: str) -> None:
         self.path = path

@@ -20,7 +20,8 @@ class Firmware:
     """An ELF file, the device that it was linked for, and the one as which it is taken."""
 
     def __init__(self, path: str, device: Optional[str], elf: Optional[Elf] = None) -> None:
-        """With its ELF file, or with what was read of another kind of file, whose raw image is `image` then, and `lost` what it doesn't tell."""
+        """With its ELF file, or with what was read of another kind of file, whose raw image is `image` then, and `lost` what it doesn't
+        tell."""
         self.path, self.elf, self.image = path, elf or Elf(path), path
         self.lost: Optional[str] = None
         self.linked_for, self.device = device_of(self.elf, path, device)
@@ -32,11 +33,13 @@ class Firmware:
         end = 2 * self.device.words
         begin = min((begin for begin, _ in self.elf.placed), default=0)
         if begin:
-            raise Misuse(f"{self.path}: this is a boot loader at {begin:04X}: nothing stands at address 0, where the bound takes the chip to start, and code that "
+            raise Misuse(f"{self.path}: this is a boot loader at {begin:04X}: nothing stands at address 0, where the bound takes the chip "
+                         f"to start, and code that "
                          "writes flash has no bound; give the program that it starts")
         for _, last in self.elf.placed:
             if last > max(end, LEAST):
-                raise Misuse(f"{self.path} has bytes up to {last - 1:04X}, and the flash of {self.device.name} ends at {end - 1:04X}: it was linked for another device")
+                raise Misuse(f"{self.path} has bytes up to {last - 1:04X}, and the flash of {self.device.name} ends at {end - 1:04X}: it "
+                             f"was linked for another device")
 
     def name(self, symbol: Symbol) -> str:
         """A function's name as a reader knows it; with the types of its parameters where another one has the same."""

@@ -1,4 +1,5 @@
-"""Fuses that an ELF file says are programmed (section `.fuse`) and of which no flag speaks: they change where the chip starts, or what chip it is."""
+"""Fuses that an ELF file says are programmed (section `.fuse`) and of which no flag speaks: they change where the chip starts, or what chip
+it is."""
 
 from __future__ import annotations
 

@@ -1,8 +1,7 @@
 """A file of Intel HEX: its records, the flash that they hold, and what start-up code tells of static data.
 
-The format: Intel, Hexadecimal Object File Format Specification, revision A, 1988. avr-objcopy puts the bytes of EEPROM, fuses, lock bits and signature
-at 810000 and behind, where no flash is.
-"""
+The format: Intel, Hexadecimal Object File Format Specification, revision A, 1988. avr-objcopy puts the bytes of EEPROM, fuses, lock bits
+and signature at 810000 and behind, where no flash is. """
 
 from __future__ import annotations
 
@@ -20,7 +19,8 @@ LENGTHS = {END: 0, SEGMENT: 2, SEGMENT_START: 4, LINEAR: 2, LINEAR_START: 4}
 FUSES, FUSES_END = 0x820000, 0x830000
 NOT_FLASH = 0x800000
 HEAD = re.compile(rb"\s*:[0-9A-Fa-f]{10}")
-LOST = ("HEX: this file has no names, no source lines and no sections: places are word addresses, and static data is what the start-up code clears and copies; "
+LOST = ("HEX: this file has no names, no source lines and no sections: places are word addresses, and static data is what the start-up "
+        "code clears and copies; "
         "the ELF file from which it was made says more")
 
 
@@ -91,7 +91,8 @@ def records(path: str, text: str) -> Iterator[Record]:
 
 
 class Image(Elf):
-    """The flash of a file of Intel HEX, as an ELF file without names and sections. `data_end` is the data address behind what the start-up code fills."""
+    """The flash of a file of Intel HEX, as an ELF file without names and sections. `data_end` is the data address behind what the start-up
+    code fills."""
 
     def __init__(self, path: str) -> None:
         self.path = path
@@ -131,7 +132,8 @@ class Image(Elf):
         for it in self.records:
             end = it.address + len(it.data)
             if it.data and end > size and not NOT_FLASH < it.address:
-                raise NoElf(f"{self.path}: line {it.line}: address {max(it.address, size):04X} lies beyond the flash of {self.chip.name}, whose last is {size - 1:04X}")
+                raise NoElf(f"{self.path}: line {it.line}: address {max(it.address, size):04X} lies beyond the flash of {self.chip.name}, "
+                            f"whose last is {size - 1:04X}")
 
     def static_end(self) -> Optional[int]:
         """The data address behind what the start-up code fills; None where it fills nothing."""

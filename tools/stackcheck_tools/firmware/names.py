@@ -9,7 +9,8 @@ from typing import List, Tuple
 from stackcheck_tools.firmware.cxx_names import qualified, without_parameters, written
 from stackcheck_tools.firmware.elf import Elf, Symbol
 
-CLONE = re.compile(r"(\.(part|constprop|isra|lto_priv|cold)(\.\d+)?|\.\d+)+$")  # what the compiler puts behind the name of a function that it has copied or cut
+# what the compiler puts behind the name of a function that it has copied or cut
+CLONE = re.compile(r"(\.(part|constprop|isra|lto_priv|cold)(\.\d+)?|\.\d+)+$")
 
 
 class SpecFault(Exception):
@@ -36,7 +37,8 @@ def shown(symbol: Symbol) -> str:
 
 
 def forms(name: str) -> Tuple[str, ...]:
-    """The names by which a function of C++ may be called, the exact ones first: with the types of parameters, without, and the last part."""
+    """The names by which a function of C++ may be called, the exact ones first: with the types of parameters, without, and the last
+    part."""
     whole = written(name)
     if whole is None:
         return ()
@@ -68,7 +70,8 @@ def of_cxx(elf: Elf, name: str) -> List[Symbol]:
 
 
 def named(elf: Elf, name: str) -> Tuple[List[Symbol], List[Symbol]]:
-    """The symbols that a name means, and its clones: those of this name, else those of C++ that are written so. A vector's name means its handler."""
+    """The symbols that a name means, and its clones: those of this name, else those of C++ that are written so. A vector's name means its
+    handler."""
     name = elf.chip.handlers.get(name, name)
     found = elf.named(name)
     file, _, own = name.rpartition(":") if "::" not in name else ("", "", name)
@@ -84,8 +87,10 @@ def functions(elf: Elf, name: str) -> List[Symbol]:
     own, clones = named(elf, name)
     if not own and not clones:
         raise Missing(f"there is no function {name}{near(elf, name)}")
-    if len({it.address for it in own}) > 1 and len({written(base(it.name)) or it.name for it in own}) == 1 and len({it.file for it in own}) > 1:
-        raise SpecFault(f"several functions are called {name}: write FILE:{name}, with one of {', '.join(sorted(it.file or '-' for it in own))}")
+    own_names = {written(base(it.name)) or it.name for it in own}
+    if len({it.address for it in own}) > 1 and len(own_names) == 1 and len({it.file for it in own}) > 1:
+        raise SpecFault(f"several functions are called {name}: write FILE:{name}, with one of "
+                        f"{', '.join(sorted(it.file or '-' for it in own))}")
     if len({written(base(it.name)) for it in own}) > 1:
         raise SpecFault(f"several functions are called {name}: write one of {', '.join(sorted(written(it.name) or it.name for it in own))}")
     return list({it.address: it for it in [*own, *clones]}.values())

@@ -166,7 +166,8 @@ def is_lds(opcode: int, register: int) -> bool:
 
 
 def table_added(elf: Elf, word: int) -> Optional[int]:
-    """The number that a pair of `subi`, `sbci` (or `ldi`, `ldi`) at a word adds to a pair of registers, or loads; None where these aren't there."""
+    """The number that a pair of `subi`, `sbci` (or `ldi`, `ldi`) at a word adds to a pair of registers, or loads; None where these aren't
+    there."""
     low, high = elf.word(word), elf.word(word + 1)
     byte = lambda opcode: opcode & 15 | opcode >> 4 & 0xF0  # noqa: E731
     if (low >> 4 & 15) + 1 != high >> 4 & 15 or low >> 4 & 1:
@@ -193,14 +194,16 @@ def writes_pointer(opcode: int) -> bool:
 
 
 def leaves_pointer(opcode: int) -> bool:
-    """Whether an instruction before a call leaves its pointer as it is: a move of an argument, a test for 0, a branch over the call, a store."""
+    """Whether an instruction before a call leaves its pointer as it is: a move of an argument, a test for 0, a branch over the call, a
+    store."""
     if opcode & 0xFC00 == 0x2C00 or opcode & 0xFF00 == 0x0100 or is_ldi(opcode):  # mov, movw, ldi
         return not writes_pointer(opcode)
     return opcode == 0x9730 or opcode & 0xFC07 in (0xF001, 0xF401) or opcode & 0xFE0F == 0x9200  # sbiw r30, 0; breq, brne; sts
 
 
 def slot_loaded(words: List[int]) -> Optional[int]:
-    """The slot of a table from which a transfer's pointer is loaded, by the instructions before it, the last one first; None where it isn't so loaded."""
+    """The slot of a table from which a transfer's pointer is loaded, by the instructions before it, the last one first; None where it isn't
+    so loaded."""
     if len(words) >= 3 and words[0] == 0x2DE0:  # mov r30, r0
         high, low = displacement(words[1], 31), displacement(words[2], 0)
         steps = words[2] & 0xFE0F == 0x9001  # `ld r0, Z+`, behind which the high byte is at Z

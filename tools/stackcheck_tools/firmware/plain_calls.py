@@ -1,5 +1,6 @@
-"""Calls through a pointer that is loaded from a variable, or from the object that the function was given: none reads a table of virtual functions, so
-that a function which stands in such tables alone isn't entered there. In C++ nothing but a call of a virtual function reads them."""
+"""Calls through a pointer that is loaded from a variable, or from the object that the function was given: none reads a table of virtual
+functions, so that a function which stands in such tables alone isn't entered there. In C++ nothing but a call of a virtual function reads
+them."""
 
 from __future__ import annotations
 
@@ -34,7 +35,8 @@ def goes_back(elf: Elf, code: List[Tuple[int, int]], site: int) -> bool:
 
 
 def of_argument(elf: Elf, site: int) -> bool:
-    """Whether the pointer of a call is loaded from the object that the first argument points to: `ldd r0, Z+q`, `ldd r31, Z+q+1`, `mov r30, r0`."""
+    """Whether the pointer of a call is loaded from the object that the first argument points to: `ldd r0, Z+q`, `ldd r31, Z+q+1`, `mov r30,
+    r0`."""
     symbol = elf.symbol_at(2 * site)
     if symbol is None or not symbol.size or ".isra" in symbol.name:  # which may be given what another function would load
         return False

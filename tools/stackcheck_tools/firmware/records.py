@@ -1,4 +1,5 @@
-"""The linker's own records in an ELF file (`-Wl,--emit-relocs`): which words of code a firmware names otherwise than by a call or a jump."""
+"""The linker's own records in an ELF file (`-Wl,--emit-relocs`): which words of code a firmware names otherwise than by a call or a
+jump."""
 
 from __future__ import annotations
 
@@ -75,8 +76,8 @@ def lies_between(elf: Elf, address: int) -> bool:
 
 
 def taken(elf: Elf, but: Iterable[Tuple[int, int]] = ()) -> Optional[Set[int]]:
-    """The words of the functions whose address is taken: of each function or label that begins where a record names, and of what has no name there;
-    records within some spans of addresses are left out. None where the file has no records."""
+    """The words of the functions whose address is taken: of each function or label that begins where a record names, and of what has no
+    name there; records within some spans of addresses are left out. None where the file has no records."""
     if not has_records(elf):
         return None
     begins, spans = set(elf.addresses), list(but)

@@ -1,10 +1,10 @@
-"""The functions whose address a firmware takes: all that a call through a pointer enters, if it keeps to its functions. By the linker's records, or
-else by a search in the file."""
+"""The functions whose address a firmware takes: all that a call through a pointer enters, if it keeps to its functions. By the linker's
+records, or else by a search in the file."""
 
 from __future__ import annotations
 
 import functools
-from typing import Dict, FrozenSet, Iterator, List, NamedTuple, Optional, Set, Tuple
+from typing import AbstractSet, Dict, FrozenSet, Iterator, List, NamedTuple, Optional, Set, Tuple
 
 from stackcheck_tools.firmware import nameless, opcodes, plain_calls, records
 from stackcheck_tools.firmware.candidates import code, entered
@@ -108,13 +108,15 @@ def numbers_loaded(elf: Elf) -> FrozenSet[int]:
 
 
 def left_over(elf: Elf, device: Device, reached: Set[int]) -> Set[int]:
-    """The functions that are linked for no reason that the file tells: no node lies in them, and no other function and no vector enters them."""
+    """The functions that are linked for no reason that the file tells: no node lies in them, and no other function and no vector enters
+    them."""
     by_name = {it for at, held in entered(elf).items() for it in held if it != at}
     by_name |= {to for span in nameless.pieces(elf).values() for word, _ in instructions(elf, span)
                 if (to := opcodes.call_target(elf, word) or opcodes.jump_target(elf, word)) is not None and not span[0] <= 2 * to < span[1]}
     by_name |= {opcodes.jump_target(elf, device.vector_word(it)) or 0 for it in device.vectors}
     marks = sorted(reached)
-    return {word for word, span in functions(elf).items() if span[0] >= code_begin(elf) and word not in by_name and not any_between(marks, span)}
+    return {word for word, span in functions(elf).items() if span[0] >= code_begin(elf) and word not in by_name
+            and not any_between(marks, span)}
 
 
 def any_between(marks: List[int], span: Span) -> bool:
@@ -129,7 +131,9 @@ def virtual_tables(elf: Elf) -> List[Span]:
 def searched(elf: Elf, device: Device, reached: FrozenSet[int], is_plain: bool) -> FrozenSet[int]:
     """The functions that the search finds; for plain calls without those that stand in tables of virtual functions alone."""
     spans = virtual_tables(elf) if is_plain else []
-    in_data = {number for at, number in numbers_at(elf) if not any(begin <= at < end for begin, end in spans)} if spans else numbers_in_data(elf)
+    in_data: AbstractSet[int] = numbers_in_data(elf)
+    if spans:
+        in_data = {number for at, number in numbers_at(elf) if not any(begin <= at < end for begin, end in spans)}
     return frozenset(functions(elf)) & (in_data | numbers_loaded(elf)) | left_over(elf, device, set(reached))
 
 
@@ -142,8 +146,8 @@ def labels(elf: Elf, site: int, numbers: Set[int]) -> Set[int]:
 
 
 def of_site(elf: Elf, device: Device, site: int, reached: FrozenSet[int]) -> Optional[Taken]:
-    """What a call or jump through a pointer may enter; None where the file has no names and no records. `reached`: the words of the nodes of a
-    certificate."""
+    """What a call or jump through a pointer may enter; None where the file has no names and no records. `reached`: the words of the nodes
+    of a certificate."""
     is_plain = plain_calls.is_plain(elf, site)
     by_records = records.taken(elf, virtual_tables(elf) if is_plain else ())
     if by_records is not None:

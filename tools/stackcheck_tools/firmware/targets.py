@@ -1,4 +1,5 @@
-"""Where an indirect transfer may go: functions, constructors of static objects, tables of `switch`, virtual functions, and what has its address taken."""
+"""Where an indirect transfer may go: functions, constructors of static objects, tables of `switch`, virtual functions, and what has its
+address taken."""
 
 from __future__ import annotations
 
@@ -75,8 +76,8 @@ def addresses_loaded(elf: Elf) -> Iterator[int]:
 
 
 def words_in_data(elf: Elf, but: Iterable[Tuple[int, int]] = ()) -> Iterator[int]:
-    """Numbers of two bytes at each place of the image of initialised data, and of what stands in flash between the vectors and the code; those
-    that begin within one of some spans of addresses are left out."""
+    """Numbers of two bytes at each place of the image of initialised data, and of what stands in flash between the vectors and the code;
+    those that begin within one of some spans of addresses are left out."""
     for address, size, offset in elf.loaded:
         if elf.sram() <= address < elf.sram() + 0x10000:
             data = elf.data[offset:offset + size]
@@ -107,7 +108,8 @@ def tables_of_virtual(elf: Elf) -> Iterator[Tuple[int, List[int]]]:
 
 @functools.lru_cache(maxsize=None)
 def slots(elf: Elf) -> Dict[int, Set[int]]:
-    """The functions by the slots in which a table of virtual functions has them. A table has two words in front, and so has each part of a base."""
+    """The functions by the slots in which a table of virtual functions has them. A table has two words in front, and so has each part of a
+    base."""
     known = starts(elf)
     found: Dict[int, Set[int]] = {}
     for _, words in tables_of_virtual(elf):

@@ -72,7 +72,8 @@ class Graph:
 
     def add(self, instance: Instance) -> None:
         symbol = self.outcome.firmware.elf.symbol_at(2 * instance.entry)
-        instance.name = self.outcome.firmware.instance(instance.kind, instance.entry, symbol.name if symbol and symbol.address == 2 * instance.entry else None)
+        name = symbol.name if symbol and symbol.address == 2 * instance.entry else None
+        instance.name = self.outcome.firmware.instance(instance.kind, instance.entry, name)
         self.by_key[instance.kind, instance.entry, instance.enables, instance.flag] = len(self.instances)
         self.instances.append(instance)
 
@@ -124,7 +125,8 @@ class Graph:
 
     def settle(self, instance: Instance) -> None:
         """The bytes of an instance with its calls and without interrupts; all that it enters by calls is settled before."""
-        instance.calls = max([instance.own, *(it.depth + self.instances[it.other].calls for it in instance.entries.values() if not it.is_interrupt)])
+        instance.calls = max([instance.own, *(it.depth + self.instances[it.other].calls for it in instance.entries.values()
+                                              if not it.is_interrupt)])
 
 
 class Need:

@@ -13,13 +13,16 @@ def quoted(text: str) -> str:
 
 def edges(graph: Graph) -> List[Tuple[str, str, bool]]:
     """The edges by names, each once: (from, to, whether it is an interrupt), in order."""
-    return sorted({(it.name, graph.instances[entry.other].name, entry.is_interrupt) for it in graph.instances for entry in it.entries.values()})
+    return sorted({(it.name, graph.instances[entry.other].name, entry.is_interrupt) for it in graph.instances
+                   for entry in it.entries.values()})
 
 
 def text(graph: Graph, found: List[Need]) -> str:
     lines = ["digraph stack {", "  rankdir=LR;", '  node [shape=box, style=filled, fontname="Helvetica", fillcolor="#dce8f5"];']
     for it in found:
         colour = ', fillcolor="#f8dcc4"' if it.is_handler else ""
-        lines.append(f"  {quoted(it.name)} [label={quoted(f'{it.name}{chr(10)}{it.own} own, {it.calls} calls, {it.all} all')}{colour}];".replace("\n", "\\n"))
-    lines += [f"  {quoted(begin)} -> {quoted(end)}{' [style=dashed]' if is_interrupt else ''};" for begin, end, is_interrupt in edges(graph)]
+        label = quoted(f"{it.name}\n{it.own} own, {it.calls} calls, {it.all} all").replace("\n", "\\n")
+        lines.append(f"  {quoted(it.name)} [label={label}{colour}];")
+    lines += [f"  {quoted(begin)} -> {quoted(end)}{' [style=dashed]' if is_interrupt else ''};"
+              for begin, end, is_interrupt in edges(graph)]
     return "\n".join([*lines, "}", ""])

@@ -1,4 +1,5 @@
-"""The tree of needs as a flame graph in SVG, from left to right: the width of a box is its bytes of stack, and the deepest chain is the first row."""
+"""The tree of needs as a flame graph in SVG, from left to right: the width of a box is its bytes of stack, and the deepest chain is the
+first row."""
 
 from __future__ import annotations
 
@@ -53,7 +54,8 @@ class Box:
 
 
 def shown_entries(graph: Graph, instance: Instance, begin: int) -> List[Tuple[int, Entry]]:
-    """What an instance enters, by name at the deepest; of handlers the deepest alone, and only where nothing that is called goes as deep."""
+    """What an instance enters, by name at the deepest; of handlers the deepest alone, and only where nothing that is called goes as
+    deep."""
     deepest: Dict[Tuple[str, bool], Tuple[int, Entry]] = {}
     for it in instance.entries.values():
         other = graph.instances[it.other]
@@ -153,7 +155,8 @@ def axis(most: int, scale: float, height: int) -> Iterator[str]:
     step = next(it for it in (1, 2, 5, 10, 20, 50, 100, 200, 500, 1000) if most / it <= 12)
     for at in range(0, most + 1, step):
         x = at * scale
-        yield f'<line x1="{x:.1f}" y1="{TOP - 6}" x2="{x:.1f}" y2="{height}" class="grid"/><text x="{x + 3:.1f}" y="12" class="axis">{at}</text>'
+        yield (f'<line x1="{x:.1f}" y1="{TOP - 6}" x2="{x:.1f}" y2="{height}" class="grid"/>'
+               f'<text x="{x + 3:.1f}" y="12" class="axis">{at}</text>')
 
 
 def painted(graph: Graph) -> Tuple[Box, Dict[str, str]]:

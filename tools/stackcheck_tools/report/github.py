@@ -34,7 +34,8 @@ def told(outcome: Outcome, words: Namespace) -> Iterator[str]:
     """What fails, each with its place, and the result."""
     if isinstance(outcome, Refused):
         told = "; ".join([f"cause: {outcome.cause}", *outcome.reasons])
-        yield line("error", f"no bound of the stack: {outcome.refusal}; {told}; cure: {outcome.cure}", source(outcome, " ".join(outcome.places[:1])))
+        yield line("error", f"no bound of the stack: {outcome.refusal}; {told}; cure: {outcome.cure}",
+                   source(outcome, " ".join(outcome.places[:1])))
         return
     if outcome.flagged:
         yield line("error", outcome.flagged, source(outcome, outcome.flagged))
@@ -44,5 +45,6 @@ def told(outcome: Outcome, words: Namespace) -> Iterator[str]:
         yield line("error", f"the stack has grown from {outcome.difference.before} to {outcome.bound} bytes")
     for it in verdict.left(outcome, words):
         place = (it.path or "", it.source[1]) if it.source else None
-        yield line("error", f"to review: {it.title}" + (f", {it.count()}" if it.words else "") + "".join(f"; {why}" for why in it.why()), place)
+        yield line("error", f"to review: {it.title}" + (f", {it.count()}" if it.words else "") + "".join(f"; {why}" for why in it.why()),
+                   place)
     yield line("notice", f"stack: {verdict.first(outcome)}; {outcome.witness}, {outcome.room - outcome.bound} bytes left")

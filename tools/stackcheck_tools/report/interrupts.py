@@ -41,7 +41,8 @@ def bound_without(outcome: Accepted, assumed: str, word: int, folder: str) -> Op
 
 def costs(outcome: Accepted, assumed: str, vectors: List[int], folder: str) -> List[Cost]:
     """What each of these vectors costs, the dearest first."""
-    found = [Cost(outcome.firmware.handler(it), bound_without(outcome, assumed, outcome.firmware.device.vector_word(it), folder)) for it in vectors]
+    found = [Cost(outcome.firmware.handler(it), bound_without(outcome, assumed, outcome.firmware.device.vector_word(it), folder))
+             for it in vectors]
     return sorted(found, key=lambda it: (outcome.bound if it.without is None else it.without, it.name))
 
 
@@ -50,4 +51,7 @@ def told(outcome: Accepted, found: List[Cost]) -> Iterator[str]:
     if not found:
         yield "  none is entered"
     for it in found:
-        yield f"  {it.name}: no bound" if it.without is None else f"  {it.without} without {it.name}, which costs {outcome.bound - it.without}"
+        if it.without is None:
+            yield f"  {it.name}: no bound"
+        else:
+            yield f"  {it.without} without {it.name}, which costs {outcome.bound - it.without}"

@@ -14,11 +14,13 @@ from stackcheck_tools.report import verdict
 
 
 def cause(it: Cause) -> Dict[str, object]:
-    return {"protected": [f"{address:04X}" for address in sorted(it.addresses)], "more": it.more, "live": it.live, "transfer": it.transfer, "moves": it.moves}
+    return {"protected": [f"{address:04X}" for address in sorted(it.addresses)], "more": it.more, "live": it.live, "transfer": it.transfer,
+            "moves": it.moves}
 
 
 def place(it: Place) -> Dict[str, object]:
-    return {"source": it.path, "line": it.source[1] if it.source else None, "title": it.title, "text": it.code, "words": [f"{word:04X}" for word in it.words],
+    return {"source": it.path, "line": it.source[1] if it.source else None, "title": it.title, "text": it.code,
+            "words": [f"{word:04X}" for word in it.words],
             "kind": sorted(set(it.kinds.values())), "ordinary": it.is_ordinary(), "may": cause(it.cause), "closed_by": it.closers,
             "told": it.warned, "judged_by": it.keep, "judged": it.judged.why if it.judged else None}
 
@@ -35,20 +37,25 @@ def common(outcome: Outcome) -> Dict[str, object]:
 
 
 def refused(outcome: Refused) -> Dict[str, object]:
-    return {"bound": None, "refusal": {"text": outcome.refusal, "places": outcome.places, "cause": outcome.cause, "reasons": outcome.reasons, "cure": outcome.cure,
+    return {"bound": None, "refusal": {"text": outcome.refusal, "places": outcome.places, "cause": outcome.cause,
+                                       "reasons": outcome.reasons, "cure": outcome.cure,
                                        "spec": outcome.cure_lines}, "needs": []}
 
 
 def accepted(outcome: Accepted) -> Dict[str, object]:
     found: Dict[str, object] = {
-        "bound": outcome.bound, "holds": verdict.holds(outcome), "witness": outcome.witness, "seen": outcome.seen, "flagged": outcome.flagged,
-        "heap": outcome.heap, "room": outcome.room, "margin": outcome.room - outcome.bound, "keeps": outcome.keeps, "rule": outcome.rule or None, "refusal": None,
+        "bound": outcome.bound, "holds": verdict.holds(outcome), "witness": outcome.witness, "seen": outcome.seen,
+        "flagged": outcome.flagged,
+        "heap": outcome.heap, "room": outcome.room, "margin": outcome.room - outcome.bound, "keeps": outcome.keeps,
+        "rule": outcome.rule or None, "refusal": None,
         "chain": [{"adds": it.count, "place": it.text} for it in outcome.chain],
-        "needs": [{"name": it.name, "own": it.own, "calls": it.calls, "interrupts": it.all, "handler": it.is_handler} for it in outcome.table],
+        "needs": [{"name": it.name, "own": it.own, "calls": it.calls, "interrupts": it.all, "handler": it.is_handler}
+                  for it in outcome.table],
         "places": None if outcome.premises is None else [place(it) for it in outcome.entries],
         "kinds": None if outcome.premises is None else kinds.counts(outcome)}
     if outcome.recursions:
-        found["recursions"] = [{"function": it.name, "activations": it.count, "depth": max(it.depths.values()), "words": [f"{entry:04X}" for entry in it.entries]}
+        found["recursions"] = [{"function": it.name, "activations": it.count, "depth": max(it.depths.values()),
+                                "words": [f"{entry:04X}" for entry in it.entries]}
                                for it in outcome.recursions]
     if outcome.costs is not None:
         found["interrupts"] = [{"name": it.name, "without": it.without} for it in outcome.costs]

@@ -56,7 +56,8 @@ def bar(parts: List[Tuple[int, str, str]]) -> Iterator[str]:
     """A bar to scale with its key: parts are (bytes, colour, text)."""
     whole = sum(count for count, _, _ in parts) or 1
     yield '<div class="bar">'
-    yield from (f'<div style="width:{100 * count / whole:.3f}%;background:{colour}" title="{escape(text)}"></div>' for count, colour, text in parts if count)
+    yield from (f'<div style="width:{100 * count / whole:.3f}%;background:{colour}" title="{escape(text)}"></div>'
+                for count, colour, text in parts if count)
     yield "</div>"
 
 
@@ -73,7 +74,8 @@ def memory(outcome: Accepted) -> Iterator[str]:
     if left >= 0:
         parts = [(static, STATIC, "static data"), (left, LEFT, "left"), (outcome.bound, STACK, "stack, at most")]
     else:
-        parts = [(static + left, STATIC, "static data alone"), (-left, BOTH, "static data and stack"), (outcome.room, STACK, "stack alone, at most")]
+        parts = [(static + left, STATIC, "static data alone"), (-left, BOTH, "static data and stack"),
+                 (outcome.room, STACK, "stack alone, at most")]
     yield "<h2>SRAM</h2>"
     yield from bar(parts)
     yield f'<div class="ends"><span>{device.first:04X}</span><span>{device.last:04X}</span></div>'
@@ -120,7 +122,8 @@ def needs_table(outcome: Accepted) -> Iterator[str]:
     for it in outcome.table:
         lengths = "".join(f'<i style="width:{100 * count / most:.1f}%;background:{colour}"></i>' for count, colour in (
             (it.own, OWN), (it.calls - it.own, WITH_CALLS), (it.all - it.calls, WITH_INTERRUPTS)) if count)
-        yield (f'<tr><td class="name">{escape(it.name)}</td>' + "".join(f'<td class="count">{count}</td>' for count in (it.own, it.calls, it.all))
+        yield (f'<tr><td class="name">{escape(it.name)}</td>'
+               + "".join(f'<td class="count">{count}</td>' for count in (it.own, it.calls, it.all))
                + f'<td class="lengths"><div>{lengths}</div></td></tr>')
     yield "</table>"
 
@@ -133,8 +136,10 @@ def cut(line: str) -> str:
 def place_row(it: Place) -> str:
     where = f"<b>{escape(it.where().rstrip(': '))}</b> in {escape(it.title)}" if it.source else escape(it.title)
     code = f"<code>{escape(cut(it.code))}</code>" if it.code else ""
-    why = f'<div class="soft">judged: {escape(it.judged.why)}</div>' if it.judged else "".join(f'<div class="soft">{with_code(told)}</div>' for told in it.why())
-    return (f'<tr class="place"><td class="mark"><i style="background:{GREEN if it.judged else AMBER}"></i></td><td class="name">{where}</td><td>{code}{why}</td>'
+    told = [f"judged: {escape(it.judged.why)}"] if it.judged else [with_code(told) for told in it.why()]
+    why = "".join(f'<div class="soft">{text}</div>' for text in told)
+    return (f'<tr class="place"><td class="mark"><i style="background:{GREEN if it.judged else AMBER}"></i></td><td '
+            f'class="name">{where}</td><td>{code}{why}</td>'
             f'<td class="soft">{escape(it.count()) if it.words else ""}</td></tr>')
 
 
@@ -157,7 +162,8 @@ def changes(outcome: Accepted) -> Iterator[str]:
     if outcome.costs:
         yield "<h2>What each interrupt costs</h2><table>"
         yield from (f'<tr><td class="name">{escape(it.name)}</td><td>'
-                    + ("no bound without it" if it.without is None else f"{outcome.bound - it.without} bytes: {it.without} without it") + "</td></tr>" for it in outcome.costs)
+                    + ("no bound without it" if it.without is None else f"{outcome.bound - it.without} bytes: {it.without} without it")
+                    + "</td></tr>" for it in outcome.costs)
         yield "</table>"
     if outcome.difference:
         first, *rest = outcome.difference.told()
@@ -180,7 +186,8 @@ def verdict(outcome: Accepted) -> Tuple[str, str]:
 def accepted(outcome: Accepted) -> Iterator[str]:
     colour, text = verdict(outcome)
     seen = outcome.seen
-    yield (f'<p class="verdict {colour}"><b>{outcome.bound} bytes</b> at most ({outcome.witness}){"" if seen is None else f", {seen} seen"}; '
+    yield (f'<p class="verdict {colour}"><b>{outcome.bound} bytes</b> at most '
+           f'({outcome.witness}){"" if seen is None else f", {seen} seen"}; '
            f"{outcome.room} bytes of room, {outcome.room - outcome.bound} left: {with_code(text)}</p>")
     yield from memory(outcome)
     yield from tree(outcome)
@@ -194,7 +201,8 @@ def accepted(outcome: Accepted) -> Iterator[str]:
 
 def refused(outcome: Refused) -> Iterator[str]:
     yield f'<p class="verdict red">There is no bound: <code>{escape(outcome.refusal)}</code></p><dl>'
-    rows = [("Place", "; ".join(outcome.places) or "none"), ("Usual cause", outcome.cause), *([("Here", "; ".join(outcome.reasons))] if outcome.reasons else []), ("What helps", outcome.cure)]
+    rows = [("Place", "; ".join(outcome.places) or "none"), ("Usual cause", outcome.cause),
+            *([("Here", "; ".join(outcome.reasons))] if outcome.reasons else []), ("What helps", outcome.cure)]
     rows += [("Lines for a spec", "; ".join(f"`{it}`" for it in outcome.cure_lines))] if outcome.cure_lines else []
     yield from (f"<dt>{name}</dt><dd>{with_code(text)}</dd>" for name, text in rows)
     yield "</dl>"
@@ -205,6 +213,7 @@ def html(outcome: Outcome) -> str:
     name = escape(os.path.basename(firmware.path))
     taken = f", linked for {firmware.linked_for}" if firmware.linked_for not in (None, firmware.device.name) else ""
     return "\n".join([
-        '<!DOCTYPE html>', f'<html lang="en"><head><meta charset="utf-8"><meta name="viewport" content="width=device-width, initial-scale=1"><title>Stack of {name}</title>', f"<style>{STYLE}</style></head><body>",
+        '<!DOCTYPE html>', f'<html lang="en"><head><meta charset="utf-8"><meta name="viewport" content="width=device-width, '
+                           f'initial-scale=1"><title>Stack of {name}</title>', f"<style>{STYLE}</style></head><body>",
         f"<h1>Stack of {name}</h1>", f'<p class="what">{escape(firmware.device.name)}{escape(taken)}</p>',
         *(refused(outcome) if isinstance(outcome, Refused) else accepted(outcome)), "</body></html>", ""])

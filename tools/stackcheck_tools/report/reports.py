@@ -1,4 +1,5 @@
-"""What `stackcheck` tells beside the bound, and the words that ask for it: needs, places, interrupts, growth, files for people and machines."""
+"""What `stackcheck` tells beside the bound, and the words that ask for it: needs, places, interrupts, growth, files for people and
+machines."""
 
 from __future__ import annotations
 

@@ -40,13 +40,14 @@ CONDITIONS = {
 def condition(outcome: Accepted, kind: str, count: int) -> str:
     text, one, many, its, their = CONDITIONS[kind]
     is_one = count == 1
-    return text.format(count, s="" if is_one else "s", stay=one if is_one else many, its=its if is_one else their, moving=moving(outcome), core=core(outcome),
+    return text.format(count, s="" if is_one else "s", stay=one if is_one else many, its=its if is_one else their, moving=moving(outcome),
+                       core=core(outcome),
                        last=outcome.firmware.device.last)
 
 
 def of_language(outcome: Accepted) -> Optional[str]:
-    """What a program with a meaning in its language keeps to at the places that ask for it; None where there are none. With the line `masks` a store
-    there may still enable a vector without a handler."""
+    """What a program with a meaning in its language keeps to at the places that ask for it; None where there are none. With the line
+    `masks` a store there may still enable a vector without a handler."""
     stores, calls = count_of(outcome, (SAFETY,)), count_of(outcome, (WHOLE,))
     if not stores and not calls:
         return None
@@ -60,7 +61,8 @@ def holds(outcome: Accepted) -> str:
     """Of which runs the bound holds."""
     if outcome.premises is None:
         return "for every run up to its first flagged step; this stackbound does not list where that may be"
-    conditions = [*recursion.conditions(outcome.recursions), *(condition(outcome, kind, count) for kind in ORDINARY if (count := count_of(outcome, (kind,))))]
+    conditions = [*recursion.conditions(outcome.recursions),
+                  *(condition(outcome, kind, count) for kind in ORDINARY if (count := count_of(outcome, (kind,))))]
     language = of_language(outcome)
     given = " that keeps to the lines of the spec" if count_of(outcome, (GIVEN,)) else ""
     if conditions:

@@ -14,7 +14,8 @@ from stackcheck_tools.spec.spec import KINDS, MASKS, MOST_ITEMS, NOWHERE, PAIRS,
 
 
 class Lines:
-    """Lines with their items. Those of a text are given: they never change, and what is added later stands at other sites or is of other kinds."""
+    """Lines with their items. Those of a text are given: they never change, and what is added later stands at other sites or is of other
+    kinds."""
 
     def __init__(self, text: str = "") -> None:
         self.items, self.given = {}, set()
@@ -106,7 +107,8 @@ def item_of(elf: Elf, kind: str, item: int) -> Optional[str]:
 
 
 def spec_line(elf: Elf, device: Device, lines: Lines, site: int, kind: str, names: Optional[str] = None) -> Optional[str]:
-    """The line of a spec that makes this line of an assumption file, with the items by these names, else by their own; None where there is none."""
+    """The line of a spec that makes this line of an assumption file, with the items by these names, else by their own; None where there is
+    none."""
     symbol = elf.symbol_at(2 * site)
     if kind == "never":
         text = f"never {device.vectors[device.vector_of(site)]}"

@@ -1,5 +1,5 @@
-"""Lines `recursion FUNCTION N` of a spec: at most N activations stand on the stack at a time. They become lines `recur ENTRY K` of an assumption
-file: no call enters ENTRY while more than K bytes are on the stack, K the most that a call has above it within these numbers."""
+"""Lines `recursion FUNCTION N` of a spec: at most N activations stand on the stack at a time. They become lines `recur ENTRY K` of an
+assumption file: no call enters ENTRY while more than K bytes are on the stack, K the most that a call has above it within these numbers."""
 
 from __future__ import annotations
 
@@ -104,7 +104,8 @@ class Nest:
                     self.add_handler(at, vector, int(enables, 16), depth)
 
     def called(self, word: int, enables: str, flag: str) -> List[int]:
-        """The words that an instruction may enter by a call: all under these enables where the analysis knows the pointer and no line lists it."""
+        """The words that an instruction may enter by a call: all under these enables where the analysis knows the pointer and no line lists
+        it."""
         target = opcodes.call_target(self.elf, word)
         if target is not None:
             return [target]
@@ -128,7 +129,8 @@ class Nest:
         return self.are_calls[at] and self.entry_of[at] in self.entries
 
     def depths(self, most: Counts) -> List[List[int]]:
-        """For each word the greatest depth of a call that enters it as its first activation, its second, .. within these numbers; -1 where none does."""
+        """For each word the greatest depth of a call that enters it as its first activation, its second, .. within these numbers; -1 where
+        none does."""
         order = sorted(range(len(self.ranks)), key=lambda it: -self.ranks[it])
         base: Dict[Tuple[Counts, int], int] = {(tuple(0 for _ in most), 0): 0}
         found = [[-1] * it for it in most]
@@ -170,7 +172,8 @@ def settle(firmware: Firmware, certificate: str, recursions: List[Recursion]) ->
     for _, it in words:
         states *= it.count + 1
     if states > MOST_STATES:
-        raise SpecFault(f"line {words[-1][1].number}: the numbers of these lines are too great together: fewer functions of a cycle, or smaller ones")
+        raise SpecFault(f"line {words[-1][1].number}: the numbers of these lines are too great together: fewer functions of a cycle, or "
+                        f"smaller ones")
     found: Dict[int, int] = {}
     for (entry, it), depths in zip(words, nest.depths(tuple(it.count for _, it in words))):
         known = [depth for depth in depths if depth >= 0]
@@ -201,7 +204,8 @@ def text_of_stop(firmware: Firmware, recursions: List[Recursion], stop: Stop) ->
     found = line_at(recursions, stop.other) if stop.kind == "transfer" else None
     if found is None:
         return None
-    return (f"FLAGGED: a simulated run calls {found.name} while {found.count} of it stand on the stack, at {stop.word:04X} {firmware.place(stop.word)}: "
+    return (f"FLAGGED: a simulated run calls {found.name} while {found.count} of it stand on the stack, at {stop.word:04X} "
+            f"{firmware.place(stop.word)}: "
             f"{found.count} is too small in `recursion {found.name} {found.count}`; the bound covers only what comes before")
 
 

@@ -28,9 +28,11 @@ def of_exp(elf: Elf) -> List[int]:
 
 
 def candidates_of(functions: Iterable[List[Tuple[int, int]]]) -> Iterator[int]:
-    """Yields the pushes of functions that take the stack pointer's address beside a frame: those near the read of SPL, the nearest first."""
+    """Yields the pushes of functions that take the stack pointer's address beside a frame: those near the read of SPL, the nearest
+    first."""
     for words in functions:
         for at, (_, opcode) in enumerate(words):
             if opcode & 0xFE0F == IN_SPL and opcodes.destination(opcode) != FRAME_LOW:
-                near = [(abs(n - at), words[n][0]) for n in range(max(at - NEAR, 0), min(at + NEAR + 1, len(words))) if is_push(words[n][1])]
+                near = [(abs(n - at), words[n][0]) for n in range(max(at - NEAR, 0), min(at + NEAR + 1, len(words)))
+                        if is_push(words[n][1])]
                 yield from (word for _, word in sorted(near))

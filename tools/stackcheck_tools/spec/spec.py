@@ -17,7 +17,8 @@ from stackcheck_tools.spec.sites import AT_LINE
 MOST_ITEMS, MOST_LINES = 64, 4096
 PAIRS, MASKS, NOWHERE = "pairs", "masks", -1  # the lines that stand at no site and before all others
 KINDS = (PAIRS, MASKS, "jump", "store", "prove", "free", "never", "frame", recursion.KIND, scratch.KIND)  # as they stand at one site
-FORMS = {PAIRS: "", MASKS: "", "jump": "FUNCTION N ..", "store": "FUNCTION N ..", "prove": "FUNCTION N", "free": "FUNCTION N", "never": "VECTOR", "frame": "FUNCTION", scratch.KIND: "FUNCTION N ..",
+FORMS = {PAIRS: "", MASKS: "", "jump": "FUNCTION N ..", "store": "FUNCTION N ..", "prove": "FUNCTION N", "free": "FUNCTION N",
+         "never": "VECTOR", "frame": "FUNCTION", scratch.KIND: "FUNCTION N ..",
          "keeps": "FUNCTION:LINE"}
 UNASSUMED = (PAIRS, MASKS, "frame", scratch.KIND)  # those that assume nothing
 NAMED = tuple(FORMS)[:-1]  # those that a spec has, with `recursion` and `keeps`
@@ -192,7 +193,8 @@ class Spec:
                 held = lines.setdefault((place, KINDS.index(line.kind)), set())
                 held |= line.items
                 if len(held) > MOST_ITEMS:
-                    raise SpecFault(f"line {number}: a line of an assumption file has at most {MOST_ITEMS} words, and these are {len(held)}")
+                    raise SpecFault(f"line {number}: a line of an assumption file has at most {MOST_ITEMS} words, and these are "
+                                    f"{len(held)}")
         if len(lines) > MOST_LINES:
             raise SpecFault(f"line {number}: an assumption file has at most {MOST_LINES} lines, and these are {len(lines)}")
         return "".join(assumption_line(KINDS[kind], place, items) + "\n" for (place, kind), items in sorted(lines.items()))
