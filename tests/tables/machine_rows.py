@@ -2,8 +2,7 @@
 """The rows of crates/machine_tables/src/tests/steps/rows.rt: small programs, and the machine after them.
 
 A model of its own, after the Instruction Set Manual (DS40002198) and the data sheet: opcodes by the manual's patterns, and
-flags by its Boolean formulas. It was written with no copy of the manual at hand, and is still to be compared with it. It
-shares nothing with the crates. Run: python3 machine_rows.py > rows.rt
+flags by its Boolean formulas, both written from memory. It shares nothing with the crates. Run: python3 machine_rows.py > rows.rt
 """
 
 RAMEND = 0x08FF
@@ -157,8 +156,8 @@ class Machine:
 
     def add(self, d, r, c):
         res = (d + r + c) & 0xFF
-        b = lambda x, i: x >> i & 1
-        carry = lambda i: b(d, i) & b(r, i) | b(r, i) & ~b(res, i) & 1 | ~b(res, i) & 1 & b(d, i)
+        b = lambda x, i: x >> i & 1  # noqa: E731
+        carry = lambda i: b(d, i) & b(r, i) | b(r, i) & ~b(res, i) & 1 | ~b(res, i) & 1 & b(d, i)  # noqa: E731
         v = b(d, 7) & b(r, 7) & ~b(res, 7) & 1 | ~b(d, 7) & ~b(r, 7) & 1 & b(res, 7)
         self.signs(res, v)
         self.flags(C=carry(7), H=carry(3))
@@ -167,8 +166,8 @@ class Machine:
     def sub(self, d, r, c, keep):
         z = self.s[1]
         res = (d - r - c) & 0xFF
-        b = lambda x, i: x >> i & 1
-        borrow = lambda i: ~b(d, i) & 1 & b(r, i) | b(r, i) & b(res, i) | b(res, i) & ~b(d, i) & 1
+        b = lambda x, i: x >> i & 1  # noqa: E731
+        borrow = lambda i: ~b(d, i) & 1 & b(r, i) | b(r, i) & b(res, i) | b(res, i) & ~b(d, i) & 1  # noqa: E731
         v = b(d, 7) & ~b(r, 7) & ~b(res, 7) & 1 | ~b(d, 7) & 1 & b(r, 7) & b(res, 7)
         self.signs(res, v)
         self.flags(C=borrow(7), H=borrow(3))
@@ -195,7 +194,7 @@ class Machine:
         at = self.pc
         self.pc = at + len(assemble(op, *f))
         was_on, delay = self.s[7], False
-        signed = lambda x: x - 256 if x >= 128 else x
+        signed = lambda x: x - 256 if x >= 128 else x  # noqa: E731
         pair_of = {"X": 26, "Y": 28, "Z": 30}
         if op in BINARY:
             d, r = self.r[f[0]], self.r[f[1]]

@@ -7,6 +7,7 @@ use Rattle.abs_state.specs.declared.state.AbsState.{AbsState}
 use Rattle.pair_cuts.specs.Cuts.{pick_cut}
 use Rattle.local_rules.specs.Raw.{Raw}
 use Rattle.local_rules.specs.Site.{Task, Site}
+use Rattle.local_rules.specs.HighBytes.{view_of}
 use Rattle.local_rules.specs.Registers.{bits}
 use Rattle.local_rules.specs.Flow.{words_on}
 use Rattle.local_rules.specs.Writes.{ByteWrite, reaches, may_wake, waking, woken, unfixed_write, pointer_write}
@@ -36,7 +37,7 @@ z_words device s = words_on device (bits s 30) (bits s 31)
 
 -- a load into one of these registers
 abbrev pub loaded : Here → List AbsByte → ℕ → Indirect → Raw
-loaded site registers d from = pointer_load site.assumptions.now (site_of site) registers d (pointed site.state.now from.r from.up)
+loaded site registers d from = pointer_load site.assumptions.now (site_of site) registers d (pointed (view_of (site_of site)) site.state.now from.r from.up)
 
 -- those of the addresses that the pointer may be
 abbrev pub reached : Here → Indirect → List ℕ → List ℕ

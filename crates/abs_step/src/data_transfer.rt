@@ -30,7 +30,7 @@ pub fn load_row(
 ) -> Result<(), NodeFault>
     ensures { Adds nodes.old nodes.new result (loaded site.now registers.now d from) }
 {
-    let pointed = point(site.state, from.r, from.up);
+    let pointed = point(site.view(), site.state, from.r, from.up);
     let may = site.assumptions.reads_masks(site.device);
     match read_pointed(site.device, may, site.key, site.state, pointed) {
         Some(value) => {
@@ -95,7 +95,7 @@ pub fn store_row(
 ) -> Result<(), NodeFault>
     ensures { Adds nodes.old nodes.new result (rows.store_row (task_of site.now) (site_of site.now) pointer r) }
 {
-    let registers = pointer_moved(pointer, site.state);
+    let registers = pointer_moved(site.view(), pointer, site.state);
     let after = changed(site.alloc, site.state, &registers, site.state.flags)?;
     let to = Indirect {
         r: pointer_register(pointer),

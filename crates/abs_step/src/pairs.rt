@@ -140,7 +140,7 @@ fn store_row(
 {
     let instr = Instr::St(pointer, r);
     let mut moved = before(site.alloc, site.state, &instr)?;
-    moved.registers = pointer_moved(pointer, site.state);
+    moved.registers = pointer_moved(site.view(), pointer, site.state);
     let left = refine(site.flash, &instr, site.state, &mut moved);
     let store = StoreInstr {
         instr: &instr,

@@ -18,6 +18,7 @@ use avr_model::instruction::{LowRegister, Register};
 use local_reads::pointers::{point, reaches};
 use local_reads::wakes::{PointerByte, may_enable_other};
 use local_rows::registers::value;
+use local_rules::SpView;
 use local_rules::local::NodeFault;
 use mask_states::{NodeKey, widened};
 use std::alloc::Global;
@@ -105,7 +106,8 @@ fn may_wake(site: &Site<'_>, write: &ByteWrite<'_>, to: &Indirect) -> bool
     if !site.assumptions.admits_enables(write.device, write.pc) {
         return false;
     }
-    let slot = point(site.state, to.r, to.up).frame;
+    let view = SpView::of(write.device, &write.key);
+    let slot = point(view, site.state, to.r, to.up).frame;
     if is_own_slot(slot, write.key.offset()) {
         return false;
     }
@@ -170,7 +172,7 @@ pub fn pointer_write(
         value: value(site.state, r),
     };
     if site.flash.is_fixed_site(site.assumptions, site.key.pc) {
-        match point(site.state, to.r, to.up).constant {
+        match point(site.view(), site.state, to.r, to.up).constant {
             Some(address) => written_at(nodes, site.alloc, &write, false, address),
             None => Err(NodeFault::UnknownPointer(site.key.pc)),
         }

@@ -86,19 +86,21 @@ pub fn pop_row(nodes: &mut Moves<'_>, site: &Site<'_>, d: Register) -> Result<()
     }
 }
 
-/// A call of the next word: it makes room for two bytes, and stays in its frame.
+/// A call of the next word: it makes room for a return address, and stays in its frame.
 pub fn room_row(nodes: &mut Moves<'_>, site: &Site<'_>, target: u16) -> Result<(), NodeFault>
     ensures { Adds nodes.old nodes.new result (flow.room_row (site_of site.now) target) }
 {
     match site.key.sp {
         SpForm::Closed(offset) => {
-            let deep = u32::from(offset) + 2;
+            let back = site.device.back();
+            let deep = u32::from(offset) + u32::from(back);
             if deep > u32::from(site.device.size()) {
                 return Err(NodeFault::TooDeep(site.key.pc, deep));
             }
-            let after = with_slots(site.alloc, site.state, offset + 2)?;
+            let room = offset + u16::from(back);
+            let after = with_slots(site.alloc, site.state, room)?;
             let mut key = at_word(site.key, target);
-            key.sp = SpForm::Closed(offset + 2);
+            key.sp = SpForm::Closed(room);
             nodes.add(key, after)
         }
         SpForm::Open(_, _) => Err(NodeFault::UntrackedSp(site.key.pc)),

@@ -207,7 +207,9 @@ pub fn written_at(
             let offset = closing_offset(write.device, inst.kind, sp, write.value);
             closing(nodes, alloc, offset, write)
         }
-        SPH => opening(nodes, alloc, high_part(inst.kind, write.value), write),
+        SPH if write.device.has_sph() => {
+            opening(nodes, alloc, high_part(inst.kind, write.value), write)
+        }
         SREG => flags_set(nodes, alloc, write, is_out),
         _ => masks_written(nodes, alloc, write, address),
     }

@@ -114,7 +114,7 @@ fn memory_row(
         Instr::Lds(d, address) => read_row(nodes, site, 2, *d, *address),
         Instr::Sts(address, r) => known_write(nodes, site, false, *address, *r),
         Instr::Ld(d, p) => {
-            let registers = pointer_moved(*p, state);
+            let registers = pointer_moved(site.view(), *p, state);
             let from = Indirect {
                 r: pointer_register(*p),
                 up: step_before(*p),
@@ -124,13 +124,13 @@ fn memory_row(
         Instr::St(p, r) => store_row(nodes, site, *p, *r),
         Instr::LpmZ(d) => lpm_row(nodes, site, &state.registers, *d),
         Instr::LpmZPlus(d) => {
-            let moved = pointer_moved(Pointer::ZPlus, state);
+            let moved = pointer_moved(site.view(), Pointer::ZPlus, state);
             lpm_row(nodes, site, &moved, *d)
         }
         Instr::Lpm => lpm_row(nodes, site, &state.registers, Register::new(0)),
         Instr::ElpmZ(d) => set_row(nodes, site, &state.registers, *d, AbsByte::unknown()),
         Instr::ElpmZPlus(d) => {
-            let moved = pointer_moved(Pointer::ZPlus, state);
+            let moved = pointer_moved(site.view(), Pointer::ZPlus, state);
             set_row(nodes, site, &moved, *d, AbsByte::unknown())
         }
         Instr::Elpm => set_row(
@@ -162,7 +162,7 @@ fn binary_row(
     ensures { Adds nodes.old nodes.new result (binary_row (task_of site.now) (site_of site.now) op d r) }
 {
     let line = site.assumptions.frame(site.key.pc);
-    match binary_at(site.state, line, op, d, r) {
+    match binary_at(site.view(), line, site.state, op, (d, r)) {
         Some(set) => setting(nodes, site, &set.registers, set.flags),
         None => {
             let same = bit_domain::equal(bits(site.state, d), bits(site.state, r));
@@ -181,7 +181,7 @@ pub(crate) fn row(
     ensures { LeadsOn nodes.old nodes.new result (row_of (task_of site.now) scratch (site_of site.now) instr.now) }
 {
     let line = site.assumptions.frame(site.key.pc);
-    let added = match computed_by(site.state, line, instr) {
+    let added = match computed_by(site.view(), line, site.state, instr) {
         Some(set) => setting(nodes, site, &set.registers, set.flags),
         None => match instr {
             Instr::Binary(op, d, r) => binary_row(nodes, site, *op, *d, *r),

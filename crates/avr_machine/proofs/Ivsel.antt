@@ -109,7 +109,7 @@ none_below d a byte lt = outside d a byte (λ least most. omega (arith, lt, leas
 pub none_behind : (d : Device) (a byte : ℕ) → 0x0200 ≤ a → false ≡ sets_ivsel d a byte
 none_behind d a byte le = outside d a byte (λ least most. omega (arith, le, most))
 
-pub none_core : (d : Device) (a byte : ℕ) → is_core a ≡ true → false ≡ sets_ivsel d a byte
+pub none_core : (d : Device) (a byte : ℕ) → is_core d a ≡ true → false ≡ sets_ivsel d a byte
 none_core d a byte core = elim (cases_Bool (sets_ivsel d a byte)) [
   | inl set ↦
       let b = sets_there d a byte set in

@@ -13,3 +13,4 @@ pub mod Unpushed
 pub mod Quieting
 pub mod Loud
 pub mod Unflagged
+pub mod Popping

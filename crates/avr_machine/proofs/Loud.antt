@@ -6,9 +6,9 @@ use Rattle.avr_model.specs.declared.instruction.Base.{Base}
 use Rattle.avr_model.specs.declared.instruction.Pointer.{Pointer}
 use Rattle.avr_model.specs.declared.assumption.Entry.{Entry}
 use Rattle.avr_model.specs.Assumptions.{jump_line, has_scratch}
-use Rattle.avr_model.specs.Devices.{Program, wrapped}
+use Rattle.avr_model.specs.Devices.{Program, wrapped, back_of}
 use Rattle.avr_model.specs.Sites.{base_register, is_scratch, pointer_register}
-use Rattle.avr_model.specs.State.{State, register, pair, plus16, minus16}
+use Rattle.avr_model.specs.State.{State, register, pair, plus16, minus_sp}
 use Rattle.avr_model.specs.Bits.{with_bit}
 use Rattle.avr_model.specs.Vectors.{kept_byte}
 use Rattle.avr_model.specs.Text.{far}
@@ -55,28 +55,28 @@ sbi_answer words entries m instr b1 b2 a b is =
     (stored_answer words entries m (i.Sbi a b) (bit_effect m (port a) b true) None refl refl refl (none_protected words entries m.pc (i.Sbi a b) (bit_effect m (port a) b true) refl))
 
 pub push_row : (words : Program) (entries : List Entry) (m : State) (instr : Instr) (b1 b2 : ℕ) (r : ℕ) → instr ≡ i.Push r
-    → push_answer (not (is_scratch words m.pc || has_scratch entries m.pc)) m None (set m.sp (register m r)) (minus16 m.sp 1) (further m 1) ≡ answer_to words entries m instr (effect_of words (is_still words entries) m instr b1 b2)
+    → push_answer (not (is_scratch words m.pc || has_scratch entries m.pc)) m None (set m.sp (register m r)) (minus_sp m.device m.sp 1) (further m 1) ≡ answer_to words entries m instr (effect_of words (is_still words entries) m instr b1 b2)
 push_row words entries m instr b1 b2 r is =
-    subst (λ x. push_answer (not (is_scratch words m.pc || has_scratch entries m.pc)) m None (set m.sp (register m r)) (minus16 m.sp 1) (further m 1) ≡ answer_to words entries m x (effect_of words (is_still words entries) m x b1 b2)) (sym is)
-    (pushed_answer words entries m (i.Push r) (set m.sp (register m r)) (minus16 m.sp 1) (further m 1) (not (is_scratch words m.pc || has_scratch entries m.pc)) None refl (guards_push words entries m.pc r) (none_refused words entries m (i.Push r) (push_effect_to m (set m.sp (register m r)) (minus16 m.sp 1) (further m 1)) refl refl))
+    subst (λ x. push_answer (not (is_scratch words m.pc || has_scratch entries m.pc)) m None (set m.sp (register m r)) (minus_sp m.device m.sp 1) (further m 1) ≡ answer_to words entries m x (effect_of words (is_still words entries) m x b1 b2)) (sym is)
+    (pushed_answer words entries m (i.Push r) (set m.sp (register m r)) (minus_sp m.device m.sp 1) (further m 1) (not (is_scratch words m.pc || has_scratch entries m.pc)) None refl (guards_push words entries m.pc r) (none_refused words entries m (i.Push r) (push_effect_to m (set m.sp (register m r)) (minus_sp m.device m.sp 1) (further m 1)) refl refl))
 
 pub call_row : (words : Program) (entries : List Entry) (m : State) (instr : Instr) (b1 b2 : ℕ) (k : ℕ) → instr ≡ i.Call k
-    → push_answer (not (is_scratch words m.pc)) m (refused_at words entries m None (wrapped m.device k)) (way_back m.sp (further m 2)) (minus16 m.sp 2) (k) ≡ answer_to words entries m instr (effect_of words (is_still words entries) m instr b1 b2)
+    → push_answer (not (is_scratch words m.pc)) m (refused_at words entries m None (wrapped m.device k)) (way_back m.device m.sp (further m 2)) (minus_sp m.device m.sp (back_of m.device)) (k) ≡ answer_to words entries m instr (effect_of words (is_still words entries) m instr b1 b2)
 call_row words entries m instr b1 b2 k is =
-    subst (λ x. push_answer (not (is_scratch words m.pc)) m (refused_at words entries m None (wrapped m.device k)) (way_back m.sp (further m 2)) (minus16 m.sp 2) (k) ≡ answer_to words entries m x (effect_of words (is_still words entries) m x b1 b2)) (sym is)
-    (pushed_answer words entries m (i.Call k) (way_back m.sp (further m 2)) (minus16 m.sp 2) (k) (not (is_scratch words m.pc)) (refused_at words entries m None (wrapped m.device k)) refl (guards_unless words entries m.pc (i.Call k) refl) (call_refused words entries m (i.Call k) (push_effect_to m (way_back m.sp (further m 2)) (minus16 m.sp 2) (k)) refl refl))
+    subst (λ x. push_answer (not (is_scratch words m.pc)) m (refused_at words entries m None (wrapped m.device k)) (way_back m.device m.sp (further m 2)) (minus_sp m.device m.sp (back_of m.device)) (k) ≡ answer_to words entries m x (effect_of words (is_still words entries) m x b1 b2)) (sym is)
+    (pushed_answer words entries m (i.Call k) (way_back m.device m.sp (further m 2)) (minus_sp m.device m.sp (back_of m.device)) (k) (not (is_scratch words m.pc)) (refused_at words entries m None (wrapped m.device k)) refl (guards_unless words entries m.pc (i.Call k) refl) (call_refused words entries m (i.Call k) (push_effect_to m (way_back m.device m.sp (further m 2)) (minus_sp m.device m.sp (back_of m.device)) (k)) refl refl))
 
 pub rcall_row : (words : Program) (entries : List Entry) (m : State) (instr : Instr) (b1 b2 : ℕ) (k : ℕ) → instr ≡ i.Rcall k
-    → push_answer (not (is_scratch words m.pc)) m (refused_at words entries m None (wrapped m.device (far m.pc k))) (way_back m.sp (further m 1)) (minus16 m.sp 2) (far m.pc k) ≡ answer_to words entries m instr (effect_of words (is_still words entries) m instr b1 b2)
+    → push_answer (not (is_scratch words m.pc)) m (refused_at words entries m None (wrapped m.device (far m.pc k))) (way_back m.device m.sp (further m 1)) (minus_sp m.device m.sp (back_of m.device)) (far m.pc k) ≡ answer_to words entries m instr (effect_of words (is_still words entries) m instr b1 b2)
 rcall_row words entries m instr b1 b2 k is =
-    subst (λ x. push_answer (not (is_scratch words m.pc)) m (refused_at words entries m None (wrapped m.device (far m.pc k))) (way_back m.sp (further m 1)) (minus16 m.sp 2) (far m.pc k) ≡ answer_to words entries m x (effect_of words (is_still words entries) m x b1 b2)) (sym is)
-    (pushed_answer words entries m (i.Rcall k) (way_back m.sp (further m 1)) (minus16 m.sp 2) (far m.pc k) (not (is_scratch words m.pc)) (refused_at words entries m None (wrapped m.device (far m.pc k))) refl (guards_unless words entries m.pc (i.Rcall k) refl) (call_refused words entries m (i.Rcall k) (push_effect_to m (way_back m.sp (further m 1)) (minus16 m.sp 2) (far m.pc k)) refl refl))
+    subst (λ x. push_answer (not (is_scratch words m.pc)) m (refused_at words entries m None (wrapped m.device (far m.pc k))) (way_back m.device m.sp (further m 1)) (minus_sp m.device m.sp (back_of m.device)) (far m.pc k) ≡ answer_to words entries m x (effect_of words (is_still words entries) m x b1 b2)) (sym is)
+    (pushed_answer words entries m (i.Rcall k) (way_back m.device m.sp (further m 1)) (minus_sp m.device m.sp (back_of m.device)) (far m.pc k) (not (is_scratch words m.pc)) (refused_at words entries m None (wrapped m.device (far m.pc k))) refl (guards_unless words entries m.pc (i.Rcall k) refl) (call_refused words entries m (i.Rcall k) (push_effect_to m (way_back m.device m.sp (further m 1)) (minus_sp m.device m.sp (back_of m.device)) (far m.pc k)) refl refl))
 
 pub icall_row : (words : Program) (entries : List Entry) (m : State) (instr : Instr) (b1 b2 : ℕ) → instr ≡ i.Icall
-    → push_answer (not (is_scratch words m.pc)) m (refused_at words entries m (unless_listed (jump_line entries m.pc) (wrapped m.device (pair m 30))) (wrapped m.device (pair m 30))) (way_back m.sp (further m 1)) (minus16 m.sp 2) (pair m 30) ≡ answer_to words entries m instr (effect_of words (is_still words entries) m instr b1 b2)
+    → push_answer (not (is_scratch words m.pc)) m (refused_at words entries m (unless_listed (jump_line entries m.pc) (wrapped m.device (pair m 30))) (wrapped m.device (pair m 30))) (way_back m.device m.sp (further m 1)) (minus_sp m.device m.sp (back_of m.device)) (pair m 30) ≡ answer_to words entries m instr (effect_of words (is_still words entries) m instr b1 b2)
 icall_row words entries m instr b1 b2 is =
-    subst (λ x. push_answer (not (is_scratch words m.pc)) m (refused_at words entries m (unless_listed (jump_line entries m.pc) (wrapped m.device (pair m 30))) (wrapped m.device (pair m 30))) (way_back m.sp (further m 1)) (minus16 m.sp 2) (pair m 30) ≡ answer_to words entries m x (effect_of words (is_still words entries) m x b1 b2)) (sym is)
-    (pushed_answer words entries m i.Icall (way_back m.sp (further m 1)) (minus16 m.sp 2) (pair m 30) (not (is_scratch words m.pc)) (refused_at words entries m (unless_listed (jump_line entries m.pc) (wrapped m.device (pair m 30))) (wrapped m.device (pair m 30))) refl (guards_unless words entries m.pc i.Icall refl) (indirect_refused words entries m i.Icall (push_effect_to m (way_back m.sp (further m 1)) (minus16 m.sp 2) (pair m 30)) refl refl))
+    subst (λ x. push_answer (not (is_scratch words m.pc)) m (refused_at words entries m (unless_listed (jump_line entries m.pc) (wrapped m.device (pair m 30))) (wrapped m.device (pair m 30))) (way_back m.device m.sp (further m 1)) (minus_sp m.device m.sp (back_of m.device)) (pair m 30) ≡ answer_to words entries m x (effect_of words (is_still words entries) m x b1 b2)) (sym is)
+    (pushed_answer words entries m i.Icall (way_back m.device m.sp (further m 1)) (minus_sp m.device m.sp (back_of m.device)) (pair m 30) (not (is_scratch words m.pc)) (refused_at words entries m (unless_listed (jump_line entries m.pc) (wrapped m.device (pair m 30))) (wrapped m.device (pair m 30))) refl (guards_unless words entries m.pc i.Icall refl) (indirect_refused words entries m i.Icall (push_effect_to m (way_back m.device m.sp (further m 1)) (minus_sp m.device m.sp (back_of m.device)) (pair m 30)) refl refl))
 
 pub ijmp_row : (words : Program) (entries : List Entry) (m : State) (instr : Instr) (b1 b2 : ℕ) → instr ≡ i.Ijmp
     → jump_answer m (unless_listed (jump_line entries m.pc) (wrapped m.device (pair m 30))) (pair m 30) ≡ answer_to words entries m instr (effect_of words (is_still words entries) m instr b1 b2)
@@ -99,20 +99,20 @@ sts_row words entries m instr b1 b2 k r byte next is held to =
 
 -- a call, with given words
 pub call_answer : (words : Program) (entries : List Entry) (m : State) (instr : Instr) (b1 b2 : ℕ) (k back target : ℕ) → instr ≡ i.Call k → back ≡ further m 2 → target ≡ k
-    → push_answer (not (is_scratch words m.pc)) m (refused_at words entries m None (wrapped m.device target)) (way_back m.sp back) (minus16 m.sp 2) target ≡ answer_to words entries m instr (effect_of words (is_still words entries) m instr b1 b2)
+    → push_answer (not (is_scratch words m.pc)) m (refused_at words entries m None (wrapped m.device target)) (way_back m.device m.sp back) (minus_sp m.device m.sp (back_of m.device)) target ≡ answer_to words entries m instr (effect_of words (is_still words entries) m instr b1 b2)
 call_answer words entries m instr b1 b2 k back target is there to =
-    ap₂ (λ (back target : ℕ). push_answer (not (is_scratch words m.pc)) m (refused_at words entries m None (wrapped m.device target)) (way_back m.sp back) (minus16 m.sp 2) target) there to ∙ call_row words entries m instr b1 b2 k is
+    ap₂ (λ (back target : ℕ). push_answer (not (is_scratch words m.pc)) m (refused_at words entries m None (wrapped m.device target)) (way_back m.device m.sp back) (minus_sp m.device m.sp (back_of m.device)) target) there to ∙ call_row words entries m instr b1 b2 k is
 
 pub rcall_answer : (words : Program) (entries : List Entry) (m : State) (instr : Instr) (b1 b2 : ℕ) (k back target : ℕ) → instr ≡ i.Rcall k → back ≡ further m 1 → target ≡ far m.pc k
-    → push_answer (not (is_scratch words m.pc)) m (refused_at words entries m None (wrapped m.device target)) (way_back m.sp back) (minus16 m.sp 2) target ≡ answer_to words entries m instr (effect_of words (is_still words entries) m instr b1 b2)
+    → push_answer (not (is_scratch words m.pc)) m (refused_at words entries m None (wrapped m.device target)) (way_back m.device m.sp back) (minus_sp m.device m.sp (back_of m.device)) target ≡ answer_to words entries m instr (effect_of words (is_still words entries) m instr b1 b2)
 rcall_answer words entries m instr b1 b2 k back target is there to =
-    ap₂ (λ (back target : ℕ). push_answer (not (is_scratch words m.pc)) m (refused_at words entries m None (wrapped m.device target)) (way_back m.sp back) (minus16 m.sp 2) target) there to ∙ rcall_row words entries m instr b1 b2 k is
+    ap₂ (λ (back target : ℕ). push_answer (not (is_scratch words m.pc)) m (refused_at words entries m None (wrapped m.device target)) (way_back m.device m.sp back) (minus_sp m.device m.sp (back_of m.device)) target) there to ∙ rcall_row words entries m instr b1 b2 k is
 
 pub icall_answer : (words : Program) (entries : List Entry) (m : State) (instr : Instr) (b1 b2 : ℕ) (unlisted : Option ℕ) (back target : ℕ) → instr ≡ i.Icall → unlisted ≡ unless_listed (jump_line entries m.pc) (wrapped m.device (pair m 30)) → back ≡ further m 1 → target ≡ pair m 30
-    → push_answer (not (is_scratch words m.pc)) m (refused_at words entries m unlisted (wrapped m.device target)) (way_back m.sp back) (minus16 m.sp 2) target ≡ answer_to words entries m instr (effect_of words (is_still words entries) m instr b1 b2)
+    → push_answer (not (is_scratch words m.pc)) m (refused_at words entries m unlisted (wrapped m.device target)) (way_back m.device m.sp back) (minus_sp m.device m.sp (back_of m.device)) target ≡ answer_to words entries m instr (effect_of words (is_still words entries) m instr b1 b2)
 icall_answer words entries m instr b1 b2 unlisted back target is other there to =
-    ap (λ (o : Option ℕ). push_answer (not (is_scratch words m.pc)) m (refused_at words entries m o (wrapped m.device target)) (way_back m.sp back) (minus16 m.sp 2) target) other
-    ∙ ap₂ (λ (back target : ℕ). push_answer (not (is_scratch words m.pc)) m (refused_at words entries m (unless_listed (jump_line entries m.pc) (wrapped m.device (pair m 30))) (wrapped m.device target)) (way_back m.sp back) (minus16 m.sp 2) target) there to
+    ap (λ (o : Option ℕ). push_answer (not (is_scratch words m.pc)) m (refused_at words entries m o (wrapped m.device target)) (way_back m.device m.sp back) (minus_sp m.device m.sp (back_of m.device)) target) other
+    ∙ ap₂ (λ (back target : ℕ). push_answer (not (is_scratch words m.pc)) m (refused_at words entries m (unless_listed (jump_line entries m.pc) (wrapped m.device (pair m 30))) (wrapped m.device target)) (way_back m.device m.sp back) (minus_sp m.device m.sp (back_of m.device)) target) there to
     ∙ icall_row words entries m instr b1 b2 is
 
 -- there is no further instruction

@@ -32,8 +32,8 @@ by_both admits core other protected listed h g k = grind arith
 
 unprotected : (device : Device) (A : List Entry) (site a byte : ℕ) → is_protected device a ≡ false → is_flagged_write device A site a byte ≡ false
 unprotected device A site a byte h =
-    let parts = or_parts (is_core a) (has_enables device a) h in
-    by_both (admits_enables device A site) (is_core a) (enables_barred device A a byte) (is_protected device a) (lists (store_line A site) a) parts.0
+    let parts = or_parts (is_core device a) (has_enables device a) h in
+    by_both (admits_enables device A site) (is_core device a) (enables_barred device A a byte) (is_protected device a) (lists (store_line A site) a) parts.0
     (none_barred device A a byte parts.1) h
 
 none_of : (fixed flagged : Bool) (a : ℕ) → flagged ≡ false → None ≡ (if not fixed then if flagged then Some a else None else None)

@@ -11,8 +11,8 @@ use Rattle.vector_table.proofs.AllLaws as tables
 use Rattle.avr_model.specs.declared.device.Device.{Device}
 use Rattle.avr_model.specs.declared.rows.Place.{Place}
 use Rattle.avr_model.specs.Bits.{number_of}
-use Rattle.avr_model.specs.Devices.{io_end}
-use Rattle.avr_model.specs.Vectors.{places, enable_count, has_enables, place_at, written_enable, written_enables, with_enable, io_bit, io_byte, kept_byte, is_vector, is_core, is_protected}
+use Rattle.avr_model.specs.Devices.{io_end, has_sph}
+use Rattle.avr_model.specs.Vectors.{places, enable_count, has_enables, place_at, written_enable, written_enables, with_enable, io_bit, io_byte, kept_byte, is_vector, is_core_by, is_core, is_protected}
 use Rattle.avr_model.proofs.AllLaws.{devices_are_alike, places_are_apart}
 
 -- places are in I/O
@@ -22,7 +22,7 @@ none_above io P in_io (p ∷ ps) a above all =
     rw (ne_eqb p.address a (λ same. let le = in_io p (All-head P p ps all) in absurd (omega arith))) (none_above io P in_io ps a above (All-tail P p ps all))
 
 abbrev pub IsSound : Device → Place → Type 0
-IsSound device p = (is_vector device p.vector ≡ true) × ((is_core p.address ≡ false) × ((p.address ≤ io_end device) × (p.mask < 256)))
+IsSound device p = (is_vector device p.vector ≡ true) × ((is_core device p.address ≡ false) × ((p.address ≤ io_end device) × (p.mask < 256)))
 
 pub none_in_sram : (device : Device) (a : ℕ) → io_end device < a → has_enables device a ≡ false
 unfolding has_enables
@@ -51,13 +51,17 @@ enables_stay device enables address byte small none =
     let same : (k : ℕ) → bit_at enables k ≡ f k = λ k i. written_enable (sym (enables_are_vectors.none device (k + 2) address here) i) byte (bit_at enables k) in
     numbers_are_their_bits.same (enable_count device) enables f small (λ k lt. same k)
 
-core_below : (a : ℕ) → 0x5F < a → is_core a ≡ false
-core_below a above = grind (arith, nat_tests)
+core_by : (high : Bool) (a : ℕ) → 0x5F < a → is_core_by high a ≡ false
+core_by true a above = grind (arith, nat_tests)
+core_by false a above = grind (arith, nat_tests)
+
+core_below : (device : Device) (a : ℕ) → 0x5F < a → is_core device a ≡ false
+core_below device a above = core_by (has_sph device) a above
 
 pub none_protected : (device : Device) (a : ℕ) → io_end device < a → is_protected device a ≡ false
 none_protected device a above =
     let least = devices_are_alike.least_io device in
-    ap (λ (b : Bool). b || has_enables device a) (core_below a (omega arith)) ∙ none_in_sram device a above
+    ap (λ (b : Bool). b || has_enables device a) (core_below device a (omega arith)) ∙ none_in_sram device a above
 
 -- enable bits stay few
 pub written_small : (device : Device) (x enables address byte : ℕ) → x ≡ written_enables device enables address byte → x < 2 ^ enable_count device

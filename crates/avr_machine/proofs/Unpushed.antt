@@ -30,7 +30,7 @@ same_memory memory one other is_open sp stores (p ∷ ps) e = cc
 same_after : (m : State) (one other : Bool) (e : Effect) → e.pushes ≡ [] → after m one e ≡ after m other e
 same_after m one other e none =
     ap (λ (memory : Memory). record (after m one e) { memory = memory })
-    (same_memory m.memory one other (open_after e.is_open e.stores) (sp_after e.sp e.stores) e.stores e.pushes none)
+    (same_memory m.memory one other (open_after m.device e.is_open e.stores) (sp_after m.device e.sp e.stores) e.stores e.pushes none)
 
 first_of : (b t : Bool) (x y : Answer) → b ≡ true → (if b || t then x else y) ≡ x
 first_of true t x y e = refl

@@ -1,17 +1,16 @@
 //! The rows that push or go to a computed word, and interrupt entry.
 
 ghost use Rattle.std.specs.Prelude.{◌≡◌, ◌<◌, ◌||◌, None, not, true};
-ghost use Rattle.avr_model.specs.Devices.{wrapped};
+ghost use Rattle.avr_model.specs.Devices.{back_of, wrapped};
 ghost use Rattle.avr_model.specs.Vectors.{is_vector, watchdog};
 ghost use Rattle.avr_model.specs.Assumptions.{jump_line, recur_line, has_scratch};
 ghost use Rattle.avr_model.specs.Sites.{is_scratch};
-ghost use Rattle.avr_model.specs.State.{pair, register, minus16, fall};
+ghost use Rattle.avr_model.specs.State.{pair, register, minus_sp, fall};
 ghost use Rattle.avr_model.specs.Effects.{set, way_back, further};
 ghost use Rattle.avr_model.specs.Step.{all_inside, unless_listed, unless_within, entering, take, result_of, state_after};
 ghost use Rattle.avr_machine.specs.Quiet.{push_answer, refused_at, jump_answer};
 
 use crate::flags::{flag_by, lists};
-use crate::pieces::way_back;
 use crate::processor::Processor;
 use crate::transfers::Z;
 use avr_alu::Sreg;
@@ -68,15 +67,15 @@ impl Processor {
     /// `push`, guarded unless it makes a compiler's small frame or has a `scratch` line.
     pub fn push(&mut self, flash: &Flash, assumptions: &Assumptions, r: u16) -> StepResult
         requires { r < 32 }
-        ensures answer { result ≡ result_of (push_answer (not (is_scratch flash.now self.old.pc || has_scratch assumptions.now self.old.pc)) self.old None (set self.old.sp (register self.old r)) (minus16 self.old.sp 1) (further self.old 1)) }
-        ensures state { self.new ≡ state_after self.old (push_answer (not (is_scratch flash.now self.old.pc || has_scratch assumptions.now self.old.pc)) self.old None (set self.old.sp (register self.old r)) (minus16 self.old.sp 1) (further self.old 1)) }
+        ensures answer { result ≡ result_of (push_answer (not (is_scratch flash.now self.old.pc || has_scratch assumptions.now self.old.pc)) self.old None (set self.old.sp (register self.old r)) (minus_sp self.old.device self.old.sp 1) (further self.old 1)) }
+        ensures state { self.new ≡ state_after self.old (push_answer (not (is_scratch flash.now self.old.pc || has_scratch assumptions.now self.old.pc)) self.old None (set self.old.sp (register self.old r)) (minus_sp self.old.device self.old.sp 1) (further self.old 1)) }
     {
         let pushes = Writes::one(Write {
             address: self.sp,
             byte: self.register(r),
         });
         let guarded = !(flash.is_scratch(self.pc) || assumptions.has_scratch(self.pc));
-        let sp = self.sp.wrapping_sub(1);
+        let sp = self.device.minus_sp(self.sp, 1);
         let next = self.further(1);
         self.push_step(guarded, None, pushes.as_slice(), sp, next)
     }
@@ -118,14 +117,21 @@ impl Processor {
         target: u16,
         back: u16,
     ) -> StepResult
-        ensures answer { result ≡ result_of (push_answer (not (is_scratch flash.now self.old.pc)) self.old (refused_at flash.now assumptions.now self.old unlisted (wrapped self.old.device target)) (way_back self.old.sp back) (minus16 self.old.sp 2) target) }
-        ensures state { self.new ≡ state_after self.old (push_answer (not (is_scratch flash.now self.old.pc)) self.old (refused_at flash.now assumptions.now self.old unlisted (wrapped self.old.device target)) (way_back self.old.sp back) (minus16 self.old.sp 2) target) }
+        ensures answer { result ≡ result_of (push_answer (not (is_scratch flash.now self.old.pc)) self.old (refused_at flash.now assumptions.now self.old unlisted (wrapped self.old.device target)) (way_back self.old.device self.old.sp back) (minus_sp self.old.device self.old.sp (back_of self.old.device)) target) }
+        ensures state { self.new ≡ state_after self.old (push_answer (not (is_scratch flash.now self.old.pc)) self.old (refused_at flash.now assumptions.now self.old unlisted (wrapped self.old.device target)) (way_back self.old.device self.old.sp back) (minus_sp self.old.device self.old.sp (back_of self.old.device)) target) }
     {
-        let pushes = way_back(self.sp, back);
-        let sp = self.sp.wrapping_sub(2);
+        let pushes = self.way_back(back);
+        let count = self.device.back();
+        let sp = self.device.minus_sp(self.sp, count);
         let is_scratch = flash.is_scratch(self.pc);
         let refused = self.refused(flash, assumptions, unlisted, self.wrap(target));
-        self.push_step(!is_scratch, refused, pushes.as_slice(), sp, target)
+        self.push_step(
+            !is_scratch,
+            refused,
+            &pushes[..usize::from(count)],
+            sp,
+            target,
+        )
     }
 
     /// The word in Z, and the word of flash that it stands for if the site does not list it.
@@ -170,9 +176,10 @@ impl Processor {
         } else {
             None
         };
-        let pushes = way_back(self.sp, self.pc);
-        let sp = self.sp.wrapping_sub(2);
-        let answer = self.push_step(true, never, pushes.as_slice(), sp, target);
+        let pushes = self.way_back(self.pc);
+        let count = self.device.back();
+        let sp = self.device.minus_sp(self.sp, count);
+        let answer = self.push_step(true, never, &pushes[..usize::from(count)], sp, target);
         if let StepResult::Done = answer {
             self.sreg = Sreg::from_bits_retain(self.sreg.bits() % 128);
             if clears {

@@ -7,7 +7,7 @@ use Rattle.std.proofs.lemmas.List.Elements.{Contains-append_left, Contains-appen
 use Rattle.std.proofs.lemmas.Option.{same_Some}
 use Rattle.basics.specs.Lists.{one_at}
 use Rattle.basics.specs.Items.{only_one_in, first_in}
-use Rattle.avr_model.specs.Devices.{device_of}
+use Rattle.avr_model.specs.Devices.{device_of, back_of}
 use Rattle.mask_states.specs.declared.keys.InstKey.{InstKey}
 use Rattle.mask_states.specs.declared.keys.SpForm.TheVariants.{Closed}
 use Rattle.mask_states.specs.Keys.{root_inst, offset_of, cut_at}
@@ -157,12 +157,12 @@ module _ (task : Task) (c : Claim) (nodes : List Node) (are : AreInstances c.ins
   offset_listed n o h e = (asked _).1 (record { node = n; present = h; asks = offset o e })
 
   -- an edge of the nest is demanded
-  nest_listed : (i j : InstKey) (depth : ℕ) → NestEdge task (Contains nodes) i j depth → Contains demands (demand_below c.instances (place_in c.instances i) depth j)
+  nest_listed : (i j : InstKey) (depth : ℕ) → NestEdge task (Contains nodes) i j depth → Contains demands (demand_below c.instances (place_in c.instances i) (depth + back_of (device_of task.flash)) j)
   nest_listed i j depth (by_node n way back h same at e whole) =
-      subst₂ (λ (k : InstKey) (o : ℕ). Contains demands (demand_below c.instances (place_in c.instances k) o j)) same at
+      subst₂ (λ (k : InstKey) (o : ℕ). Contains demands (demand_below c.instances (place_in c.instances k) (o + back_of (device_of task.flash)) j)) same at
       ((asked _).1 (record { node = n; present = h; asks = entry way j back e whole }))
   nest_listed i j depth (recurs n h same cut top) =
-      subst₂ (λ (k l : InstKey). Contains demands (demand_below c.instances (place_in c.instances k) depth l)) (sym top) same
+      subst₂ (λ (k l : InstKey). Contains demands (demand_below c.instances (place_in c.instances k) (depth + back_of (device_of task.flash)) l)) (sym top) same
       ((asked _).1 (record { node = n; present = h; asks = recur depth (subst (λ (k : InstKey). cut_at task.assumptions k ≡ Some depth) (sym same) cut) }))
 
   pub ranked : RanksFall c.instances demands → AreRanked task c nodes
@@ -176,8 +176,8 @@ module _ (task : Task) (c : Claim) (nodes : List Node) (are : AreInstances c.ins
     offsets = λ n o h is form.
         subst (λ m. o ≤ m) (need_there c.instances n.key.inst ∙ ap (need_in c.instances) is) (met _ (offset_listed n o h form));
     entered = λ into depth edge.
-        subst (λ m. depth + 2 + m ≤ need_in c.instances inst) (need_there c.instances into)
-        (subst (λ m. depth + 2 + need_at c.instances (place_in c.instances into) ≤ m) (need_there c.instances inst)
+        subst (λ m. depth + back_of (device_of task.flash) + m ≤ need_in c.instances inst) (need_there c.instances into)
+        (subst (λ m. depth + back_of (device_of task.flash) + need_at c.instances (place_in c.instances into) ≤ m) (need_there c.instances inst)
         (met _ (nest_listed inst into depth edge)));
   }
 
@@ -288,9 +288,9 @@ module _ (task : Task) (c : Claim) (nodes : List Node) (are : AreInstances c.ins
   suffices_for : (n : Node) (k : InstKey) (d : Demand) (m : ℕ) → Contains nodes n → (a : Asks task c.instances n d) → owner n d a ≡ k → Suffices task c nodes k m → d.bytes ≤ m
   suffices_for n k _ m h (offset o e) is s = s.offsets n o h is e
   suffices_for n k _ m h (entry way inst back e whole) is s =
-      subst (λ r. offset_of n.key.sp + 2 + r ≤ m) (sym (need_there c.instances inst)) (s.entered inst (offset_of n.key.sp) (by_node n way back h is refl e whole))
+      subst (λ r. offset_of n.key.sp + back_of (device_of task.flash) + r ≤ m) (sym (need_there c.instances inst)) (s.entered inst (offset_of n.key.sp) (by_node n way back h is refl e whole))
   suffices_for n k _ m h (recur depth cut) is s =
-      subst (λ r. depth + 2 + r ≤ m) (sym (need_there c.instances n.key.inst)) (s.entered n.key.inst depth (recurs n h refl cut (sym is)))
+      subst (λ r. depth + back_of (device_of task.flash) + r ≤ m) (sym (need_there c.instances n.key.inst)) (s.entered n.key.inst depth (recurs n h refl cut (sym is)))
 
   -- a number that is at least all demands suffices
   suffices_by : (x : Inst) (j m : ℕ) → slice_get c.instances j ≡ Some x → ((d : Demand) → Contains demands d → d.inst ≡ j → d.bytes ≤ m)
@@ -298,7 +298,7 @@ module _ (task : Task) (c : Claim) (nodes : List Node) (are : AreInstances c.ins
   suffices_by x j m is above = record {
     offsets = λ n o h same form. above _ (offset_listed n o h form) (number_is n.key.inst j x is same);
     entered = λ into depth edge.
-        subst (λ r. depth + 2 + r ≤ m) (need_there c.instances into)
+        subst (λ r. depth + back_of (device_of task.flash) + r ≤ m) (need_there c.instances into)
         (above _ (nest_listed x.key into depth edge) (number_is x.key j x is refl));
   }
 

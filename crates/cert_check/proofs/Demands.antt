@@ -4,6 +4,7 @@ use Rattle.std.specs.List.{flat_map}
 use Rattle.std.proofs.lemmas.List.Elements.{Contains-append_left, Contains-append_right, Contains-append_cases}
 use Rattle.std.proofs.lemmas.Option.{slice_get_within}
 use Rattle.basics.specs.Items.{only_one_in, contained_in_join, each_of_join, none_in, first_in}
+use Rattle.avr_model.specs.Devices.{device_of, back_of}
 use Rattle.mask_states.specs.declared.keys.EdgeKind.{EdgeKind}
 use Rattle.mask_states.specs.declared.keys.InstKey.{InstKey}
 use Rattle.mask_states.specs.declared.keys.SpForm.{SpForm}
@@ -39,13 +40,13 @@ module _ (task : Task) (insts : List Inst) (n : Node) where
   way_in nodes _ (entering way inst back enters) is = record { way = way; inst = inst; back = back; enters = enters; same = refl }
   way_in nodes _ (returning way inst back leaver x state enters present same clean exit after) is = absurd (cc)
 
-  from_recur : (cut : Option ℕ) → cut_at task.assumptions n.key.inst ≡ cut → (d : Demand) → Contains (recur_demand insts n.key.inst cut) d → Asks task insts n d
+  from_recur : (cut : Option ℕ) → cut_at task.assumptions n.key.inst ≡ cut → (d : Demand) → Contains (recur_demand (back_of (device_of task.flash)) insts n.key.inst cut) d → Asks task insts n d
   from_recur None is d h = absurd (none_in d h)
   from_recur (Some depth) is d h = subst (Asks task insts n) (sym (only_one_in _ d h)) (recur depth is)
 
   -- the demand of an entry of this instance
   abbrev below : InstKey → Demand
-  below inst = demand_below insts (place_in insts n.key.inst) (offset_of n.key.sp) inst
+  below inst = demand_below insts (place_in insts n.key.inst) (offset_of n.key.sp + back_of (device_of task.flash)) inst
 
   whole_by : (e : Edge) → WayIn e → (cut : Option ℕ) → cut_at task.assumptions e.to.inst ≡ cut → (d : Demand) → Contains (unless_cut cut (below e.to.inst ∷ [])) d → Asks task insts n d
   whole_by e w (Some depth) is d h = absurd (none_in d h)
@@ -68,12 +69,12 @@ module _ (task : Task) (insts : List Inst) (n : Node) where
     own = offset_demand (place_in insts n.key.inst) n.key.sp
 
     abbrev root_own : List Demand
-    root_own = recur_demand insts n.key.inst (cut_at task.assumptions n.key.inst)
+    root_own = recur_demand (back_of (device_of task.flash)) insts n.key.inst (cut_at task.assumptions n.key.inst)
 
     abbrev by_edge : Edge → List Demand
-    by_edge = entry_demand task.assumptions insts (place_in insts n.key.inst) (offset_of n.key.sp)
+    by_edge = entry_demand task.assumptions insts (place_in insts n.key.inst) (offset_of n.key.sp + back_of (device_of task.flash))
 
-    pub listed_asks : (d : Demand) → Contains (demands_of task.assumptions insts n.key edges) d → Asks task insts n d
+    pub listed_asks : (d : Demand) → Contains (demands_of task insts n.key edges) d → Asks task insts n d
     listed_asks d h =
         ⊎_elim (from_offset n.key.sp refl d)
         (λ more. ⊎_elim (from_recur (cut_at task.assumptions n.key.inst) refl d)
@@ -81,16 +82,16 @@ module _ (task : Task) (insts : List Inst) (n : Node) where
         (Contains-append_cases root_own (flat_map by_edge edges) d more))
         (Contains-append_cases own (root_own ++ flat_map by_edge edges) d h)
 
-    pub asked_listed : (d : Demand) → Asks task insts n d → Contains (demands_of task.assumptions insts n.key edges) d
+    pub asked_listed : (d : Demand) → Asks task insts n d → Contains (demands_of task insts n.key edges) d
     asked_listed _ (offset o e) =
         let d : Demand = record { inst = place_in insts n.key.inst; into = None; bytes = o } in
         Contains-append_left own (root_own ++ flat_map by_edge edges) d
         (subst (λ form. Contains (offset_demand (place_in insts n.key.inst) form) d) (sym e) (first_in d []))
     asked_listed _ (recur depth cut) =
-        let d : Demand = demand_below insts (place_in insts root_inst) depth n.key.inst in
+        let d : Demand = demand_below insts (place_in insts root_inst) (depth + back_of (device_of task.flash)) n.key.inst in
         Contains-append_right own (root_own ++ flat_map by_edge edges) d
         (Contains-append_left root_own (flat_map by_edge edges) d
-        (subst (λ (o : Option ℕ). Contains (recur_demand insts n.key.inst o) d) (sym cut) (first_in d [])))
+        (subst (λ (o : Option ℕ). Contains (recur_demand (back_of (device_of task.flash)) insts n.key.inst o) d) (sym cut) (first_in d [])))
     asked_listed _ (entry way inst back enters whole) =
         let d : Demand = below inst in
         let here : Contains (unless_cut (cut_at task.assumptions inst) (d ∷ [])) d = subst (λ (o : Option ℕ). Contains (unless_cut o (d ∷ [])) d) (sym whole) (first_in d []) in

@@ -65,26 +65,26 @@ module _ (task : Task) (own : Seeds) (insts : List Inst) (nodes : List Node) whe
         clear e ((are e).1 (subst (λ x. IsEdge task nodes x e) mn ie)))
         (cases_lt i at)
 
-    listed_here : (new : List Demand) → new ≡ demands ++ demands_of task.assumptions insts n.key edges → (i : ℕ) (m : Node) (d : Demand) → slice_get nodes i ≡ Some m → i < at + 1
+    listed_here : (new : List Demand) → new ≡ demands ++ demands_of task insts n.key edges → (i : ℕ) (m : Node) (d : Demand) → slice_get nodes i ≡ Some m → i < at + 1
         → Asks task insts m d → Contains new d
     listed_here new e i m d im lt asks =
         subst (λ l. Contains l d) (sym e)
-        (⊎_elim (λ below. Contains-append_left demands (demands_of task.assumptions insts n.key edges) d (mid.listed i m d im below asks))
+        (⊎_elim (λ below. Contains-append_left demands (demands_of task insts n.key edges) d (mid.listed i m d im below asks))
         (λ above. let same : i ≡ at = omega (arith, lt, above) in
         let mn : m ≡ n = one_at nodes at m n (subst (λ j. slice_get nodes j ≡ Some m) same im) is in
-        Contains-append_right demands (demands_of task.assumptions insts n.key edges) d
+        Contains-append_right demands (demands_of task insts n.key edges) d
         (asked_listed task insts n nodes edges are d (subst (λ x. Asks task insts x d) mn asks)))
         (cases_lt i at))
 
     pub goes_on : (k : NodeKey) (new : List Demand) → option_map key_of (slice_get nodes at) ≡ Some k → IsLeastOffered (LeadsToNode (has_pairs task.assumptions) own nodes) (GapAt (has_pairs task.assumptions) own nodes) KeyBelow edges None
-        → new ≡ demands ++ demands_of task.assumptions insts k edges → IsMidway task own insts nodes (at + 1) new
+        → new ≡ demands ++ demands_of task insts k edges → IsMidway task own insts nodes (at + 1) new
     goes_on k new key clear e =
-        let f : new ≡ demands ++ demands_of task.assumptions insts n.key edges = subst (λ x. new ≡ demands ++ demands_of task.assumptions insts x edges) (sym (key_is nodes at n k is key)) e in
+        let f : new ≡ demands ++ demands_of task insts n.key edges = subst (λ x. new ≡ demands ++ demands_of task insts x edges) (sym (key_is nodes at n k is key)) e in
         record {
           land = land_here clear;
           asked = λ d h. ⊎_elim (mid.asked d)
               (λ i. record { node = n; present = contained_at nodes at n is; asks = listed_asks task insts n nodes edges are d i })
-              (Contains-append_cases demands (demands_of task.assumptions insts n.key edges) d (subst (λ l. Contains l d) f h));
+              (Contains-append_cases demands (demands_of task insts n.key edges) d (subst (λ l. Contains l d) f h));
           listed = listed_here new f;
         }
 

@@ -6,7 +6,7 @@ use Rattle.std.specs.Ordering.{is_le}
 use Rattle.std.specs.declared.cmp.Ordering.TheVariants.{Greater}
 use Rattle.avr_model.specs.declared.assumption.Entry.{Entry}
 use Rattle.avr_model.specs.Assumptions.{has_pairs}
-use Rattle.avr_model.specs.Devices.{Program}
+use Rattle.avr_model.specs.Devices.{Program, device_of, back_of}
 use Rattle.avr_model.specs.State.{SIZE}
 use Rattle.abs_state.specs.declared.state.AbsState.{AbsState}
 use Rattle.mask_states.specs.declared.keys.EdgeKind.{EdgeKind}
@@ -113,37 +113,40 @@ abbrev pub offset_demand : ℕ → SpForm → List Demand
 offset_demand j (Closed offset) = record { inst = j; into = None; bytes = offset } ∷ []
 offset_demand j (Open offset high) = []
 
--- what instance j must have if another lies below it at this depth
+-- what instance j must have if another lies below it, whose base is so many bytes below its own
 abbrev pub demand_below : List Inst → ℕ → ℕ → InstKey → Demand
-demand_below insts j depth into = record { inst = j; into = Some (place_in insts into); bytes = depth + 2 + need_at insts (place_in insts into) }
+demand_below insts j fall into = record { inst = j; into = Some (place_in insts into); bytes = fall + need_at insts (place_in insts into) }
 
 abbrev pub below_demand : List Inst → ℕ → ℕ → InstKey → List Demand
-below_demand insts j depth into = demand_below insts j depth into ∷ []
+below_demand insts j fall into = demand_below insts j fall into ∷ []
 
-abbrev pub recur_demand : List Inst → InstKey → Option ℕ → List Demand
-recur_demand insts inst None = []
-recur_demand insts inst (Some depth) = below_demand insts (place_in insts root_inst) depth inst
+-- `back` is how many bytes a return address has
+abbrev pub recur_demand : ℕ → List Inst → InstKey → Option ℕ → List Demand
+recur_demand back insts inst None = []
+recur_demand back insts inst (Some depth) = below_demand insts (place_in insts root_inst) (depth + back) inst
 
 abbrev pub unless_cut : Option ℕ → List Demand → List Demand
 unless_cut None demands = demands
 unless_cut (Some depth) demands = []
 
 abbrev pub entry_demand : List Entry → List Inst → ℕ → ℕ → Edge → List Demand
-entry_demand A insts j offset e = if is_entry e.kind then unless_cut (cut_at A e.to.inst) (below_demand insts j offset e.to.inst) else []
+entry_demand A insts j fall e = if is_entry e.kind then unless_cut (cut_at A e.to.inst) (below_demand insts j fall e.to.inst) else []
 
 -- the demands of a node with this key and these edges
-abbrev pub demands_of : List Entry → List Inst → NodeKey → List Edge → List Demand
-demands_of A insts k edges =
+abbrev pub demands_of : Task → List Inst → NodeKey → List Edge → List Demand
+demands_of task insts k edges =
     offset_demand (place_in insts k.inst) k.sp
-    ++ (recur_demand insts k.inst (cut_at A k.inst) ++ flat_map (entry_demand A insts (place_in insts k.inst) (offset_of k.sp)) edges)
+    ++ (recur_demand (back_of (device_of task.flash)) insts k.inst (cut_at task.assumptions k.inst)
+    ++ flat_map (entry_demand task.assumptions insts (place_in insts k.inst) (offset_of k.sp + back_of (device_of task.flash))) edges)
 
 -- A node demands a closed offset of its instance. For each entry of another instance that isn't cut it demands a higher rank, and that
--- instance's need plus the offset and two bytes. A node of a cut instance demands the same of the root, at the depth of the line.
+-- instance's need plus the offset and the bytes of a return address. A node of a cut instance demands the same of the root, at the depth of the line.
 pub data Asks (task : Task) (insts : List Inst) (n : Node) : Demand → Type 0 where
   offset : (o : ℕ) → n.key.sp ≡ Closed o → Asks task insts n (record { inst = place_in insts n.key.inst; into = None; bytes = o })
   entry : (way : EdgeKind) (inst : InstKey) (back : ℕ) → Enters task n way inst back → cut_at task.assumptions inst ≡ None
-      → Asks task insts n (demand_below insts (place_in insts n.key.inst) (offset_of n.key.sp) inst)
-  recur : (depth : ℕ) → cut_at task.assumptions n.key.inst ≡ Some depth → Asks task insts n (demand_below insts (place_in insts root_inst) depth n.key.inst)
+      → Asks task insts n (demand_below insts (place_in insts n.key.inst) (offset_of n.key.sp + back_of (device_of task.flash)) inst)
+  recur : (depth : ℕ) → cut_at task.assumptions n.key.inst ≡ Some depth
+      → Asks task insts n (demand_below insts (place_in insts root_inst) (depth + back_of (device_of task.flash)) n.key.inst)
 
 -- some of these nodes makes this demand
 pub record IsAsked (task : Task) (insts : List Inst) (nodes : List Node) (d : Demand) : Type 0 where

@@ -8,7 +8,9 @@ ghost use Rattle.mask_states.specs.Keys.{root_inst, cut_at};
 ghost use Rattle.certificate.specs.Insts.{inst_keys};
 ghost use Rattle.cert_check.specs.Demands.{AreInstances, place_in, rank_at, need_at, offset_demand, below_demand, recur_demand, entry_demand, demands_of};
 ghost use Rattle.call_graph.specs.Clauses.{Grows};
+ghost use Rattle.call_graph.specs.Tasks.{task_of};
 
+use call_graph::Task;
 use certificate::Inst;
 use edge_rules::Edge;
 use edge_rules::edge::is_entry;
@@ -69,44 +71,52 @@ fn add_offset(demands: &mut Vec<Demand>, inst: usize, form: &SpForm) -> Result<(
     Ok(())
 }
 
-// The demand of an instance that lies below another one at this depth.
+// The demand of an instance that lies below another one, whose base is so many bytes below its own.
 fn add_below(
     demands: &mut Vec<Demand>,
     instances: &[Inst],
     inst: usize,
-    depth: u16,
+    fall: u32,
     into: &InstKey,
 ) -> Result<(), AllocError>
     requires instances { AreInstances instances.now }
     requires there { Contains (inst_keys instances.now) into.now }
-    ensures { Grows result demands.old.items demands.new.items (below_demand instances.now inst depth into.now) }
+    requires low { fall < 131072 }
+    ensures { Grows result demands.old.items demands.new.items (below_demand instances.now inst fall into.now) }
 {
     let into = number_of(instances, into);
     demands.push(Demand {
         inst,
         into: Some(into),
-        bytes: u32::from(depth) + 2 + need_at(instances, into),
+        bytes: fall + need_at(instances, into),
     })?;
     Ok(())
 }
 
-// The demand of the recur edge to this instance, if it is cut.
+// The demand of the recur edge to this instance, if it is cut; a return address takes `back` bytes.
 fn add_recur(
     demands: &mut Vec<Demand>,
     instances: &[Inst],
     inst: &InstKey,
     assumptions: &Assumptions,
+    back: u8,
 ) -> Result<(), AllocError>
     requires instances { AreInstances instances.now }
     requires root { Contains (inst_keys instances.now) root_inst }
     requires there { Contains (inst_keys instances.now) inst.now }
-    ensures { Grows result demands.old.items demands.new.items (recur_demand instances.now inst.now (cut_at assumptions.now inst.now)) }
+    ensures { Grows result demands.old.items demands.new.items (recur_demand back instances.now inst.now (cut_at assumptions.now inst.now)) }
 {
     match inst.cut(assumptions) {
         None => Ok(()),
         Some(depth) => {
             let root = number_of(instances, &InstKey::root());
-            add_below(demands, instances, root, depth, inst)
+            add_below(
+                demands,
+                instances,
+                root,
+                u32::from(depth) + u32::from(back),
+                inst,
+            )
         }
     }
 }
@@ -116,17 +126,18 @@ fn add_entry(
     demands: &mut Vec<Demand>,
     instances: &[Inst],
     inst: usize,
-    offset: u16,
+    fall: u32,
     edge: &Edge,
     assumptions: &Assumptions,
 ) -> Result<(), AllocError>
     requires instances { AreInstances instances.now }
     requires there { Contains (inst_keys instances.now) edge.now.to.inst }
-    ensures { Grows result demands.old.items demands.new.items (entry_demand assumptions.now instances.now inst offset edge.now) }
+    requires low { fall < 131072 }
+    ensures { Grows result demands.old.items demands.new.items (entry_demand assumptions.now instances.now inst fall edge.now) }
 {
     if is_entry(edge.kind) {
         return match edge.to.inst.cut(assumptions) {
-            None => add_below(demands, instances, inst, offset, &edge.to.inst),
+            None => add_below(demands, instances, inst, fall, &edge.to.inst),
             Some(_) => Ok(()),
         };
     }
@@ -138,36 +149,39 @@ fn add_entries(
     demands: &mut Vec<Demand>,
     instances: &[Inst],
     inst: usize,
-    offset: u16,
+    fall: u32,
     edges: &[Edge],
     assumptions: &Assumptions,
 ) -> Result<(), AllocError>
     requires instances { AreInstances instances.now }
     requires there { (e : edge_type.Edge) → Contains edges.now e → Contains (inst_keys instances.now) e.to.inst }
-    ensures { Grows result demands.old.items demands.new.items (flat_map (entry_demand assumptions.now instances.now inst offset) edges.now) }
+    requires low { fall < 131072 }
+    ensures { Grows result demands.old.items demands.new.items (flat_map (entry_demand assumptions.now instances.now inst fall) edges.now) }
 {
     for at in 0..edges.len() {
-        add_entry(demands, instances, inst, offset, &edges[at], assumptions)?;
+        add_entry(demands, instances, inst, fall, &edges[at], assumptions)?;
     }
     Ok(())
 }
 
 // The demands of a node with this key and these edges.
 pub(crate) fn add_demands(
+    task: &Task<'_>,
     demands: &mut Vec<Demand>,
     instances: &[Inst],
     key: &NodeKey,
     edges: &[Edge],
-    assumptions: &Assumptions,
 ) -> Result<(), AllocError>
     requires instances { AreInstances instances.now }
     requires root { Contains (inst_keys instances.now) root_inst }
     requires own { Contains (inst_keys instances.now) key.now.inst }
     requires there { (e : edge_type.Edge) → Contains edges.now e → Contains (inst_keys instances.now) e.to.inst }
-    ensures { Grows result demands.old.items demands.new.items (demands_of assumptions.now instances.now key.now edges.now) }
+    ensures { Grows result demands.old.items demands.new.items (demands_of (task_of task.now) instances.now key.now edges.now) }
 {
     let inst = number_of(instances, &key.inst);
     add_offset(demands, inst, &key.sp)?;
-    add_recur(demands, instances, &key.inst, assumptions)?;
-    add_entries(demands, instances, inst, key.offset(), edges, assumptions)
+    let back = task.flash.device().back();
+    add_recur(demands, instances, &key.inst, task.assumptions, back)?;
+    let fall = u32::from(key.offset()) + u32::from(back);
+    add_entries(demands, instances, inst, fall, edges, task.assumptions)
 }

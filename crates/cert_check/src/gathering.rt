@@ -57,11 +57,11 @@ fn gather_node(
     gathered.landings.push(landings)?;
     let key = site.nodes.key(at);
     add_demands(
+        task,
         &mut gathered.demands,
         site.certificate.instances(),
         key,
         edges.as_slice(),
-        task.assumptions,
     )?;
     Ok(None)
 }

@@ -1,7 +1,7 @@
 -- Validity of a certificate for a firmware and assumptions. Source: own.
 use Rattle.std.specs.Prelude.{ℕ, ◌+◌, ◌≡◌, ◌<◌, ◌≤◌, List, Contains, Option, Some, None, IsOkAnd, ⊤}
 use Rattle.avr_model.specs.declared.assumption.Entry.{Entry}
-use Rattle.avr_model.specs.Devices.{Program, device_of, size_of}
+use Rattle.avr_model.specs.Devices.{Program, device_of, size_of, back_of}
 use Rattle.avr_model.specs.declared.choice.Stop.TheVariants as stop
 use Rattle.mask_states.specs.declared.keys.InstKey.{InstKey}
 use Rattle.mask_states.specs.declared.keys.SpForm.TheVariants.{Closed}
@@ -36,10 +36,10 @@ abbrev pub AreRanked : Task → Claim → List Node → Type 0
 AreRanked task c nodes = (i j : InstKey) (depth : ℕ) → NestEdge task (Contains nodes) i j depth → rank_in c.instances j < rank_in c.instances i
 
 -- This number is at least the offset of each closed node of the instance, and at least the need of each instance below it in the nest, plus
--- its depth and two bytes for the return address.
+-- its depth and the bytes of a return address.
 pub record Suffices (task : Task) (c : Claim) (nodes : List Node) (inst : InstKey) (need : ℕ) : Type 0 where
   pub offsets : (n : Node) (offset : ℕ) → Contains nodes n → n.key.inst ≡ inst → n.key.sp ≡ Closed offset → offset ≤ need
-  pub entered : (into : InstKey) (depth : ℕ) → NestEdge task (Contains nodes) inst into depth → depth + 2 + need_in c.instances into ≤ need
+  pub entered : (into : InstKey) (depth : ℕ) → NestEdge task (Contains nodes) inst into depth → depth + back_of (device_of task.flash) + need_in c.instances into ≤ need
 
 -- 5: each instance's need suffices
 abbrev pub NeedsSuffice : Task → Claim → List Node → Type 0

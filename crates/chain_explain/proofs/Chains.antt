@@ -8,6 +8,7 @@ use Rattle.mask_states.specs.declared.keys.SpForm.TheVariants.{Closed}
 use Rattle.mask_states.specs.declared.keys.EdgeKind.{EdgeKind}
 use Rattle.mask_states.specs.Keys.{root_inst, offset_of, cut_at}
 use Rattle.avr_model.specs.declared.assumption.Entry.{Entry}
+use Rattle.avr_model.specs.Devices.{device_of, back_of}
 use Rattle.avr_model.specs.State.{SIZE}
 use Rattle.local_rules.specs.declared.local.Node.{Node}
 use Rattle.edge_rules.specs.Edges.{Enters, by_call, by_interrupt}
@@ -45,6 +46,10 @@ cut_other : (A : List Entry) (inst : InstKey) (depth : ℕ) → cut_at A inst �
 cut_other A inst depth cut same = root_whole A depth (subst (λ (k : InstKey). cut_at A k ≡ Some depth) same cut)
 
 module _ (task : Task) (nodes reached : List Node) (gs : List GraphInst) (needs : List ℕ) (family : IsGraphOf task reached gs) where
+  -- the bytes of a return address
+  abbrev back : ℕ
+  back = back_of (device_of task.flash)
+
   -- no edge leads to the root
   into_other : (i : ℕ) (e : Entered) (h : HasEntryOf task reached (insts_of gs) i e) → h.into ≡ root_inst → ⊥
   into_other i e h same = elim h.edge [ inl q ↦ entered_other q.enters same | inr q ↦ cut_other task.assumptions h.into e.offset q.cut same ]
@@ -57,7 +62,7 @@ module _ (task : Task) (nodes reached : List Node) (gs : List GraphInst) (needs 
   top_next i e above h inst is same = absurd (into_other i e h (one_at (insts_of gs) e.into h.into inst h.leads is ∙ same))
 
   -- the family has each link's node
-  there_from : (i above : ℕ) (links : List Link) → above + slice_index needs i ≤ SIZE → IsChainFrom gs needs i above links → AreThere reached links
+  there_from : (i above : ℕ) (links : List Link) → above + slice_index needs i ≤ SIZE → IsChainFrom back gs needs i above links → AreThere reached links
   there_from i above links low (ends _ _ p first) =
       let h = (family.places i p).0 first.is.0 in
       (slice_get_within reached p.node h.place.node h.place.at, tt)
@@ -68,7 +73,7 @@ module _ (task : Task) (nodes reached : List Node) (gs : List GraphInst) (needs 
           | inl q ↦ subst (λ (w : Way). IsThere reached link (Some w)) (sym q.way) (slice_get_within reached e.node q.node q.at)
           | inr q ↦ subst (λ (w : Way). IsThere reached link (Some w)) (sym q.way) (let deep = first.is.1 in omega (arith, deep, low))
         ],
-        there_from e.into (above + e.offset + 2) rest (let deep = first.is.1 in omega (arith, deep, low)) chain,
+        there_from e.into (above + e.offset + back) rest (let deep = first.is.1 in omega (arith, deep, low)) chain,
       )
 
   -- ---- parts by the ways of their links
@@ -76,12 +81,12 @@ module _ (task : Task) (nodes reached : List Node) (gs : List GraphInst) (needs 
   as_node : (link : Link) (rest : List Link) (part : Part) (kind : EdgeKind) → link.way ≡ Some (Enters_by kind) → IsPart task nodes reached link rest part → IsNodePart task nodes reached link part
   as_node link rest part kind e h = subst (IsPartBy task nodes reached link rest part) e h
 
-  as_recur : (link : Link) (rest : List Link) (part : Part) → link.way ≡ Some Recur → IsPart task nodes reached link rest part → IsRecurPart reached link rest part
+  as_recur : (link : Link) (rest : List Link) (part : Part) → link.way ≡ Some Recur → IsPart task nodes reached link rest part → IsRecurPart back reached link rest part
   as_recur link rest part e h = subst (IsPartBy task nodes reached link rest part) e h
 
   -- the bytes of a link at a node
-  adds_on : (offset : ℕ) (way : Option Way) (w : Way) → way ≡ Some w → adds_by offset way ≡ offset + 2
-  adds_on offset way w e = ap (adds_by offset) e
+  adds_on : (offset : ℕ) (way : Option Way) (w : Way) → way ≡ Some w → adds_by back offset way ≡ offset + back
+  adds_on offset way w e = ap (adds_by back offset) e
 
   -- the offset of a part's node
   offset_is : (link : Link) (part : Part) (is : IsNodePart task nodes reached link part) (n : Node) (offset : ℕ) → slice_get reached link.node ≡ Some n → n.key.sp ≡ Closed offset
@@ -92,23 +97,23 @@ module _ (task : Task) (nodes reached : List Node) (gs : List GraphInst) (needs 
 
   -- the bytes of the part for an edge
   adds_is : (i above : ℕ) (e : Entered) (rest : List Link) (part : Part) → IsTop i above → (h : HasEntryOf task reached (insts_of gs) i e)
-      → IsPart task nodes reached (record { inst = i; node = e.node; depth = above + e.offset; way = Some e.way }) rest part → part.adds ≡ e.offset + 2
+      → IsPart task nodes reached (record { inst = i; node = e.node; depth = above + e.offset; way = Some e.way }) rest part → part.adds ≡ e.offset + back
   adds_is i above e rest part top h is =
       let link : Link = record { inst = i; node = e.node; depth = above + e.offset; way = Some e.way } in
       elim h.edge [
         | inl q ↦
             let x = as_node link rest part q.kind (ap Some q.way) is in
             let o = offset_is link part x q.node e.offset q.at q.closed in
-            let a : part.adds ≡ offset_of x.node.key.sp + 2 = x.adds in
+            let a : part.adds ≡ offset_of x.node.key.sp + back = x.adds in
             omega (arith, o, a)
         | inr q ↦
             let x = as_recur link rest part (ap Some q.way) is in
-            let a : part.adds ≡ above + e.offset + 2 = x.adds in
+            let a : part.adds ≡ above + e.offset + back = x.adds in
             let none = top h.inst h.is q.root in
             omega (arith, a, none)
       ]
 
-  sums_from : (i above : ℕ) (links : List Link) (parts : List Part) → IsTop i above → IsChainFrom gs needs i above links → AreParts task nodes reached links [] parts
+  sums_from : (i above : ℕ) (links : List Link) (parts : List Part) → IsTop i above → IsChainFrom back gs needs i above links → AreParts task nodes reached links [] parts
       → sum_of parts ≡ slice_index needs i
   sums_from i above links [] top (ends _ _ p first) h = absurd h
   sums_from i above links (part ∷ []) top (ends _ _ p first) h =
@@ -124,7 +129,7 @@ module _ (task : Task) (nodes reached : List Node) (gs : List GraphInst) (needs 
       let at = (family.entered i e).0 first.is.0 in
       let a = adds_is i above e (rest ++ []) part top at h.0 in
       let d = first.is.1 in
-      let below = sums_from e.into (above + e.offset + 2) rest parts (top_next i e (above + e.offset + 2) at) chain h.1 in
+      let below = sums_from e.into (above + e.offset + back) rest parts (top_next i e (above + e.offset + back) at) chain h.1 in
       let s : sum_of (part ∷ parts) ≡ part.adds + sum_of parts = sum_by-cons (λ (p : Part). p.adds) part parts in
       omega (arith, a, d, below, s)
 
@@ -144,7 +149,7 @@ module _ (task : Task) (nodes reached : List Node) (gs : List GraphInst) (needs 
       }
 
   -- the instance of a chain's first part
-  inst_from : (i above : ℕ) (links : List Link) (part : Part) (parts : List Part) → IsChainFrom gs needs i above links → AreParts task nodes reached links [] (part ∷ parts)
+  inst_from : (i above : ℕ) (links : List Link) (part : Part) (parts : List Part) → IsChainFrom back gs needs i above links → AreParts task nodes reached links [] (part ∷ parts)
       → (inst : InstKey) → slice_get (insts_of gs) i ≡ Some inst → part.inst ≡ inst
   inst_from i above links part parts (ends _ _ p first) h inst is =
       let at = (family.places i p).0 first.is.0 in
@@ -162,7 +167,7 @@ module _ (task : Task) (nodes reached : List Node) (gs : List GraphInst) (needs 
       ]
 
   -- the word with which an instance begins, by a chain from it
-  entry_from : (i above : ℕ) (links behind : List Link) → IsChainFrom gs needs i above links → (inst : InstKey) → slice_get (insts_of gs) i ≡ Some inst → (inst ≡ root_inst → ⊥)
+  entry_from : (i above : ℕ) (links behind : List Link) → IsChainFrom back gs needs i above links → (inst : InstKey) → slice_get (insts_of gs) i ≡ Some inst → (inst ≡ root_inst → ⊥)
       → entry_next reached (links ++ behind) ≡ inst.entry
   entry_from i above links behind (ends _ _ p first) inst is other =
       let at = (family.places i p).0 first.is.0 in
@@ -174,7 +179,7 @@ module _ (task : Task) (nodes reached : List Node) (gs : List GraphInst) (needs 
         | inr q ↦ absurd (other (sym (one_at (insts_of gs) i at.inst inst at.is is) ∙ q.root))
       ]
 
-  go_on_from : (i above : ℕ) (links : List Link) (part : Part) (parts : List Part) → IsTop i above → IsChainFrom gs needs i above links → AreParts task nodes reached links [] (part ∷ parts)
+  go_on_from : (i above : ℕ) (links : List Link) (part : Part) (parts : List Part) → IsTop i above → IsChainFrom back gs needs i above links → AreParts task nodes reached links [] (part ∷ parts)
       → GoOn task nodes part parts
   go_on_from i above links part [] top (ends _ _ p first) h =
       let at = (family.places i p).0 first.is.0 in
@@ -182,15 +187,15 @@ module _ (task : Task) (nodes reached : List Node) (gs : List GraphInst) (needs 
       let adds : p.offset ≡ part.adds = let a : part.adds ≡ offset_of h.0.node.key.sp = h.0.adds in omega (arith, o, a) in
       record { place = at.place.node; is = subst (IsPlace task nodes part at.place.node) adds (place_is _ part h.0 at.place.node p.offset at.place.at at.place.closed) }
   go_on_from i above links part (next ∷ parts) top (ends _ _ p first) h = absurd h.1
-  go_on_from i above links part [] top (goes _ _ e rest no_end first chain) h = absurd (never e.into (above + e.offset + 2) rest chain h.1)
+  go_on_from i above links part [] top (goes _ _ e rest no_end first chain) h = absurd (never e.into (above + e.offset + back) rest chain h.1)
     where
-      never : (j over : ℕ) (ls : List Link) → IsChainFrom gs needs j over ls → AreParts task nodes reached ls [] [] → ⊥
+      never : (j over : ℕ) (ls : List Link) → IsChainFrom back gs needs j over ls → AreParts task nodes reached ls [] [] → ⊥
       never j over ls (ends _ _ p first) x = x
       never j over ls (goes _ _ d more none first c) x = x
   go_on_from i above links part (next ∷ parts) top (goes _ _ e rest no_end first chain) h =
       let at = (family.entered i e).0 first.is.0 in
       let link : Link = record { inst = i; node = e.node; depth = above + e.offset; way = Some e.way } in
-      let into : next.inst ≡ at.into = inst_from e.into (above + e.offset + 2) rest next parts chain h.1 at.into at.leads in
+      let into : next.inst ≡ at.into = inst_from e.into (above + e.offset + back) rest next parts chain h.1 at.into at.leads in
       let adds = adds_is i above e (rest ++ []) part top at h.0 in (
         elim at.edge [
           | inl q ↦
@@ -209,13 +214,13 @@ module _ (task : Task) (nodes reached : List Node) (gs : List GraphInst) (needs 
               inr (record {
                 root = x.inst;
                 place = x.place
-                    ∙ ap place.Recur (entry_from e.into (above + e.offset + 2) rest [] chain at.into at.leads (into_other i e at) ∙ ap (λ (k : InstKey). k.entry) (sym into));
+                    ∙ ap place.Recur (entry_from e.into (above + e.offset + back) rest [] chain at.into at.leads (into_other i e at) ∙ ap (λ (k : InstKey). k.entry) (sym into));
                 depth = e.offset;
                 cut = subst (λ (k : InstKey). cut_at task.assumptions k ≡ Some e.offset) (sym into) q.cut;
                 adds = adds;
               })
         ],
-        go_on_from e.into (above + e.offset + 2) rest next parts (top_next i e (above + e.offset + 2) at) chain h.1,
+        go_on_from e.into (above + e.offset + back) rest next parts (top_next i e (above + e.offset + back) at) chain h.1,
       )
 
 module _ (task : Task) (nodes : List Node) (x : Explanation) (e : Explains task nodes x) where
@@ -225,7 +230,7 @@ module _ (task : Task) (nodes : List Node) (x : Explanation) (e : Explains task 
   pub nests : (c : Claim) → IsFilled task c.nodes nodes → BeginsAtRoot task e.reached → Nest task c x.parts
   nests c filled root = by x.parts refl e.parts
     where
-      never : (links : List Link) → IsChainFrom e.deepest.graph e.deepest.needs 0 0 links → AreParts task nodes e.reached links [] [] → ⊥
+      never : (links : List Link) → IsChainFrom (back_of (device_of task.flash)) e.deepest.graph e.deepest.needs 0 0 links → AreParts task nodes e.reached links [] [] → ⊥
       never links (ends _ _ p first) h = h
       never links (goes _ _ d more none first c) h = h
 

@@ -6,6 +6,7 @@ use Rattle.std.specs.declared.cmp.Ordering.TheVariants.{Less}
 use Rattle.basics.specs.Lists.{one_at}
 use Rattle.basics.specs.Items.{none_in, first_in, further_in, first_or_further}
 use Rattle.edge_rules.specs.Places.{all_of}
+use Rattle.avr_model.specs.Devices.{device_of, back_of}
 use Rattle.mask_states.specs.declared.keys.InstKey.{InstKey}
 use Rattle.mask_states.specs.declared.keys.NodeKey.{NodeKey}
 use Rattle.mask_states.specs.Keys.{offset_of}
@@ -111,7 +112,7 @@ module _ (task : Task) (nodes : List Node) (ascend : IsStrictlySortedBy node_cmp
       let other : IsWay task nodes a.node.key.inst a.target b.walk =
       subst (λ (t : ℕ). IsWay task nodes a.node.key.inst t b.walk) (sym target) (subst (λ (n : Node). IsWay task nodes n.key.inst b.target b.walk) (sym node) b.way) in
       let inst : p.inst ≡ q.inst = a.inst ∙ (ap (λ (n : Node). n.key.inst) node ∙ sym b.inst) in
-      let adds : p.adds ≡ q.adds = a.adds ∙ (ap (λ (n : Node). adds_by (offset_of n.key.sp) link.way) node ∙ sym b.adds) in
+      let adds : p.adds ≡ q.adds = a.adds ∙ (ap (λ (n : Node). adds_by (back_of (device_of task.flash)) (offset_of n.key.sp) link.way) node ∙ sym b.adds) in
       let walk : a.walk ≡ b.walk = same_way a.node.key.inst a.target a.walk b.walk a.way other in
       let stands : p.place ≡ q.place = a.place ∙ ((λ k. place.Node (node k).key.pc (walk k)) ∙ sym b.place) in
       λ k. record { inst = inst k; place = stands k; adds = adds k }

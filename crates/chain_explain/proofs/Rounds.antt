@@ -7,6 +7,7 @@ use Rattle.std.specs.declared.cmp.Ordering.TheVariants.{Less}
 use Rattle.std.proofs.lemmas.Option.{none-some, same_Some}
 use Rattle.basics.specs.Items.{place_of_contained, none_in, first_in, further_in, first_or_further}
 use Rattle.abs_state.specs.Frames.{entered}
+use Rattle.avr_model.specs.Devices.{device_of, back_of}
 use Rattle.mask_states.specs.declared.keys.InstKey.{InstKey}
 use Rattle.mask_states.specs.declared.keys.NodeKey.{NodeKey}
 use Rattle.mask_states.specs.declared.keys.EdgeKind.{EdgeKind}
@@ -123,7 +124,7 @@ module _ (task : Task) (f : Family) (n : ℕ) (solved : IsSolved task n f) (law 
       let r : IsReached task (nodes_of f) m.key = subst (IsReached task (nodes_of f)) h.1.1 ((are.exact h.0).0 h.1.0).1 in
       (are.exact m).1 (member_has f m has, r)
 
-  module _ (gs : List GraphInst) (ranks needs : List ℕ) (family : IsGraphOf task reached gs) (least : IsLeast gs ranks needs) (root : slice_get (insts_of gs) 0 ≡ Some root_inst) where
+  module _ (gs : List GraphInst) (ranks needs : List ℕ) (family : IsGraphOf task reached gs) (least : IsLeast (back_of (device_of task.flash)) gs ranks needs) (root : slice_get (insts_of gs) 0 ≡ Some root_inst) where
     abbrev need : InstKey → ℕ
     need inst = valued (insts_of gs) needs inst
 
@@ -151,7 +152,7 @@ module _ (task : Task) (f : Family) (n : ℕ) (solved : IsSolved task n f) (law 
           entered = below;
         }
       where
-        below : (a b : InstKey) (offset : ℕ) → NestEdge task (FamilyHas f) a b offset → offset + 2 + need b ≤ need a
+        below : (a b : InstKey) (offset : ℕ) → NestEdge task (FamilyHas f) a b offset → offset + back_of (device_of task.flash) + need b ≤ need a
         below a b offset (by_node n way back has same is_at e whole) =
             let i = number n has in
             let at = place_of_contained reached n (all_reached n has) in

@@ -1,5 +1,6 @@
 -- The explanation of a certificate: the deepest chain over the reached nodes, and the path to each place. Source: own.
 use Rattle.std.specs.Prelude.{ℕ, ◌+◌, ◌≡◌, ⊤, List, [], ◌∷◌, ◌++◌, Option, Some, None, slice_get}
+use Rattle.avr_model.specs.Devices.{device_of, back_of}
 use Rattle.mask_states.specs.Keys.{root_inst, offset_of}
 use Rattle.local_rules.specs.declared.local.Node.{Node}
 use Rattle.edge_rules.specs.Expansion.{IsFilled}
@@ -15,10 +16,10 @@ use Rattle.chain_explain.specs.Reached.{AreReached}
 use Rattle.chain_explain.specs.Walks.{IsWay}
 use Rattle.local_rules.specs.Site.{Task}
 
--- the bytes of a link: its offset, and two for the return address if the chain goes on into another instance
-abbrev pub adds_by : ℕ → Option Way → ℕ
-adds_by offset None = offset
-adds_by offset (Some way) = offset + 2
+-- the bytes of a link: its offset, and the `back` bytes of a return address if the chain goes on into another instance
+abbrev pub adds_by : ℕ → ℕ → Option Way → ℕ
+adds_by back offset None = offset
+adds_by back offset (Some way) = offset + back
 
 -- the part for a link of the chain at a node of the reached nodes
 pub record IsNodePart (task : Task) (nodes reached : List Node) (link : Link) (part : Part) : Type 0 where
@@ -27,7 +28,7 @@ pub record IsNodePart (task : Task) (nodes reached : List Node) (link : Link) (p
   pub inst : part.inst ≡ node.key.inst
   pub walk : List ℕ
   pub place : part.place ≡ place.Node node.key.pc walk
-  pub adds : part.adds ≡ adds_by (offset_of node.key.sp) link.way
+  pub adds : part.adds ≡ adds_by (back_of (device_of task.flash)) (offset_of node.key.sp) link.way
   pub target : ℕ
   pub is : slice_get nodes target ≡ Some node
   pub way : IsWay task nodes node.key.inst target walk
@@ -42,13 +43,13 @@ entry_next reached [] = 0
 entry_next reached (link ∷ links) = entry_at (slice_get reached link.node)
 
 -- the part for a recur link of the chain, which these links follow
-pub record IsRecurPart (reached : List Node) (link : Link) (rest : List Link) (part : Part) : Type 0 where
+pub record IsRecurPart (back : ℕ) (reached : List Node) (link : Link) (rest : List Link) (part : Part) : Type 0 where
   pub inst : part.inst ≡ root_inst
   pub place : part.place ≡ place.Recur (entry_next reached rest)
-  pub adds : part.adds ≡ link.depth + 2
+  pub adds : part.adds ≡ link.depth + back
 
 abbrev pub IsPartBy : Task → List Node → List Node → Link → List Link → Part → Option Way → Type 0
-IsPartBy task nodes reached link rest part (Some Recur) = IsRecurPart reached link rest part
+IsPartBy task nodes reached link rest part (Some Recur) = IsRecurPart (back_of (device_of task.flash)) reached link rest part
 IsPartBy task nodes reached link rest part (Some (Enters kind)) = IsNodePart task nodes reached link part
 IsPartBy task nodes reached link rest part None = IsNodePart task nodes reached link part
 

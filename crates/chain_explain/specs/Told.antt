@@ -1,6 +1,7 @@
 -- What an explanation shows.
 use Rattle.std.specs.Prelude.{ℕ, ◌+◌, ◌≡◌, ◌≤◌, ◌⊎◌, List, [], ◌∷◌, Option, slice_get, Some}
 use Rattle.std.specs.List.{sum_by}
+use Rattle.avr_model.specs.Devices.{device_of, back_of}
 use Rattle.mask_states.specs.declared.keys.EdgeKind.{EdgeKind}
 use Rattle.mask_states.specs.declared.keys.SpForm.TheVariants.{Closed}
 use Rattle.mask_states.specs.Keys.{root_inst, cut_at}
@@ -40,7 +41,7 @@ pub record EntersNext (task : Task) (nodes : List Node) (part next : Part) : Typ
   pub place : Node
   pub offset : ℕ
   pub is : IsPlace task nodes part place offset
-  pub adds : part.adds ≡ offset + 2
+  pub adds : part.adds ≡ offset + back_of (device_of task.flash)
   pub way : EdgeKind
   pub back : ℕ
   pub enters : Enters task place way next.inst back
@@ -51,7 +52,7 @@ pub record RecursNext (task : Task) (part next : Part) : Type 0 where
   pub place : part.place ≡ place.Recur next.inst.entry
   pub depth : ℕ
   pub cut : cut_at task.assumptions next.inst ≡ Some depth
-  pub adds : part.adds ≡ depth + 2
+  pub adds : part.adds ≡ depth + back_of (device_of task.flash)
 
 -- each part leads into the next, up to the last
 abbrev pub GoOn : Task → List Node → Part → List Part → Type 0

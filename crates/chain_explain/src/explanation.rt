@@ -19,7 +19,7 @@ pub struct Part {
     pub inst: InstKey,
     /// The place.
     pub place: PartPlace,
-    /// The bytes that the link adds: the offset at its place or the depth of the line, and two for the return address if the chain
+    /// The bytes that the link adds: the offset at its place or the depth of the line, and those of a return address if the chain
     /// continues.
     pub adds: u16,
 }

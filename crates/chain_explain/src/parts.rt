@@ -18,14 +18,14 @@ use mask_states::{InstKey, NodeKey};
 use nesting_bound::{Link, Way};
 use std::alloc::AllocError;
 
-// The bytes that a link at this node adds.
-fn adds(key: &NodeKey, way: Option<Way>) -> u16
+// The bytes that a link at this node adds; a return address takes `back` bytes.
+fn adds(key: &NodeKey, way: Option<Way>, back: u8) -> u16
     requires { offset_of key.now.sp ≤ SIZE }
-    ensures { result ≡ adds_by (offset_of key.now.sp) way }
+    ensures { result ≡ adds_by back (offset_of key.now.sp) way }
 {
     match way {
         None => key.sp.offset(),
-        Some(_) => key.sp.offset() + 2,
+        Some(_) => key.sp.offset() + u16::from(back),
     }
 }
 
@@ -47,7 +47,7 @@ fn node_part(
     Ok(Part {
         inst: key.inst,
         place: PartPlace::Node(key.pc, walk),
-        adds: adds(key, link.way),
+        adds: adds(key, link.way, task.flash.device().back()),
     })
 }
 
@@ -82,7 +82,7 @@ fn part(
         Some(Way::Recur) => Ok(Part {
             inst: InstKey::root(),
             place: PartPlace::Recur(entry_next(reached, rest)),
-            adds: link.depth + 2,
+            adds: link.depth + u16::from(task.flash.device().back()),
         }),
         Some(Way::Enters(_)) | None => node_part(task, family, reached, link),
     }

@@ -5,28 +5,27 @@ use Rattle.std.proofs.lemmas.Bool.{cases_lt}
 use Rattle.std.proofs.lemmas.Bool.Decides.{nat_tests}
 use Rattle.std.proofs.lemmas.Option.{same_Some}
 use Rattle.basics.specs.Numbers.{less_from_test}
-use Rattle.local_laws.proofs.AllLaws.{IsEven, bare_frame, base_pair, may_stand, pair_permitted, constant_is, lowered_is, raised_is, word_is}
+use Rattle.local_laws.proofs.AllLaws.{IsEven, bare_frame, base_pair, may_stand, pair_permitted}
+use Rattle.local_laws.proofs.PointerReads.{number_is, frame_is}
 use Rattle.avr_model.specs.declared.device.Device.{Device}
 use Rattle.avr_model.specs.declared.instruction.Base.{Base}
 use Rattle.avr_model.specs.declared.instruction.Pointer.{Pointer}
 use Rattle.avr_model.specs.declared.instruction.Pointer.TheVariants as pointer
-use Rattle.avr_model.specs.Devices.{io_end, ramend}
+use Rattle.avr_model.specs.Devices.{io_end, ramend, has_sph}
 use Rattle.avr_model.proofs.AllLaws.{devices_are_alike}
 use Rattle.avr_model.specs.Sites.{base_register, pointer_register}
-use Rattle.avr_model.specs.State.{State, register, pair, low, high, plus16, minus16}
+use Rattle.avr_model.specs.State.{State, register, pair, low, plus16, minus16}
 use Rattle.avr_model.specs.Effects as effects
-use Rattle.bit_domain.specs.TriByte.{byte_constant}
-use Rattle.sp_domain.specs.Tags.{Origin, TagHolds, frame_of}
-use Rattle.sp_domain.specs.Laws.{PairHolds}
-use Rattle.sp_domain.proofs.AllLaws.{pairs_are_true}
+use Rattle.sp_domain.specs.Tags.{Origin}
 use Rattle.abs_state.specs.declared.state.AbsState.{AbsState}
 use Rattle.abs_state.specs.Stands.{ByteStands}
 use Rattle.mask_states.specs.declared.keys.NodeKey.{NodeKey}
 use Rattle.mask_states.specs.declared.keys.Kind.{Kind}
 use Rattle.mask_states.specs.declared.keys.Kind.TheVariants.{Root, Call, Vector}
 use Rattle.local_rules.specs.declared.pointers.Pointed.{Pointed}
-use Rattle.local_rules.specs.Registers.{value, bits}
-use Rattle.local_rules.specs.Reads.{pair_constant, pointed}
+use Rattle.local_rules.specs.HighBytes.{view_by}
+use Rattle.local_rules.specs.Registers.{value}
+use Rattle.local_rules.specs.Reads.{pointed}
 use Rattle.local_rules.specs.Local.{step_before}
 use Rattle.local_rules.specs.Writes.{is_own_slot}
 use Rattle.mask_states.specs.Keys.{offset_of}
@@ -171,7 +170,8 @@ number_slot device (Some x) base a d top is e = by (nat_le x (ramend device)) re
     by true at e = fold (ramend device) base a d x (top_small device) top (grind (arith, nat_tests)) (same_Some _ d e) (is x refl)
     by false at e = absurd (cc)
 
-module _ {followed may : Bool} (m : State) (o : Origin) (k : NodeKey) (s : AbsState) (at : InFrameIn followed may m o k s) where
+module _ {followed may : Bool} (m : State) (o : Origin) (k : NodeKey) (s : AbsState) (at : InFrameIn followed may m o k s)
+    (sees : has_sph m.device ≡ false → may ≡ true) where
   stands : (r : ℕ) → r < 32 → ByteStands o (value s r) (register m r)
   stands r lt = at.stands.registers r lt
 
@@ -193,35 +193,14 @@ module _ {followed may : Bool} (m : State) (o : Origin) (k : NodeKey) (s : AbsSt
         spans (first_byte (value s r)) (first_byte (value s (r + 1))) (last_byte (value s r)) (last_byte (value s (r + 1))) (register m r) (register m (r + 1))
         (first_at r first_there) (first_at (r + 1) there) (last_at r first_there) (last_at (r + 1) there)
 
-    low_is : register m r ≡ low (pair m r)
-    low_is = omega (arith, (stands r first_there).small)
-
-    high_is : register m (r + 1) ≡ high (pair m r)
-    high_is = omega (arith, (stands r first_there).small)
-
     permitted_back : IsEven r → (p : ℕ) → p ≡ pair m r → permits_number s r p ≡ true
-    permitted_back even p same = ap (permits_number s r) same ∙ pair_permitted m o k s (bare_frame m o k s at) r (there, even)
+    permitted_back even p same = ap (permits_number s r) same ∙ pair_permitted m o k s (bare_frame m o k s sees at) r (there, even)
 
-    pair_holds : PairHolds o (value s r).tag (value s (r + 1)).tag (pair m r)
-    pair_holds =
-        record {
-          low = subst (TagHolds o (value s r).tag) low_is (stands r first_there).tag;
-          high = subst (TagHolds o (value s (r + 1)).tag) high_is (stands (r + 1) there).tag;
-        }
+  number_at : (r up a : ℕ) → (pointed (view_by m.device k) s r up).constant ≡ Some a → plus16 (pair m r) up ≡ a
+  number_at r up a e = number_is m o k s (bare_frame m o k s sees at) r up a e
 
-    constant_there : (c : ℕ) → pair_constant s r ≡ Some c → pair m r ≡ c
-    constant_there c e =
-        word_is (byte_constant (bits s r)) (byte_constant (bits s (r + 1))) (register m r) (register m (r + 1)) c
-        (λ b is. constant_is (bits s r) (register m r) b is (stands r first_there).small (stands r first_there).bits)
-        (λ b is. constant_is (bits s (r + 1)) (register m (r + 1)) b is (stands (r + 1) there).small (stands (r + 1) there).bits) e
-
-    number_is : (up a : ℕ) → (pointed s r up).constant ≡ Some a → plus16 (pair m r) up ≡ a
-    number_is up a e = raised_is (pair_constant s r) (pair m r) up a constant_there e
-
-    frame_is : (up d : ℕ) → (pointed s r up).frame ≡ Some d → plus16 (pair m r) up ≡ minus16 o.base d
-    frame_is up d e =
-        lowered_is (frame_of (value s r).tag (value s (r + 1)).tag) o.base (pair m r) up d
-        (λ j is. pairs_are_true.frame o (value s r).tag (value s (r + 1)).tag (pair m r) j pair_small pair_holds is) e
+  frame_at : (r up d : ℕ) → (pointed (view_by m.device k) s r up).frame ≡ Some d → plus16 (pair m r) up ≡ minus16 o.base d
+  frame_at r up d e = frame_is m o k s (bare_frame m o k s sees at) r up d e
 
   -- the slot at an address
   slot_is : (kind : Kind) → k.inst.kind ≡ kind → (p : Pointed) (a d : ℕ) → ((x : ℕ) → p.constant ≡ Some x → a ≡ x)
@@ -230,28 +209,28 @@ module _ {followed may : Bool} (m : State) (o : Origin) (k : NodeKey) (s : AbsSt
   slot_is Call is p a d constant frame e = frame d e
   slot_is (Vector v) is p a d constant frame e = frame d e
 
-  pointed_slot : (r : ℕ) → r + 1 < 32 → (up d : ℕ) → slot_aimed m.device k.inst.kind (pointed s r up) ≡ Some d → plus16 (pair m r) up ≡ minus16 o.base d
+  pointed_slot : (r : ℕ) → r + 1 < 32 → (up d : ℕ) → slot_aimed m.device k.inst.kind (pointed (view_by m.device k) s r up) ≡ Some d → plus16 (pair m r) up ≡ minus16 o.base d
   pointed_slot r there up d =
-      slot_is k.inst.kind refl (pointed s r up) (plus16 (pair m r) up) d (number_is r there up) (frame_is r there up)
+      slot_is k.inst.kind refl (pointed (view_by m.device k) s r up) (plus16 (pair m r) up) d (number_at r up) (frame_at r up)
 
   -- ---- the three stores
 
   displaced_at : (r : ℕ) → r + 1 < 32 → (q : ℕ)
-      → IsAimed o.base (record { reach = raised (pair_span s r) q; slot = slot_aimed m.device k.inst.kind (pointed s r q) }) (plus16 (pair m r) q)
+      → IsAimed o.base (record { reach = raised (pair_span s r) q; slot = slot_aimed m.device k.inst.kind (pointed (view_by m.device k) s r q) }) (plus16 (pair m r) q)
   displaced_at r there q = record { reach = raised_reached (pair_span s r) q (pair m r) (pair_spanned r there); slot = pointed_slot r there q }
 
   pub displaced : (b : Base) (q : ℕ)
-      → IsAimed o.base (record { reach = raised (pair_span s (base_register b)) q; slot = slot_aimed m.device k.inst.kind (pointed s (base_register b) q) })
+      → IsAimed o.base (record { reach = raised (pair_span s (base_register b)) q; slot = slot_aimed m.device k.inst.kind (pointed (view_by m.device k) s (base_register b) q) })
       (plus16 (pair m (base_register b)) q)
   displaced b q = displaced_at (base_register b) (base_pair b).0 q
 
-  plain : (r : ℕ) → r + 1 < 32 → IsAimed o.base (record { reach = raised (pair_span s r) 0; slot = slot_aimed m.device k.inst.kind (pointed s r 0) }) (pair m r)
+  plain : (r : ℕ) → r + 1 < 32 → IsAimed o.base (record { reach = raised (pair_span s r) 0; slot = slot_aimed m.device k.inst.kind (pointed (view_by m.device k) s r 0) }) (pair m r)
   plain r there =
-      subst (IsAimed o.base (record { reach = raised (pair_span s r) 0; slot = slot_aimed m.device k.inst.kind (pointed s r 0) }))
+      subst (IsAimed o.base (record { reach = raised (pair_span s r) 0; slot = slot_aimed m.device k.inst.kind (pointed (view_by m.device k) s r 0) }))
       (no_more (pair m r) (pair_small r there)) (displaced_at r there 0)
 
   before : (r : ℕ) → r + 1 < 32
-      → IsAimed o.base (record { reach = lowered (pair_span s r); slot = slot_aimed m.device k.inst.kind (pointed s r 65535) }) (minus16 (pair m r) 1)
+      → IsAimed o.base (record { reach = lowered (pair_span s r); slot = slot_aimed m.device k.inst.kind (pointed (view_by m.device k) s r 65535) }) (minus16 (pair m r) 1)
   before r there =
       record {
         reach = lowered_reached (pair_span s r) (pair m r) (pair_small r there) (pair_spanned r there);
@@ -259,7 +238,7 @@ module _ {followed may : Bool} (m : State) (o : Origin) (k : NodeKey) (s : AbsSt
       }
 
   pub by_pointer : (p : Pointer)
-      → IsAimed o.base (record { reach = pointer_reach p s; slot = slot_aimed m.device k.inst.kind (pointed s (pointer_register p) (step_before p)) })
+      → IsAimed o.base (record { reach = pointer_reach p s; slot = slot_aimed m.device k.inst.kind (pointed (view_by m.device k) s (pointer_register p) (step_before p)) })
       (effects.pointed p (pair m (pointer_register p)))
   by_pointer pointer.ZPlus = plain 30 (omega arith)
   by_pointer pointer.MinusZ = before 30 (omega arith)
@@ -288,24 +267,24 @@ module _ {followed may : Bool} (m : State) (o : Origin) (k : NodeKey) (s : AbsSt
       by false e = refl
       by true e =
           let lt = less_from_test d (offset_of k.sp) e in
-          absurd (omega (arith, is d refl, lt, at.room on, at.base_word, low))
+          absurd (omega (arith, is d refl, lt, at.room on, (bare_frame m o k s sees at).base_word, low))
 
   frame_off : (r : ℕ) → r + 1 < 32 → (up a : ℕ) → plus16 (pair m r) up ≡ a → may ≡ true → a ≤ io_end m.device
-      → not (is_own_slot (pointed s r up).frame (offset_of k.sp)) ≡ true
-  frame_off r there up a same on low = off_frame (pointed s r up).frame a (λ d e. sym same ∙ frame_is r there up d e) on low
+      → not (is_own_slot (pointed (view_by m.device k) s r up).frame (offset_of k.sp)) ≡ true
+  frame_off r there up a same on low = off_frame (pointed (view_by m.device k) s r up).frame a (λ d e. sym same ∙ frame_at r up d e) on low
 
   pub displaced_off : (b : Base) (q : ℕ) → may ≡ true → plus16 (pair m (base_register b)) q ≤ io_end m.device
-      → not (is_own_slot (pointed s (base_register b) q).frame (offset_of k.sp)) ≡ true
+      → not (is_own_slot (pointed (view_by m.device k) s (base_register b) q).frame (offset_of k.sp)) ≡ true
   displaced_off b q on low = frame_off (base_register b) (base_pair b).0 q _ refl on low
 
-  plain_off : (r : ℕ) → r + 1 < 32 → may ≡ true → pair m r ≤ io_end m.device → not (is_own_slot (pointed s r 0).frame (offset_of k.sp)) ≡ true
+  plain_off : (r : ℕ) → r + 1 < 32 → may ≡ true → pair m r ≤ io_end m.device → not (is_own_slot (pointed (view_by m.device k) s r 0).frame (offset_of k.sp)) ≡ true
   plain_off r there on low = frame_off r there 0 _ (no_more (pair m r) (pair_small r there)) on low
 
-  before_off : (r : ℕ) → r + 1 < 32 → may ≡ true → minus16 (pair m r) 1 ≤ io_end m.device → not (is_own_slot (pointed s r 65535).frame (offset_of k.sp)) ≡ true
+  before_off : (r : ℕ) → r + 1 < 32 → may ≡ true → minus16 (pair m r) 1 ≤ io_end m.device → not (is_own_slot (pointed (view_by m.device k) s r 65535).frame (offset_of k.sp)) ≡ true
   before_off r there on low = frame_off r there 65535 _ (one_less (pair m r) (pair_small r there)) on low
 
   pub pointer_off : (p : Pointer) → may ≡ true → effects.pointed p (pair m (pointer_register p)) ≤ io_end m.device
-      → not (is_own_slot (pointed s (pointer_register p) (step_before p)).frame (offset_of k.sp)) ≡ true
+      → not (is_own_slot (pointed (view_by m.device k) s (pointer_register p) (step_before p)).frame (offset_of k.sp)) ≡ true
   pointer_off pointer.ZPlus = plain_off 30 (omega arith)
   pointer_off pointer.MinusZ = before_off 30 (omega arith)
   pointer_off pointer.YPlus = plain_off 28 (omega arith)

@@ -1,14 +1,13 @@
 -- A call that is flagged for its depth enters a word that the node calls, and that has a `recur` line.
-use Rattle.std.proofs.Common.{◌≡◌, refl, sym, ap, ◌∙◌, subst, ℕ, ◌+◌, ◌*◌, ◌<◌, Bool, true, false, not, ◌&&◌, ◌||◌, nat_lt, if◌then◌else◌, List, [], ◌∷◌, Option, Some, None, ⊎_elim, Contains, arith}
+use Rattle.std.proofs.Common.{◌≡◌, refl, sym, ap, ◌∙◌, subst, ℕ, ◌<◌, Bool, true, false, not, if◌then◌else◌, List, [], ◌∷◌, Option, Some, None, ⊎_elim, Contains}
 use Rattle.std.specs.List.{list_any}
-use Rattle.std.proofs.lemmas.Bool.{and_parts, not-true, or_left, or_right}
+use Rattle.std.proofs.lemmas.Bool.{not-true, or_left, or_right}
 use Rattle.basics.specs.Items.{none_in, first_or_further}
 use Rattle.avr_model.specs.declared.device.Device.{Device}
-use Rattle.avr_model.specs.declared.assumption.Entry.{Entry}
 use Rattle.avr_model.specs.declared.instruction.Instr.{Instr}
 use Rattle.avr_model.specs.declared.instruction.Instr.TheVariants as i
 use Rattle.avr_model.specs.Assumptions.{jump_line, recur_line}
-use Rattle.avr_model.specs.Devices.{wrapped, device_of}
+use Rattle.avr_model.specs.Devices.{has_sph, wrapped, device_of}
 use Rattle.avr_model.specs.Sites.{is_scratch}
 use Rattle.avr_model.specs.State.{State, fall, register, pair}
 use Rattle.avr_model.specs.Step.{unless_listed, unlisted_transfer, is_call, unless_within, deep_call}
@@ -20,12 +19,12 @@ use Rattle.sp_domain.specs.Tags.{Origin}
 use Rattle.local_rules.specs.Raw.{fails, untracked_if}
 use Rattle.local_rules.specs.declared.local.NodeFault.{NodeFault}
 use Rattle.local_rules.specs.Registers.{bits, before}
-use Rattle.local_rules.specs.Flow.{is_half_written, words_on, targets_by, targets_at, indirect_call}
+use Rattle.local_rules.specs.Flow.{is_half_written, words_on, targets_at, indirect_call}
 use Rattle.local_rules.specs.Cover.{InFrameIn, effect_by}
 use Rattle.local_rules.specs.Site.{Task, site_at}
 use Rattle.local_laws.proofs.AllLaws.{bare_frame, register_stands}
 use Rattle.local_laws.proofs.Targets.{word_permitted, targets_have}
-use Rattle.clear_laws.specs.Clear.{has_depth, or_none, is_cut, called_words, calls_cut}
+use Rattle.clear_laws.specs.Clear.{has_depth, or_none, is_cut, calls_cut}
 use Rattle.clear_laws.proofs.Rows.{IsPlainRow}
 
 -- ---- members
@@ -58,10 +57,10 @@ has_targets : (device : Device) (k : NodeKey) (found : Option (List ℕ)) → (i
 has_targets device k None h = absurd (unresolved (is_half_written k.sp) k.pc _ h)
 has_targets device k (Some targets) h = (targets, refl)
 
-module _ {followed may : Bool} (task : Task) (m : State) (o : Origin) (k : NodeKey) (s : AbsState) (at : InFrameIn followed may m o k s) (b1 b2 : ℕ)
-    (device : m.device ≡ device_of task.flash) where
+module _ {followed may : Bool} (task : Task) (m : State) (o : Origin) (k : NodeKey) (s : AbsState) (at : InFrameIn followed may m o k s)
+    (sees : has_sph m.device ≡ false → may ≡ true) (b1 b2 : ℕ) (device : m.device ≡ device_of task.flash) where
   z_has : (r : ℕ) → Has (bits s r) (register m r)
-  z_has r = (register_stands m o k s (bare_frame m o k s at) r).bits
+  z_has r = (register_stands m o k s (bare_frame m o k s sees at) r).bits
 
   -- Z is one of the words that the node's bits permit
   z_permitted : register m 30 < 256 → register m 31 < 256 → Contains (words_on (device_of task.flash) (bits s 30) (bits s 31)) (wrapped (device_of task.flash) (pair m 30))

@@ -16,7 +16,7 @@ use Rattle.avr_model.specs.Assumptions.{is_never, is_fixed_site}
 use Rattle.avr_model.specs.Masks.{is_flagged_write}
 use Rattle.avr_model.specs.declared.rows.Ivsel.{Ivsel}
 use Rattle.avr_model.specs.Devices.{device_row, io_end, ramend, device_of}
-use Rattle.avr_model.specs.Sites.{instruction_at, is_scratch}
+use Rattle.avr_model.specs.Sites.{instruction_at}
 use Rattle.avr_model.specs.State.{State, is_live}
 use Rattle.avr_model.specs.Vectors.{vector_word}
 use Rattle.avr_model.specs.Step.{Overflow, Flagged, after, all_inside, live_write, flagged_write, protected_write, unlisted_transfer, deep_call, first_of, refused_transfer, moves_vectors, is_pointer_store, is_indirect, is_call, is_refused, is_guarding, flag_by, flagged_or, may_take, go, step}

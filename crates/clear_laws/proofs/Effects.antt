@@ -11,7 +11,7 @@ use Rattle.avr_model.specs.declared.instruction.ImmediateOp.TheVariants as immed
 use Rattle.avr_model.specs.declared.instruction.UnaryOp.{UnaryOp}
 use Rattle.avr_model.specs.declared.instruction.UnaryOp.TheVariants as unary
 use Rattle.avr_model.specs.declared.effect.Effect.{Effect}
-use Rattle.avr_model.specs.Devices.{Program, io_end, wrapped}
+use Rattle.avr_model.specs.Devices.{Program, io_end, has_sph, wrapped}
 use Rattle.avr_model.specs.Text.{far}
 use Rattle.avr_model.specs.State.{State, register}
 use Rattle.avr_model.specs.Effects.{set, port, way_back, binary_effect, immediate_effect, unary_effect, effect_of}
@@ -49,7 +49,7 @@ IsSpWhole sp = (offset : ℕ) × (sp ≡ Closed offset)
 
 -- If the byte sets IVSEL at this address, the instruction may write there, and its bits permit the byte.
 abbrev pub MaySetTo : Bool → Device → NodeKey → AbsState → Instr → ℕ → ℕ → Type 0
-MaySetTo may device k s instr a byte = may ≡ true → sets_ivsel device a byte ≡ true → (may_reach k s instr a ≡ true) × Has (written_bits s instr) byte
+MaySetTo may device k s instr a byte = may ≡ true → sets_ivsel device a byte ≡ true → (may_reach device k s instr a ≡ true) × Has (written_bits s instr) byte
 
 -- The stores and pushes of an instruction: none; a byte in I/O; a byte within its aim, at a permitted address; a register pushed; or a
 -- return address pushed. It pushes only if the stack pointer is whole, at a node without a fault. A guarded call has no successor in its
@@ -63,7 +63,7 @@ pub data Does (may : Bool) (device : Device) (m : State) (base : ℕ) (k : NodeK
   pushing : (byte : ℕ) → is_push instr ≡ true → pushes instr ≡ true → (row.faults ≡ [] → IsSpWhole k.sp) → e.is_open ≡ false → e.stores ≡ []
       → e.pushes ≡ set m.sp byte → Does may device m base k s instr e row guarded_row
   entering : (back : ℕ) → guarded_row.moves ≡ [] → pushes instr ≡ true → (row.faults ≡ [] → IsSpWhole k.sp) → e.is_open ≡ false → e.stores ≡ []
-      → e.pushes ≡ way_back m.sp back → Does may device m base k s instr e row guarded_row
+      → e.pushes ≡ way_back device m.sp back → Does may device m base k s instr e row guarded_row
 
 -- ---- nodes with no fault
 
@@ -143,13 +143,14 @@ module _ (words : Program) (m : State) where
 
 -- ---- the table, where the row is that of a state t of which the node may have forgotten something
 
-module _ {followed may : Bool} (task : Task) (m : State) (o : Origin) (k : NodeKey) (s t : AbsState) (at : InFrameIn followed may m o k s) (scratch : Bool) (b1 b2 : ℕ) where
+module _ {followed may : Bool} (task : Task) (m : State) (o : Origin) (k : NodeKey) (s t : AbsState) (at : InFrameIn followed may m o k s)
+    (sees : has_sph m.device ≡ false → may ≡ true) (scratch : Bool) (b1 b2 : ℕ) where
   abbrev DoesBy : Device → Instr → Type 0
   DoesBy device instr =
       Does may device m o.base k s instr (effect_of task.flash may m instr b1 b2) (row_of task scratch (site_at device k t) instr) (row_of task false (site_at device k t) instr)
 
   holds : (r : ℕ) → Has (bits s r) (register m r)
-  holds r = (register_stands m o k s (bare_frame m o k s at) r).bits
+  holds r = (register_stands m o k s (bare_frame m o k s sees at) r).bits
 
   any_holds : (x : ℕ) → Has byte_any x
   any_holds x = bytes_are_sets.built (λ i. Any) x (λ i lt. tt)
@@ -172,14 +173,14 @@ module _ {followed may : Bool} (task : Task) (m : State) (o : Origin) (k : NodeK
   does_by (i.Bst d b) fits = nothing refl refl
   does_by (i.Ldd d b q) fits = nothing refl refl
   does_by (i.Std b q r) fits =
-      by_aim _ _ _ refl (displaced m o k s at b q) (displaced_permitted m o k s at b q) (holds r)
-      (λ on sets. (and_from _ _ (displaced_permitted m o k s at b q) (displaced_off m o k s at b q on (ivsel_low m.device _ _ sets)), holds r)) refl refl
+      by_aim _ _ _ refl (displaced m o k s at sees b q) (displaced_permitted m o k s at sees b q) (holds r)
+      (λ on sets. (and_from _ _ (displaced_permitted m o k s at sees b q) (displaced_off m o k s at sees b q on (ivsel_low m.device _ _ sets)), holds r)) refl refl
   does_by (i.Lds d a) fits = nothing refl refl
-  does_by (i.Sts a r) fits = by_aim _ _ _ refl (direct m o k s at a) (equals_itself a) (any_holds _) (λ on sets. (equals_itself a, holds r)) refl refl
+  does_by (i.Sts a r) fits = by_aim _ _ _ refl (direct m o k s at sees a) (equals_itself a) (any_holds _) (λ on sets. (equals_itself a, holds r)) refl refl
   does_by (i.Ld d p) fits = nothing refl refl
   does_by (i.St p r) fits =
-      by_aim _ _ _ refl (by_pointer m o k s at p) (pointer_permitted m o k s at p) (holds r)
-      (λ on sets. (and_from _ _ (pointer_permitted m o k s at p) (pointer_off m o k s at p on (ivsel_low m.device _ _ sets)), holds r)) refl refl
+      by_aim _ _ _ refl (by_pointer m o k s at sees p) (pointer_permitted m o k s at sees p) (holds r)
+      (λ on sets. (and_from _ _ (pointer_permitted m o k s at sees p) (pointer_off m o k s at sees p on (ivsel_low m.device _ _ sets)), holds r)) refl refl
   does_by (i.LpmZ d) fits = nothing refl refl
   does_by (i.ElpmZ d) fits = nothing refl refl
   does_by (i.LpmZPlus d) fits = nothing refl refl

@@ -3,7 +3,7 @@ use Rattle.std.proofs.Common.{◌≡◌, refl, sym, ap, ◌∙◌, subst, ℕ, �
 use Rattle.std.specs.Prelude.{⊤}
 use Rattle.basics.specs.Items.{none_in}
 use Rattle.avr_model.proofs.AllLaws.{devices_are_alike}
-use Rattle.avr_model.specs.Devices.{ramend, device_of}
+use Rattle.avr_model.specs.Devices.{ramend, back_of, device_of}
 use Rattle.avr_model.specs.declared.choice.Choice.{Choice}
 use Rattle.avr_model.specs.declared.choice.Choice.TheVariants.{Go, Take}
 use Rattle.avr_model.specs.State.{State, Memory, is_live}
@@ -82,7 +82,7 @@ module _ (task : Task) (f : RankedFamily) (sound : IsSoundFamily task f) where
 
   -- suspended frames keep this if no byte above the next return address became live
   left_held : (memory old new : Memory) (gs : List Frame) (inst : InstKey) (o : Origin) → AreLeft task f memory gs inst o
-      → ((a : ℕ) → o.base + 2 < a → is_live new a ≡ true → is_live old a ≡ true) → AreFramesHeld task f.nodes old gs → AreFramesHeld task f.nodes new gs
+      → ((a : ℕ) → o.base + back_of (device_of task.flash) < a → is_live new a ≡ true → is_live old a ≡ true) → AreFramesHeld task f.nodes old gs → AreFramesHeld task f.nodes new gs
   left_held memory old new [] inst o left was held = tt
   left_held memory old new (g ∷ gs) inst o left was held =
       let offset : offset_of g.node.key.sp ≡ left.0.offset = ap offset_of left.0.closed in (

@@ -1,4 +1,5 @@
 pub mod Memory
+pub mod Pushed
 pub mod Ports
 pub mod Moving
 pub mod Aims

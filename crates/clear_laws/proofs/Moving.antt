@@ -1,5 +1,5 @@
 -- Writes that set IVSEL.
-use Rattle.std.proofs.Common.{◌≡◌, refl, sym, ap, ◌∙◌, subst, ℕ, ◌+◌, ◌<◌, ◌≤◌, ◌==◌, Bool, true, false, ◌&&◌, ◌||◌, List, [], Option, Some, None, eqb-true, arith}
+use Rattle.std.proofs.Common.{◌≡◌, refl, sym, ap, ◌∙◌, ℕ, ◌≤◌, ◌==◌, Bool, true, false, ◌&&◌, ◌||◌, List, [], Option, Some, None, eqb-true, arith}
 use Rattle.std.specs.Int.{bit_at}
 use Rattle.std.proofs.lemmas.Bool.{and_parts, and_from}
 use Rattle.basics.specs.Numbers.{equals_itself}
@@ -7,8 +7,7 @@ use Rattle.avr_model.proofs.AllLaws.{ivsel_is_apart}
 use Rattle.avr_model.specs.declared.device.Device.{Device}
 use Rattle.avr_model.specs.declared.rows.Ivsel.{Ivsel}
 use Rattle.avr_model.specs.declared.effect.Write.{Write}
-use Rattle.avr_model.specs.declared.instruction.Instr.{Instr}
-use Rattle.avr_model.specs.Devices.{device_row, io_end, device_of}
+use Rattle.avr_model.specs.Devices.{device_row, io_end}
 use Rattle.avr_model.specs.Vectors.{is_bit_of, is_ivsel, sets_bit_of, sets_ivsel}
 use Rattle.avr_model.specs.Effects.{set}
 use Rattle.avr_model.specs.Step.{moves_vectors}
@@ -17,10 +16,7 @@ use Rattle.bit_domain.specs.declared.bits.Tri.TheVariants.{Zero, One, Any}
 use Rattle.bit_domain.specs.declared.bytes.TriByte.{TriByte}
 use Rattle.bit_domain.specs.Tri.{Permits, permits}
 use Rattle.bit_domain.specs.TriByte.{Has, tri_at}
-use Rattle.abs_state.specs.declared.state.AbsState.{AbsState}
-use Rattle.mask_states.specs.declared.keys.NodeKey.{NodeKey}
-use Rattle.clear_laws.specs.Clear.{may_reach, written_bits, may_set, may_move}
-use Rattle.local_rules.specs.Site.{Task, masks_by}
+use Rattle.clear_laws.specs.Clear.{may_set}
 
 -- the place that such a write hits
 record IsSetAt (o : Option Ivsel) (a byte : ℕ) : Type 0 where

@@ -7,7 +7,9 @@ use Rattle.avr_model.specs.declared.choice.Choice.{Choice}
 use Rattle.avr_model.specs.declared.choice.Choice.TheVariants.{Go, Take}
 use Rattle.avr_model.specs.declared.effect.Effect.{Effect}
 use Rattle.avr_model.specs.declared.effect.Write.{Write}
-use Rattle.avr_model.specs.Devices.{device_of}
+use Rattle.avr_model.proofs.AllLaws.{devices_are_alike}
+use Rattle.avr_model.specs.declared.device.Device.{Device}
+use Rattle.avr_model.specs.Devices.{device_of, has_sph}
 use Rattle.avr_model.specs.Sites.{instruction_at, is_scratch}
 use Rattle.avr_model.specs.State.{State, Memory, is_live}
 use Rattle.avr_model.specs.Effects.{way_back}
@@ -17,6 +19,7 @@ use Rattle.abs_state.specs.declared.state.AbsState.{AbsState}
 use Rattle.mask_states.specs.declared.keys.NodeKey.{NodeKey}
 use Rattle.mask_states.specs.declared.keys.SpForm.{SpForm}
 use Rattle.mask_states.specs.declared.keys.SpForm.TheVariants.{Closed}
+use Rattle.mask_states.specs.Keys.{offset_of}
 use Rattle.mask_states.specs.Place.{SpIs}
 use Rattle.local_rules.specs.Registers.{before}
 use Rattle.local_rules.specs.Local.{row_of}
@@ -24,6 +27,7 @@ use Rattle.edge_rules.specs.Edges.{raw_of}
 use Rattle.edge_rules.specs.Families.{RankedFamily, IsSoundFamily}
 use Rattle.edge_rules.specs.Frames.{Frame, Runs}
 use Rattle.clear_laws.specs.Held.{pushes_register, is_guarded_push}
+use Rattle.clear_laws.proofs.Pushed.{way_low, masked_by}
 use Rattle.clear_laws.proofs.Memory.{IsPushedAt, inside_if_live, live_comes, live_above}
 use Rattle.clear_laws.proofs.Ports.{ports_fit}
 use Rattle.clear_laws.proofs.Effects.{IsSpWhole, Does, nothing, to_port, by_aim, pushing, entering as enters, does}
@@ -97,12 +101,6 @@ above_by memory sp stores pushes a guarded false e h = live_above memory sp stor
 above_after : (m : State) (guarded : Bool) (e : Effect) → IsLiveAbove (after m guarded e)
 above_after m guarded e whole a h = above_by m.memory _ e.stores e.pushes a guarded _ whole h
 
--- a byte of the return address lies at the stack pointer or below
-way_low : (sp back base offset a : ℕ) → sp + offset ≡ base → a < 16896 → IsPushedAt (way_back sp back) a → a + offset ≤ base
-way_low sp back base offset a at inside (inl e) = omega arith
-way_low sp back base offset a at inside (inr (inl e)) = omega arith
-way_low sp back base offset a at inside (inr (inr e)) = absurd e
-
 guarded_by : (task : Task) (pc pc' : ℕ) (instr : Instr) → pc ≡ pc' → instruction_at task.flash pc ≡ Some instr → is_push instr ≡ true
     → is_guarding task.flash task.assumptions pc instr ≡ true → is_guarded_push task pc' ≡ true
 unfolding is_guarding
@@ -122,6 +120,20 @@ unscratched task pc instr h = guarding_first (is_scratch task.flash pc) (is_push
 
 pub whole_sp : (base : ℕ) (is_open : Bool) (sp offset : ℕ) (form : SpForm) → form ≡ Closed offset → SpIs base is_open sp form → sp + offset ≡ base
 whole_sp base is_open sp offset form e h = (subst (SpIs base is_open sp) e h).1
+
+-- a byte of a return address that is pushed in SRAM lies at the frame's slots or below
+module _ (task : Task) (f : RankedFamily) (m : State) (g : Frame) (gs : List Frame) (runs : Runs task f m g gs) (offset : ℕ) (form : g.node.key.sp ≡ Closed offset) where
+  here_sp : m.sp + offset ≡ g.origin.base
+  here_sp = whole_sp g.origin.base m.is_open m.sp offset g.node.key.sp form runs.running.place.sp
+
+  -- without SPH the stack pointer is above I/O
+  far_sp : has_sph m.device ≡ false → 3 ≤ m.sp
+  far_sp none =
+      omega (arith, runs.running.room (masked_by task m runs.device none), here_sp, ap offset_of form, devices_are_alike.least_io m.device)
+
+  pub way_below : (device : Device) → m.device ≡ device → (back a : ℕ) → a < 16896 → IsPushedAt (way_back device m.sp back) a → a + offset ≤ g.origin.base
+  way_below device same back a inside h =
+      way_low m.device m.sp back g.origin.base offset a here_sp runs.running.machine.sp_fits far_sp inside (subst (λ (d : Device). IsPushedAt (way_back d m.sp back) a) (sym same) h)
 
 module _ (task : Task) (f : RankedFamily) (sound : IsSoundFamily task f) (m n : State) (few : n.memory.below + length n.memory.live < 16896) (g : Frame) (gs : List Frame)
     (runs : Runs task f m g gs) where
@@ -164,7 +176,7 @@ module _ (task : Task) (f : RankedFamily) (sound : IsSoundFamily task f) (m n : 
     open_is = ap (λ (x : State). x.is_open) w.leads
 
     whole : effect.is_open ≡ false → effect.stores ≡ [] → n.is_open ≡ false
-    whole closed none = sym open_is ∙ ap₂ open_after closed none
+    whole closed none = sym open_is ∙ ap₂ (open_after m.device) closed none
 
     fresh : (a : ℕ) → a < 16896 → guards ≡ true → IsPushedAt effect.pushes a
         → Does (masks_by task) (device_of task.flash) m g.origin.base k g.node.state w.instr effect (row_of task scratch (site_at (device_of task.flash) k state) w.instr) (row_of task false (site_at (device_of task.flash) k state) w.instr)
@@ -188,7 +200,7 @@ module _ (task : Task) (f : RankedFamily) (sound : IsSoundFamily task f) (m n : 
         record {
           offset = form.0;
           closed = form.1;
-          low = way_low m.sp back g.origin.base form.0 a (at_sp form.0 form.1) inside (subst (λ ws. IsPushedAt ws a) pushes at);
+          low = way_below task f m g gs runs form.0 form.1 (device_of task.flash) runs.device back a inside (subst (λ ws. IsPushedAt ws a) pushes at);
           whole = whole closed stores;
           which = λ c1 c2 e. inr (still plain guarded none);
         }
@@ -199,8 +211,8 @@ module _ (task : Task) (f : RankedFamily) (sound : IsSoundFamily task f) (m n : 
         let was = subst (λ (x : State). is_live x.memory a ≡ true) (sym w.leads) live in
         ⊎_elim (λ l. inl l)
         (λ p. inr (fresh a (low_live a live) p.0 p.1
-        (does task m g.origin k g.node.state state runs.running scratch b1 b2 (device_of task.flash) runs.device w.instr (ports_fit task.flash m.pc w.instr w.is))))
-        (live_comes m.memory (sp_after effect.sp effect.stores) effect.stores effect.pushes a guarded (open_after effect.is_open effect.stores) was)
+        (does task m g.origin k g.node.state state runs.running (masked_by task m runs.device) scratch b1 b2 (device_of task.flash) runs.device w.instr (ports_fit task.flash m.pc w.instr w.is))))
+        (live_comes m.memory (sp_after m.device effect.sp effect.stores) effect.stores effect.pushes a guarded (open_after m.device effect.is_open effect.stores) was)
 
   pub comes_by_go : (b1 b2 : ℕ) → step task.flash task.assumptions m (Go b1 b2) ≡ Done n → ComesFrom task g m n (Go b1 b2)
   comes_by_go b1 b2 e = comes_going b1 b2 (went task m n b1 b2 e)
@@ -214,7 +226,7 @@ module _ (task : Task) (f : RankedFamily) (sound : IsSoundFamily task f) (m n : 
       (λ p. inr (record {
         offset = form.0;
         closed = form.1;
-        low = way_low m.sp m.pc g.origin.base form.0 a (at_sp form.0 form.1) (low_live a live) p.1;
+        low = way_below task f m g gs runs form.0 form.1 m.device refl m.pc a (low_live a live) p.1;
         whole = sym (ap (λ (x : State). x.is_open) leads);
         which = λ c1 c2 wrong. absurd (cc);
       }))

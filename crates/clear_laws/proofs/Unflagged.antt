@@ -19,10 +19,10 @@ use Rattle.avr_model.specs.declared.effect.Effect.{Effect}
 use Rattle.avr_model.specs.declared.effect.Write.{Write}
 use Rattle.avr_model.specs.Assumptions.{jump_line, store_line, is_never, is_fixed_site, lists}
 use Rattle.avr_model.specs.Masks.{reads_masks, is_barred, enables_barred, admits_enables, is_flagged_write}
-use Rattle.avr_model.specs.Devices.{io_end, ramend, wrapped, device_of}
+use Rattle.avr_model.specs.Devices.{io_end, ramend, has_sph, wrapped, device_of}
 use Rattle.avr_model.specs.Sites.{instruction_at, is_scratch}
-use Rattle.avr_model.specs.State.{State, Memory, is_live, i_flag, minus16, register, pair, low, high}
-use Rattle.avr_model.specs.Vectors.{places, has_enables, is_core, is_protected, is_enabled, vector_word, watchdog}
+use Rattle.avr_model.specs.State.{State, Memory, is_live, i_flag, register, pair, low, high}
+use Rattle.avr_model.specs.Vectors.{places, has_enables, is_core_by, is_core, is_protected, is_enabled, vector_word, watchdog}
 use Rattle.avr_model.specs.Effects.{set, way_back}
 use Rattle.avr_model.specs.Step.{Illegal, Overflow, Flagged, after, all_inside, live_write, flagged_write, protected_write, unless_listed, unlisted_transfer, is_call, deep_call, first_of, refused_transfer, moves_vectors, is_pointer_store, is_indirect, is_refused, is_guarding, flag_by, flagged_or, may_take, entering, never_target, take, go}
 use Rattle.bit_domain.specs.declared.bytes.TriByte.{TriByte}
@@ -44,7 +44,7 @@ use Rattle.edge_rules.specs.Families.{RankedFamily, IsSoundFamily}
 use Rattle.edge_rules.specs.Frames.{Frame, Runs}
 use Rattle.clear_laws.specs.Aims.{Aim, permits_number, may_write, aim_of}
 use Rattle.clear_laws.specs.Clear.{IsClear, IsHarmless, no_address, under_stack, above_memory, one_register, each_address, free_slot, stored_bits, is_guarded, is_flagged_address, is_address_harmless, permits_by, AreTargetsListed, may_reach, written_bits, may_move, calls_cut}
-use Rattle.clear_laws.proofs.Memory.{inside_if_live}
+use Rattle.clear_laws.proofs.Memory.{IsPushedAt, inside_if_live}
 use Rattle.clear_laws.proofs.Ports.{ports_fit}
 use Rattle.clear_laws.proofs.Aims.{IsStoreReached, IsAimed}
 use Rattle.clear_laws.proofs.Bases.{base_inside}
@@ -52,7 +52,8 @@ use Rattle.clear_laws.proofs.Calls.{deep_is_cut}
 use Rattle.clear_laws.proofs.Moving.{none_moves, one_moves, may_set_there}
 use Rattle.clear_laws.proofs.Effects.{IsSpWhole, MaySetTo, Does, nothing, to_port, by_aim, pushing, entering as enters, does}
 use Rattle.clear_laws.proofs.Rows.{IsPlainRow, calls_push, row_of_pushing, not_hung}
-use Rattle.clear_laws.proofs.Steps.{whole_sp}
+use Rattle.clear_laws.proofs.Pushed.{masked_by}
+use Rattle.clear_laws.proofs.Steps.{whole_sp, way_below}
 use Rattle.clear_laws.proofs.Kept.{Holding}
 use Rattle.local_rules.specs.Cover.{effect_by}
 use Rattle.local_rules.specs.Site.{Task, site_at, masks_by}
@@ -103,11 +104,11 @@ guarded_write : (device : Device) (A : List Entry) (site : ℕ) (value : TriByte
     → is_guarded device A site value a ≡ true
 guarded_write device A site value a byte has = by (admits_enables device A site)
   where
-    by : (b : Bool) → (if b then is_core a || enables_barred device A a byte else is_protected device a && not (lists (store_line A site) a)) ≡ true
-        → (if b then is_core a || may_enable_barred device A a value else is_protected device a && not (lists (store_line A site) a)) ≡ true
+    by : (b : Bool) → (if b then is_core device a || enables_barred device A a byte else is_protected device a && not (lists (store_line A site) a)) ≡ true
+        → (if b then is_core device a || may_enable_barred device A a value else is_protected device a && not (lists (store_line A site) a)) ≡ true
     by true h =
-        ⊎_elim (λ core. or_left (is_core a) _ core) (λ barred. or_right (is_core a) _ (enables_stay_among.barred device A value a byte has barred))
-        (or_cases (is_core a) (enables_barred device A a byte) h)
+        ⊎_elim (λ core. or_left (is_core device a) _ core) (λ barred. or_right (is_core device a) _ (enables_stay_among.barred device A value a byte has barred))
+        (or_cases (is_core device a) (enables_barred device A a byte) h)
     by false h = h
 
 module _ (task : Task) (instr : Instr) (pc : ℕ) where
@@ -138,8 +139,12 @@ module _ (task : Task) (instr : Instr) (pc : ℕ) where
       (never (is_pointer_store instr && not (is_fixed_site task.flash task.assumptions pc) && is_flagged_write (device_of task.flash) task.assumptions pc a byte)
       (λ h. never_both _ (flagged_by_write s a byte has h) free))
 
-no_core : (device : Device) (a : ℕ) → io_end device < a → is_core a ≡ false
-no_core device a lt = let least = devices_are_alike.least_io device in grind (arith, nat_tests)
+above_core : (has_high : Bool) (a : ℕ) → 0x5F < a → is_core_by has_high a ≡ false
+above_core true a lt = grind (arith, nat_tests)
+above_core false a lt = grind (arith, nat_tests)
+
+no_core : (device : Device) (a : ℕ) → io_end device < a → is_core device a ≡ false
+no_core device a lt = above_core (has_sph device) a (omega (arith, lt, devices_are_alike.least_io device))
 
 -- an address that enables no vector enables no barred one
 none_barred : (ps : List Place) (a : ℕ) (p q : Place → Bool) → list_any (λ (x : Place). x.address == a) ps ≡ false
@@ -156,7 +161,7 @@ no_barred device A a value lt = none_barred (places device) a (λ (x : Place). m
 pub unguarded : (device : Device) (A : List Entry) (site : ℕ) (value : TriByte) (a : ℕ) → io_end device < a → is_guarded device A site value a ≡ false
 unguarded device A site value a lt = by (admits_enables device A site)
   where
-    by : (b : Bool) → (if b then is_core a || may_enable_barred device A a value else is_protected device a && not (lists (store_line A site) a)) ≡ false
+    by : (b : Bool) → (if b then is_core device a || may_enable_barred device A a value else is_protected device a && not (lists (store_line A site) a)) ≡ false
     by true = or_from _ _ (no_core device a lt) (no_barred device A a value lt)
     by false = and_left _ _ (or_from _ _ (no_core device a lt) (none_above device a lt))
 
@@ -181,18 +186,19 @@ one_by : (b : Bool) (a : ℕ) → b ≡ false → (if b then Some a else None) �
 one_by true a e = absurd (cc)
 one_by false a e = refl
 
-two_by : (b c : Bool) (x y : ℕ) → b ≡ false → c ≡ false → (if b then Some x else (if c then Some y else None)) ≡ None
-two_by true c x y e f = absurd (cc)
-two_by false true x y e f = absurd (cc)
-two_by false false x y e f = refl
-
 one_write : (memory : Memory) (a byte : ℕ) → is_live memory a ≡ false → live_write memory (set a byte) ≡ None
 unfolding live_write
 one_write memory a byte dead = one_by (is_live memory a) a dead
 
-two_writes : (memory : Memory) (sp back : ℕ) → is_live memory sp ≡ false → is_live memory (minus16 sp 1) ≡ false → live_write memory (way_back sp back) ≡ None
+or_rest : (b : Bool) (x : ℕ) (rest : Option ℕ) → b ≡ false → rest ≡ None → (if b then Some x else rest) ≡ None
+or_rest true x rest e f = absurd (cc)
+or_rest false x rest e f = f
+
+dead_writes : (memory : Memory) (ws : List Write) → ((a : ℕ) → IsPushedAt ws a → is_live memory a ≡ false) → live_write memory ws ≡ None
 unfolding live_write
-two_writes memory sp back first second = two_by (is_live memory sp) (is_live memory (minus16 sp 1)) sp (minus16 sp 1) first second
+dead_writes memory [] dead = refl
+dead_writes memory (w ∷ ws) dead =
+    or_rest (is_live memory w.address) w.address (live_write memory ws) (dead w.address (inl refl)) (dead_writes memory ws (λ a there. dead a (inr there)))
 
 -- ---- where an interrupt may come
 
@@ -242,11 +248,12 @@ module _ (task : Task) (f : RankedFamily) (sound : IsSoundFamily task f) (m : St
   sp_dead : IsSpWhole k.sp → is_live m.memory m.sp ≡ false
   sp_dead form = never (is_live m.memory m.sp) (λ live. omega (arith, holds.above m.sp live, sp_at form.0 form.1, ap offset_of form.1))
 
-  below_dead : IsSpWhole k.sp → is_live m.memory (minus16 m.sp 1) ≡ false
-  below_dead form =
-      never (is_live m.memory (minus16 m.sp 1))
+  way_dead : IsSpWhole k.sp → (device : Device) → m.device ≡ device → (back a : ℕ) → IsPushedAt (way_back device m.sp back) a → is_live m.memory a ≡ false
+  way_dead form device same back a there =
+      never (is_live m.memory a)
       (λ live.
-      omega (arith, holds.above (minus16 m.sp 1) live, sp_at form.0 form.1, ap offset_of form.1, above (minus16 m.sp 1) live, inside (minus16 m.sp 1) live, low_base, top_small))
+      let low = way_below task f m g gs runs form.0 form.1 device same back a (omega (arith, inside a live, top_small)) there in
+      omega (arith, holds.above a live, low, ap offset_of form.1))
 
   -- the word of a vector
   vector_is : (v : ℕ) → is_enabled m.device m.enables v ≡ true → wrapped m.device (vector_word m.device v) ≡ vector_word (device_of task.flash) v
@@ -382,7 +389,7 @@ module _ (task : Task) (f : RankedFamily) (sound : IsSoundFamily task f) (m : St
         let form = closes (row_of_pushing task k g.node.state instr here (sound.faultless g.node runs.present) plain).faultless in
         inl
         (record {
-          live = ap₂ (λ ss ps. live_write m.memory (ss ++ ps)) stores pushes ∙ two_writes m.memory m.sp back (sp_dead form) (below_dead form);
+          live = ap₂ (λ ss ps. live_write m.memory (ss ++ ps)) stores pushes ∙ dead_writes m.memory (way_back (device_of task.flash) m.sp back) (way_dead form (device_of task.flash) runs.device back);
           protected = nothing_protected task instr m.pc effect stores;
         })
 
@@ -392,10 +399,10 @@ module _ (task : Task) (f : RankedFamily) (sound : IsSoundFamily task f) (m : St
         let parts = one_moves (device_of task.flash) (masks_by task) effect.stores a byte stores moves in
         let reached = sets parts.0 parts.1 in
         and_from (masks_by task) _ parts.0
-        (may_set_there (device_of task.flash) (may_reach k g.node.state instr) (written_bits g.node.state instr) a byte parts.1 reached.0 reached.1)
+        (may_set_there (device_of task.flash) (may_reach (device_of task.flash) k g.node.state instr) (written_bits g.node.state instr) a byte parts.1 reached.0 reached.1)
 
     done_so : Done
-    done_so = does task m g.origin k g.node.state (before instr g.node.state) runs.running (is_scratch task.flash k.pc) b1 b2 (device_of task.flash) runs.device instr (ports_fit task.flash m.pc instr is)
+    done_so = does task m g.origin k g.node.state (before instr g.node.state) runs.running (masked_by task m runs.device) (is_scratch task.flash k.pc) b1 b2 (device_of task.flash) runs.device instr (ports_fit task.flash m.pc instr is)
 
     pub writes : IsSafe ⊎ IsStore
     writes = sorted done_so
@@ -421,7 +428,7 @@ module _ (task : Task) (f : RankedFamily) (sound : IsSoundFamily task f) (m : St
     pub cut_if_deep : (x : ℕ) → deep_call task.flash task.assumptions m instr effect ≡ Some x → unlisted_transfer task.assumptions m.pc instr effect ≡ None
         → calls_cut task k g.node.state instr ≡ true
     cut_if_deep x deep listed =
-        deep_is_cut task m g.origin k g.node.state runs.running b1 b2 runs.device instr plain_row x deep listed (stands 30 (omega arith)).small (stands 31 (omega arith)).small
+        deep_is_cut task m g.origin k g.node.state runs.running (masked_by task m runs.device) b1 b2 runs.device instr plain_row x deep listed (stands 30 (omega arith)).small (stands 31 (omega arith)).small
 
     safe : IsClear task f g.node → IsSafe
     safe clear = ⊎_elim (λ s. s) harmless writes
@@ -439,7 +446,7 @@ module _ (task : Task) (f : RankedFamily) (sound : IsSoundFamily task f) (m : St
         (subst (λ device. unless_listed (jump_line task.assumptions k.pc) (wrapped device (pair m 30)) ≡ None) (sym runs.device)
         (goes_listed (device_of task.flash) g.node.state (jump_line task.assumptions k.pc) (pair m 30) all
         (omega (arith, (stands 30 (omega arith)).small, (stands 31 (omega arith)).small))
-        (pair_permitted m g.origin k g.node.state (bare_frame m g.origin k g.node.state runs.running) 30 (omega arith, refl))))
+        (pair_permitted m g.origin k g.node.state (bare_frame m g.origin k g.node.state (masked_by task m runs.device) runs.running) 30 (omega arith, refl))))
 
   module _ (clear : IsClear task f g.node) (flag : Flag) where
     -- without an indirect transfer nothing is unlisted
@@ -493,7 +500,7 @@ module _ (task : Task) (f : RankedFamily) (sound : IsSoundFamily task f) (m : St
       allowed (not_hung task k g.node.state (sound.faultless g.node runs.present)) in
       let e = entering m v clears in
       not_flagged (all_inside m.device e.pushes || is_refused (never_target task.assumptions e.pc)) m.pc (live_write m.memory e.pushes) None (never_target task.assumptions e.pc) false (after m true (entering m v clears)) flag
-      (two_writes m.memory m.sp m.pc (sp_dead form) (below_dead form)) refl
+      (dead_writes m.memory (way_back m.device m.sp m.pc) (way_dead form m.device refl m.pc)) refl
       (ap (λ (b : Bool). if b then Some e.pc else None) (ap (is_never task.assumptions) (vector_is v all.0) ∙ allowed)) refl
 
   -- the choice takes a vector whose word has a `never` line

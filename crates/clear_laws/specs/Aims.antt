@@ -14,6 +14,7 @@ use Rattle.mask_states.specs.declared.keys.NodeKey.{NodeKey}
 use Rattle.mask_states.specs.declared.keys.Kind.{Kind}
 use Rattle.mask_states.specs.declared.keys.Kind.TheVariants.{Root, Call, Vector}
 use Rattle.local_rules.specs.declared.pointers.Pointed.{Pointed}
+use Rattle.local_rules.specs.HighBytes.{view_by}
 use Rattle.local_rules.specs.Registers.{value}
 use Rattle.local_rules.specs.Reads.{pointed}
 use Rattle.local_rules.specs.Local.{step_before}
@@ -105,9 +106,9 @@ at_number a = record { constant = Some a; frame = None }
 -- the address of `st`, `std` and `sts`, with the displacement added modulo 65,536
 abbrev pub aim_of : Device → NodeKey → AbsState → Instr → Option Aim
 aim_of device k s (i.Std b q r) =
-    Some (record { reach = raised (pair_span s (base_register b)) q; slot = slot_aimed device k.inst.kind (pointed s (base_register b) q) })
+    Some (record { reach = raised (pair_span s (base_register b)) q; slot = slot_aimed device k.inst.kind (pointed (view_by device k) s (base_register b) q) })
 aim_of device k s (i.St p r) =
-    Some (record { reach = pointer_reach p s; slot = slot_aimed device k.inst.kind (pointed s (pointer_register p) (step_before p)) })
+    Some (record { reach = pointer_reach p s; slot = slot_aimed device k.inst.kind (pointed (view_by device k) s (pointer_register p) (step_before p)) })
 aim_of device k s (i.Sts a r) =
     Some (record { reach = reach.Within (record { first = a; last = a }); slot = slot_aimed device k.inst.kind (at_number a) })
 aim_of device k s _ = None

@@ -34,6 +34,7 @@ use Rattle.mask_states.specs.Wakes.{may_enable_barred}
 use Rattle.local_rules.specs.declared.local.Node.{Node}
 use Rattle.local_rules.specs.Flow.{targets_at}
 use Rattle.local_rules.specs.Local.{step_before}
+use Rattle.local_rules.specs.HighBytes.{view_by}
 use Rattle.local_rules.specs.Reads.{pointed}
 use Rattle.local_rules.specs.Registers.{bits}
 use Rattle.local_rules.specs.Writes.{is_own_slot}
@@ -66,7 +67,7 @@ stored_bits s _ = byte_any
 abbrev pub is_guarded : Device → List Entry → ℕ → TriByte → ℕ → Bool
 is_guarded device A site value a =
     if admits_enables device A site
-    then is_core a || may_enable_barred device A a value
+    then is_core device a || may_enable_barred device A a value
     else is_protected device a && not (lists (store_line A site) a)
 
 -- The write may be flagged as one of a protected address: the instruction is `st` or `std`, the site isn't fixed, and the address is
@@ -100,12 +101,12 @@ pub data IsHarmless (task : Task) (f : RankedFamily) (n : Node) (instr : Instr) 
 
 -- The byte of the instruction may go to this address: `out` and `sts` write theirs, `st` and `std` what the pointer permits, unless it is
 -- known to be a slot of the running frame.
-abbrev pub may_reach : NodeKey → AbsState → Instr → ℕ → Bool
-may_reach k s (i.Out p r) a = port p == a
-may_reach k s (i.Sts x r) a = x == a
-may_reach k s (i.Std b q r) a = may_write s (i.Std b q r) a && not (is_own_slot (pointed s (base_register b) q).frame (offset_of k.sp))
-may_reach k s (i.St p r) a = may_write s (i.St p r) a && not (is_own_slot (pointed s (pointer_register p) (step_before p)).frame (offset_of k.sp))
-may_reach k s _ a = false
+abbrev pub may_reach : Device → NodeKey → AbsState → Instr → ℕ → Bool
+may_reach device k s (i.Out p r) a = port p == a
+may_reach device k s (i.Sts x r) a = x == a
+may_reach device k s (i.Std b q r) a = may_write s (i.Std b q r) a && not (is_own_slot (pointed (view_by device k) s (base_register b) q).frame (offset_of k.sp))
+may_reach device k s (i.St p r) a = may_write s (i.St p r) a && not (is_own_slot (pointed (view_by device k) s (pointer_register p) (step_before p)).frame (offset_of k.sp))
+may_reach device k s _ a = false
 
 -- the bits of its byte
 abbrev pub written_bits : AbsState → Instr → TriByte
@@ -119,7 +120,7 @@ may_set (Some v) reaches value = reaches v.address && permits (tri_at value v.bi
 
 -- the instruction may set IVSEL, under a list that reads masks
 abbrev pub may_move : Task → NodeKey → AbsState → Instr → Bool
-may_move task k s instr = masks_by task && may_set (device_row (device_of task.flash)).ivsel (may_reach k s instr) (written_bits s instr)
+may_move task k s instr = masks_by task && may_set (device_row (device_of task.flash)).ivsel (may_reach (device_of task.flash) k s instr) (written_bits s instr)
 
 -- ---- transfers
 

@@ -1,12 +1,13 @@
 -- The frames of a machine's state: the running one, and those suspended by a call or an interrupt, the latest first. Source: own.
-use Rattle.std.specs.Prelude.{ℕ, ◌+◌, ◌-◌, ◌≡◌, ◌<◌, ◌≤◌, ⊤, Bool, true, List, [], ◌∷◌, length, Some, Contains}
-use Rattle.avr_model.specs.Devices.{ramend, device_of}
+use Rattle.std.specs.Prelude.{ℕ, ◌+◌, ◌-◌, ◌≡◌, ◌<◌, ◌≤◌, ⊤, Bool, true, List, [], ◌∷◌, length, Some, Contains, slice_index}
+use Rattle.avr_model.specs.Devices.{ramend, back_of, device_of}
 use Rattle.avr_model.specs.Assumptions.{has_pairs}
 use Rattle.avr_model.specs.Masks.{reads_masks}
 use Rattle.avr_model.specs.declared.choice.Choice.{Choice}
 use Rattle.avr_model.specs.declared.choice.Choice.TheVariants.{Go, Take}
 use Rattle.avr_model.specs.Sreg.{flag}
-use Rattle.avr_model.specs.State.{State, Memory, byte_in, is_live, low, high}
+use Rattle.avr_model.specs.State.{State, Memory, byte_in, is_live}
+use Rattle.avr_model.specs.Effects.{back_bytes}
 use Rattle.avr_model.specs.Step.{Answer, Illegal, Undefined, Overflow, Flagged, Done}
 use Rattle.sp_domain.specs.declared.slots.Slot.{Slot}
 use Rattle.sp_domain.specs.declared.slots.Slot.TheVariants.{Guarded}
@@ -41,8 +42,8 @@ pub record Frame : Type 0 where
 
 -- The frame is suspended by the entry of this instance with this origin, and what it needs later holds: its registers and flags are the
 -- entry values of the next frame; its guarded slots are live and hold bytes of their values; its stack pointer was whole, and the next
--- base is two below; the two bytes between are live and hold the return address, the low byte at the higher address; below that base the
--- bound leaves room for the need of the entered instance.
+-- base is as far below as a return address is long; the bytes between are live and hold the return address, the low byte at the highest
+-- address; below that base the bound leaves room for the need of the entered instance.
 pub record IsLeft (task : Task) (f : RankedFamily) (memory : Memory) (g : Frame) (inst : InstKey) (o : Origin) : Type 0 where
   pub present : Contains f.nodes g.node
   pub registers : RegistersStand g.origin g.node.state.registers o.registers
@@ -52,15 +53,14 @@ pub record IsLeft (task : Task) (f : RankedFamily) (memory : Memory) (g : Frame)
   pub slots : SlotsStand g.origin memory g.node.state.slots
   pub offset : ℕ
   pub closed : g.node.key.sp ≡ Closed offset
-  pub place : o.base + 2 + offset ≡ g.origin.base
+  pub place : o.base + back_of (device_of task.flash) + offset ≡ g.origin.base
   pub way : EdgeKind
   pub back : ℕ
   pub enters : Enters task g.node way inst back
   pub need : (ramend (device_of task.flash) - o.base) + f.need_of inst ≤ f.bound
-  pub low_byte : byte_in memory.below memory.bytes (o.base + 2) ≡ low back
-  pub high_byte : byte_in memory.below memory.bytes (o.base + 1) ≡ high back
-  pub low_live : is_live memory (o.base + 2) ≡ true
-  pub high_live : is_live memory (o.base + 1) ≡ true
+  pub bytes : (k : ℕ) → k < back_of (device_of task.flash)
+      → byte_in memory.below memory.bytes (o.base + back_of (device_of task.flash) - k) ≡ slice_index (back_bytes (back_of (device_of task.flash)) back) k
+  pub live : (k : ℕ) → k < back_of (device_of task.flash) → is_live memory (o.base + back_of (device_of task.flash) - k) ≡ true
 
 -- the suspended frames below a frame of this instance and origin; the last one is the root's, or this one is
 abbrev pub AreLeft : Task → RankedFamily → Memory → List Frame → InstKey → Origin → Type 0
@@ -167,10 +167,9 @@ abbrev pub IsGuarded : Slot AbsByte → Type 0
 IsGuarded (Guarded v) = ⊤
 IsGuarded s = ⊥
 
--- The address is a guarded slot of a suspended frame, or a byte of its return address.
-pub data FramesHold : List Frame → Origin → ℕ → Type 0 where
+-- The address is a guarded slot of a suspended frame, or one of the `back` bytes of its return address.
+pub data FramesHold (back : ℕ) : List Frame → Origin → ℕ → Type 0 where
   slot : (g : Frame) (gs : List Frame) (o : Origin) (d : ℕ) → d < length g.node.state.slots → IsGuarded (slot_at g.node.state.slots d)
-      → FramesHold (g ∷ gs) o (g.origin.base - d)
-  way_low : (g : Frame) (gs : List Frame) (o : Origin) → FramesHold (g ∷ gs) o (o.base + 2)
-  way_high : (g : Frame) (gs : List Frame) (o : Origin) → FramesHold (g ∷ gs) o (o.base + 1)
-  deeper : (g : Frame) (gs : List Frame) (o : Origin) (a : ℕ) → FramesHold gs g.origin a → FramesHold (g ∷ gs) o a
+      → FramesHold back (g ∷ gs) o (g.origin.base - d)
+  way : (g : Frame) (gs : List Frame) (o : Origin) (k : ℕ) → k < back → FramesHold back (g ∷ gs) o (o.base + 1 + k)
+  deeper : (g : Frame) (gs : List Frame) (o : Origin) (a : ℕ) → FramesHold back gs g.origin a → FramesHold back (g ∷ gs) o a

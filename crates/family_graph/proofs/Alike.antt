@@ -99,8 +99,8 @@ module _ (task : Task) (nodes : List Node) (gs hs : List GraphInst) (g : IsGraph
   entry_from : (i : ℕ) (e : Entered) → graph.EntersAlong hs i e → graph.EntersAlong gs i e
   entry_from i e has = (g.entered i e).1 (subst (λ (ks : List InstKey). HasEntryOf task nodes ks i e) (sym keys) ((h.entered i e).0 has))
 
-  pub least_as : (ranks needs : List ℕ) → IsLeast hs ranks needs → IsLeast gs ranks needs
-  least_as ranks needs l =
+  pub least_as : (back : ℕ) (ranks needs : List ℕ) → IsLeast back hs ranks needs → IsLeast back gs ranks needs
+  least_as back ranks needs l =
       record {
         ranks_length = l.ranks_length ∙ sym long;
         needs_length = l.needs_length ∙ sym long;
@@ -126,20 +126,20 @@ module _ (task : Task) (nodes : List Node) (gs hs : List GraphInst) (g : IsGraph
   unfolding edge_cmp
   cmp_same a b = ap (λ (xs : List ℕ). slice_cmp nat_cmp xs (turn_of hs b)) (turn_same a) ∙ ap (slice_cmp nat_cmp (turn_of gs a)) (turn_same b)
 
-  pub chain_as : (needs : List ℕ) (i above : ℕ) (links : List Link) → IsChainFrom hs needs i above links → IsChainFrom gs needs i above links
-  chain_as needs i above links (ends _ _ p first) =
+  pub chain_as : (back : ℕ) (needs : List ℕ) (i above : ℕ) (links : List Link) → IsChainFrom back hs needs i above links → IsChainFrom back gs needs i above links
+  chain_as back needs i above links (ends _ _ p first) =
       ends i above p (record { is = (place_from i p first.is.0, first.is.1); first = λ q has. first.first q (place_to i q has.0, has.1) })
-  chain_as needs i above links (goes _ _ e rest none first more) =
+  chain_as back needs i above links (goes _ _ e rest none first more) =
       goes i above e rest (λ p has. none p (place_to i p has.0, has.1))
       (record {
         is = (entry_from i e first.is.0, first.is.1);
         first = λ d has. subst (λ (o : Ordering). o ≢ Less) (cmp_same d e) (first.first d (entry_to i d has.0, has.1));
       })
-      (chain_as needs e.into (above + e.offset + 2) rest more)
+      (chain_as back needs e.into (above + e.offset + back) rest more)
 
 pub graphs_are_alike : GraphsAreAlike
 graphs_are_alike =
     record {
-      least = λ task nodes gs hs ranks needs g h l. least_as task nodes gs hs g h ranks needs l;
-      chain = λ task nodes gs hs needs links g h c. chain_as task nodes gs hs g h needs 0 0 links c;
+      least = λ task nodes gs hs back ranks needs g h l. least_as task nodes gs hs g h back ranks needs l;
+      chain = λ task nodes gs hs back needs links g h c. chain_as task nodes gs hs g h back needs 0 0 links c;
     }

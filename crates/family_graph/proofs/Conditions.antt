@@ -10,6 +10,7 @@ use Rattle.std.proofs.lemmas.List.{length-map}
 use Rattle.std.proofs.lemmas.Map.Keys.{Less-from_sorted}
 use Rattle.basics.specs.Items.{contained_at, get_contained}
 use Rattle.abs_state.specs.Frames.{entered}
+use Rattle.avr_model.specs.Devices.{device_of, back_of}
 use Rattle.mask_states.specs.declared.keys.EdgeKind.{EdgeKind}
 use Rattle.mask_states.specs.declared.keys.Kind.{Kind}
 use Rattle.mask_states.specs.declared.keys.Kind.TheVariants.{Root, Call, Vector}
@@ -111,7 +112,7 @@ module _ (task : Task) (c : Claim) (nodes : List Node) (meets : MeetsConditions 
         (subst (λ (x : InstKey). rank_in c.instances h.into < rank_in c.instances x) (key_is i h.inst h.is)
         (meets.ranks h.inst h.into e.offset (nest_edge i e h)))
 
-    pub suffices : graph.AreGraphNeeds gs (λ i. need_in c.instances (key_at i))
+    pub suffices : graph.AreGraphNeeds (back_of (device_of task.flash)) gs (λ i. need_in c.instances (key_at i))
     suffices =
         record {
           offsets = λ i p has.
@@ -121,8 +122,8 @@ module _ (task : Task) (c : Claim) (nodes : List Node) (meets : MeetsConditions 
           entered = λ i e enters.
               let h = (is.entered i e).0 enters in
               let n = (meets.needs h.inst).entered h.into e.offset (nest_edge i e h) in
-              subst (λ (x : InstKey). e.offset + 2 + need_in c.instances x ≤ need_in c.instances (key_at i)) (key_is e.into h.into h.leads)
-              (subst (λ (x : InstKey). e.offset + 2 + need_in c.instances h.into ≤ need_in c.instances x) (key_is i h.inst h.is) n);
+              subst (λ (x : InstKey). e.offset + back_of (device_of task.flash) + need_in c.instances x ≤ need_in c.instances (key_at i)) (key_is e.into h.into h.leads)
+              (subst (λ (x : InstKey). e.offset + back_of (device_of task.flash) + need_in c.instances h.into ≤ need_in c.instances x) (key_is i h.inst h.is) n);
         }
 
     -- the covered first node of an instance is its place
@@ -161,7 +162,7 @@ module _ (task : Task) (c : Claim) (nodes : List Node) (meets : MeetsConditions 
               ];
         }
 
-    pub root_bound : (ranks needs : List ℕ) → IsLeast gs ranks needs → 0 < length gs → slice_index needs 0 ≤ c.bound
+    pub root_bound : (ranks needs : List ℕ) → IsLeast (back_of (device_of task.flash)) gs ranks needs → 0 < length gs → slice_index needs 0 ≤ c.bound
     root_bound ranks needs least some =
         let n = least.least_needs (λ i. need_in c.instances (key_at i)) suffices 0 some in
         let r : key_at 0 ≡ root_inst = sym (key_is 0 root_inst root_first) in

@@ -1,5 +1,6 @@
 -- The deepest chain of a family, with the least needs. Source: own.
 use Rattle.std.specs.Prelude.{ℕ, ◌≡◌, List, Some, slice_get, slice_index}
+use Rattle.avr_model.specs.Devices.{device_of, back_of}
 use Rattle.mask_states.specs.Keys.{root_inst}
 use Rattle.local_rules.specs.declared.local.Node.{Node}
 use Rattle.nesting_bound.specs.declared.graph.GraphInst.{GraphInst}
@@ -15,9 +16,9 @@ pub record IsDeepest (task : Task) (nodes : List Node) (need : ℕ) (links : Lis
   pub family : IsGraphOf task nodes graph
   pub ranks : List ℕ
   pub needs : List ℕ
-  pub least : IsLeast graph ranks needs
+  pub least : IsLeast (back_of (device_of task.flash)) graph ranks needs
   pub root : need ≡ slice_index needs 0
-  pub chain : IsChain graph needs links
+  pub chain : IsChain (back_of (device_of task.flash)) graph needs links
 
 -- the root is the first instance in each graph of the family, and chains begin there
 abbrev pub BeginsAtRoot : Task → List Node → Type 0

@@ -11,12 +11,12 @@ use Rattle.family_graph.specs.Graphs.{IsGraphOf}
 use Rattle.family_graph.specs.Chains.{IsDeepest, BeginsAtRoot}
 use Rattle.local_rules.specs.Site.{Task}
 
--- Two graphs of a family have the same least ranks and needs, and the same deepest chain.
+-- Two graphs of a family have the same least ranks and needs, and the same deepest chain, however many bytes a return address takes.
 pub record GraphsAreAlike : Type 0 where
-  pub least : (task : Task) (nodes : List Node) (gs hs : List GraphInst) (ranks needs : List ℕ) → IsGraphOf task nodes gs → IsGraphOf task nodes hs
-      → IsLeast hs ranks needs → IsLeast gs ranks needs
-  pub chain : (task : Task) (nodes : List Node) (gs hs : List GraphInst) (needs : List ℕ) (links : List Link) → IsGraphOf task nodes gs
-      → IsGraphOf task nodes hs → IsChain hs needs links → IsChain gs needs links
+  pub least : (task : Task) (nodes : List Node) (gs hs : List GraphInst) (back : ℕ) (ranks needs : List ℕ) → IsGraphOf task nodes gs → IsGraphOf task nodes hs
+      → IsLeast back hs ranks needs → IsLeast back gs ranks needs
+  pub chain : (task : Task) (nodes : List Node) (gs hs : List GraphInst) (back : ℕ) (needs : List ℕ) (links : List Link) → IsGraphOf task nodes gs
+      → IsGraphOf task nodes hs → IsChain back hs needs links → IsChain back gs needs links
 
 -- a family has one deepest chain, and the root one least need
 pub record DeepestChainsAreOne : Type 0 where

@@ -44,8 +44,9 @@ pub fn deepest_chain(
 {
     ranks_rule_out_cycles();
     let graph = graph_of(task, nodes, ways)?;
-    let composed = compose_acyclic(task.alloc, &graph)?;
-    let links = chain(task.alloc, &graph, &composed)?;
+    let back = task.flash.device().back();
+    let composed = compose_acyclic(task.alloc, &graph, back)?;
+    let links = chain(task.alloc, &graph, &composed, back)?;
     Ok(Deepest {
         need: composed.need(0),
         links: Listed::new(links),

@@ -117,6 +117,6 @@ module _ (task : Task) (f : Family) where
   -- ---- the end
 
   pub confirmed : (keys : List NodeKey) (notes : Notes) → IsMade task f → FamilyHasInst f root_inst → FitsLimits f → ((n : Node) → FamilyHas f n → Contains keys n.key)
-      → AreKnown task f notes → TellsAll (size_of (device_of task.flash)) notes.nesting verdicts.Nests → LandAt task f keys → AreRoundsFound task None f
+      → AreKnown task f notes → TellsAll (device_of task.flash) notes.nesting verdicts.Nests → LandAt task f keys → AreRoundsFound task None f
   confirmed keys notes made root fits all known nests land =
       orders_end.ends task f made (λ n e has edge. land n e has (all n has) edge) (nests_passes task f notes fits known root nests)

@@ -69,10 +69,10 @@ module _ (task : Task) where
     told_by (verdicts.Recursion word) r t is real = record { test = recursion word; holds = (fits, known.faultless, t); is = is }
     told_by (verdicts.TooDeep d) r t is real = record { test = too_deep d; holds = (fits, known.faultless, t.0, t.1, t.2); is = is }
 
-    pub told_stops : (r : Refusal) → FamilyHasInst f root_inst → (r ≢ Memory → IsVerdictTold (size_of (device_of task.flash)) notes.nesting r) → r ≢ Memory → AreRoundsStopped task f r
+    pub told_stops : (r : Refusal) → FamilyHasInst f root_inst → (r ≢ Memory → IsVerdictTold (device_of task.flash) notes.nesting r) → r ≢ Memory → AreRoundsStopped task f r
     told_stops r root told real = let t = told real in told_by t.verdict r (t.tells task f refl root (nesting_is task f notes known)) t.is real
 
-    pub nests_passes : FamilyHasInst f root_inst → TellsAll (size_of (device_of task.flash)) notes.nesting verdicts.Nests → PassesTests task f
+    pub nests_passes : FamilyHasInst f root_inst → TellsAll (device_of task.flash) notes.nesting verdicts.Nests → PassesTests task f
     nests_passes root nests =
         let t = nests task f refl root (nesting_is task f notes known) in
         record { fits = fits; faultless = known.faultless; acyclic = t.0; shallow = t.1 }
@@ -107,7 +107,7 @@ module _ (task : Task) where
 
   -- the next nodes
   pub is_ready : (f : Family) (work : List NodeKey) (old mid : Notes) (nesting : Noted) (seen : Seen) (nodes : List Node) → AreFormed (device_of task.flash) (has_pairs task.assumptions) f → FamilyHasInst f root_inst → FitsLimits f
-      → Turn task f work old → AreSeen task f work seen → seen.worst ≡ None → AreKnown task f mid → TellsAll (size_of (device_of task.flash)) mid.nesting verdicts.Nests
+      → Turn task f work old → AreSeen task f work seen → seen.worst ≡ None → AreKnown task f mid → TellsAll (device_of task.flash) mid.nesting verdicts.Nests
       → AreAlike mid.nesting nesting → AreOnce nesting.insts
       → AreBeyond (device_of task.flash) (has_pairs task.assumptions) f (all_targets f (record { callers = mid.callers; leavers = mid.leavers; nesting = nesting }) seen.looks.items) nodes
       → IsReady task f (record { callers = mid.callers; leavers = mid.leavers; nesting = nesting }) nodes

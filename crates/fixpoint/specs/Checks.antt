@@ -1,5 +1,6 @@
 -- The results of a round's tests.
 use Rattle.std.specs.Prelude.{ℕ, ◌≡◌, List, Option, Some}
+use Rattle.avr_model.specs.declared.device.Device.{Device}
 use Rattle.certificate.specs.declared.limit.Limit.{Limit}
 use Rattle.local_rules.specs.declared.local.Node.{Node}
 use Rattle.local_rules.specs.declared.local.NodeFault.{NodeFault}
@@ -36,10 +37,10 @@ nesting_refusal (verdicts.ReEntry v word) = ReEntry v word
 nesting_refusal (verdicts.Recursion word) = Recursion word
 nesting_refusal (verdicts.TooDeep need) = Faulty (TooDeep 0 need)
 
--- the refusal is the verdict on the nesting, for a device with this many bytes of SRAM
-pub record IsVerdictTold (size : ℕ) (n : Noted) (r : Refusal) : Type 0 where
+-- the refusal is the verdict on the nesting, on this device
+pub record IsVerdictTold (device : Device) (n : Noted) (r : Refusal) : Type 0 where
   pub verdict : NestingVerdict
-  pub tells : TellsAll size n verdict
+  pub tells : TellsAll device n verdict
   pub is : r ≡ nesting_refusal verdict
 
 -- the refusal is that of the first test that holds

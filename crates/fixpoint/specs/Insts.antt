@@ -1,5 +1,6 @@
 -- Instances with their ranks and needs.
 use Rattle.std.specs.Prelude.{ℕ, ◌≡◌, ◌<◌, List, length, Some, slice_get, slice_index}
+use Rattle.avr_model.specs.Devices.{device_of, back_of}
 use Rattle.local_rules.specs.declared.local.Node.{Node}
 use Rattle.nesting_bound.specs.declared.graph.GraphInst.{GraphInst}
 use Rattle.nesting_bound.specs.Graph.{IsGraph}
@@ -31,5 +32,5 @@ pub record AreInstsOf (task : Task) (nodes : List Node) (insts : List Inst) : Ty
   pub needs : List ℕ
   pub is_graph : IsGraph graph
   pub of : IsGraphOf task nodes graph
-  pub least : IsLeast graph ranks needs
+  pub least : IsLeast (back_of (device_of task.flash)) graph ranks needs
   pub insts_are : AreInsts graph ranks needs insts

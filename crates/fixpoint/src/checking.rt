@@ -2,7 +2,7 @@
 
 ghost use Rattle.std.specs.Prelude.{◌≡◌, ◌≢◌, ◌≤◌, length, Contains, None, IfErr, OnOk};
 ghost use Rattle.std.specs.FinMap.{len};
-ghost use Rattle.avr_model.specs.Devices.{device_of, size_of};
+ghost use Rattle.avr_model.specs.Devices.{device_of};
 ghost use Rattle.avr_model.specs.State.{SIZE};
 ghost use Rattle.mask_states.specs.Keys.{offset_of};
 ghost use Rattle.certificate.specs.Claims.{most_nodes};
@@ -60,12 +60,12 @@ pub fn note_seen(task: &Task<'_>, notes: &mut Notes, seen: &Seen) -> Result<(), 
 /// Checks that no instance is on a cycle, and that the root's need is at most the size of the device's SRAM.
 pub fn check_nesting(flash: &Flash, nesting: &mut Nesting) -> Result<(), Refusal>
     requires { length nesting.old.insts ≤ most_nodes }
-    ensures nests { OnOk result (TellsAll (size_of (device_of flash.now)) nesting.old Nests) }
-    ensures told { IfErr result (λ r. r ≢ Memory → IsVerdictTold (size_of (device_of flash.now)) nesting.old r) }
+    ensures nests { OnOk result (TellsAll (device_of flash.now) nesting.old Nests) }
+    ensures told { IfErr result (λ r. r ≢ Memory → IsVerdictTold (device_of flash.now) nesting.old r) }
     ensures same { AreAlike nesting.old nesting.new }
     ensures once { AreOnce nesting.new.insts }
 {
-    match nesting.judge(flash.device().size())? {
+    match nesting.judge(flash.device())? {
         NestingVerdict::Nests => Ok(()),
         NestingVerdict::ReEntry(vector, word) => Err(Refusal::ReEntry(vector, word)),
         NestingVerdict::Recursion(word) => Err(Refusal::Recursion(word)),

@@ -51,7 +51,7 @@ fn heading(task: &Task<'_>, family: &Worked) -> Result<(Assumptions, Vec<Inst>),
     solved_families_are_shown();
     let ways = entered_by(task, family)?;
     let graph = graph_of(task, &family.nodes, &ways)?;
-    let composed = compose_acyclic(task.alloc, &graph)?;
+    let composed = compose_acyclic(task.alloc, &graph, task.flash.device().back())?;
     let insts = instances(task.alloc, &graph, &composed)?;
     let listed = task.assumptions.copy()?;
     Ok((listed, insts))

@@ -165,7 +165,7 @@ module _ (cover : LocalPartsCover) (machines : MachinesStay) (live : LiveBytesSt
         let k = g.node.key in
         let place = runs.running.place in
         let enters : Enters task g.node (kind.Interrupt v clears) (vector_inst task.flash k v clears) k.pc = by_interrupt closed.0 v clears faultless closed.1 i delay enabled allowed clearable in
-        subst (λ pc. StepGoesOn (Follow task f (Take v clears) g gs) m true (record (entering m v clears) { pushes = way_back m.sp pc })) (sym place.pc)
+        subst (λ pc. StepGoesOn (Follow task f (Take v clears) g gs) m true (record (entering m v clears) { pushes = way_back m.device m.sp pc })) (sym place.pc)
         (frames_enter live task f sound m g gs runs (kind.Interrupt v clears) (vector_inst task.flash k v clears) k.pc closed.0 closed.1 enters (never_cut v clears)
         (vector_word m.device v) (m.sreg % 128) (enables_taken m.device m.enables clears) (vector_is v on) (omega arith) (flag_cleared m.sreg) (on_words (λ device. EnablesAre (reads_masks (device_of task.flash) task.assumptions) (enables_taken m.device m.enables clears) (enables_taken device k.masks clears))
         (taken_both (reads_masks (device_of task.flash) task.assumptions) m.device m.enables k.masks clears place.enables))

@@ -1,6 +1,6 @@
 -- Suspended frames: memory that keeps them, and the needs above their bases.
-use Rattle.std.proofs.Common.{◌≡◌, ◌≢◌, ℕ, ◌+◌, ◌≤◌, List, [], ◌∷◌, ap, ◌∙◌, arith}
-use Rattle.avr_model.specs.Devices.{ramend, device_of}
+use Rattle.std.proofs.Common.{◌≡◌, ◌≢◌, ℕ, ◌+◌, ◌-◌, ◌≤◌, List, [], ◌∷◌, ap, ◌∙◌, arith}
+use Rattle.avr_model.specs.Devices.{ramend, back_of, device_of}
 use Rattle.avr_model.specs.State.{Memory}
 use Rattle.sp_domain.specs.Tags.{Origin}
 use Rattle.abs_state.specs.Laws.{Keeps}
@@ -53,10 +53,8 @@ module _ (task : Task) (f : RankedFamily) where
             back = l.back;
             enters = l.enters;
             need = l.need;
-            low_byte = kept.bytes (o.base + 2) (omega arith) l.low_live ∙ l.low_byte;
-            high_byte = kept.bytes (o.base + 1) (omega arith) l.high_live ∙ l.high_byte;
-            low_live = kept.live (o.base + 2) (omega arith) l.low_live;
-            high_live = kept.live (o.base + 1) (omega arith) l.high_live;
+            bytes = λ k lt. kept.bytes (o.base + back_of (device_of task.flash) - k) (omega (arith, le, lt)) (l.live k lt) ∙ l.bytes k lt;
+            live = λ k lt. kept.live (o.base + back_of (device_of task.flash) - k) (omega (arith, le, lt)) (l.live k lt);
           }
 
       -- frames above the floor are kept

@@ -5,7 +5,7 @@ use Rattle.std.proofs.lemmas.Nat.{pow_pos}
 use Rattle.basics.specs.Items.{none_in, only_one_in}
 use Rattle.std.proofs.lemmas.Option.{same_Some}
 use Rattle.avr_model.specs.Assumptions.{has_pairs, recur_line}
-use Rattle.avr_model.specs.Devices.{size_of, device_of, device_row}
+use Rattle.avr_model.specs.Devices.{size_of, back_of, device_of, device_row}
 use Rattle.avr_model.specs.Vectors.{enable_count}
 use Rattle.bit_domain.specs.declared.bits.Tri.TheVariants.{Any}
 use Rattle.bit_domain.specs.TriByte.{IsWithin, byte_any}
@@ -192,6 +192,11 @@ sample_small : 2 ≤ size_of (device_of sample)
 unfolding device_row
 sample_small = omega arith
 
+-- whose return addresses have two bytes
+sample_back : back_of (device_of sample) ≡ 2
+unfolding device_row
+sample_back = refl
+
 pub the_sample_is_sound : IsSoundFamily (bare sample) family
 the_sample_is_sound = record {
   formed = each (λ n. IsNodeIn (device_of sample) (has_pairs []) n.key n.state)
@@ -205,7 +210,7 @@ the_sample_is_sound = record {
   ranks = one_edge (λ i j depth. family.rank_of j < family.rank_of i) (omega arith);
   offsets = λ n offset h. each (λ x. x.key.sp ≡ Closed offset → offset ≤ family.need_of x.key.inst)
       (λ e. omega (arith, offset_is offset e)) (λ e. omega (arith, offset_is offset e)) (λ e. omega (arith, offset_is offset e)) n h;
-  needs = one_edge (λ i j depth. depth + 2 + family.need_of j ≤ family.need_of i) (omega arith);
+  needs = one_edge (λ i j depth. depth + back_of (device_of sample) + family.need_of j ≤ family.need_of i) (omega (arith, sample_back));
   bounded = omega arith;
   small = sample_small;
 }

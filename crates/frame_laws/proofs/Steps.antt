@@ -2,14 +2,14 @@
 use Rattle.std.proofs.Common.{◌≡◌, ◌≢◌, ℕ, ◌+◌, ◌-◌, ◌%◌, ◌≤◌, Bool, true, false, List, [], ◌∷◌, ◌++◌, length, Option, Some, None, refl, sym, ap, ap₂, ◌∙◌, subst, subst₂, arith, Contains, ◌<◌}
 use Rattle.avr_model.specs.declared.device.Device.{Device}
 use Rattle.avr_model.proofs.AllLaws.{devices_are_alike}
-use Rattle.avr_model.specs.Devices.{words_of, io_end, size_of, ramend, wrapped, device_of}
+use Rattle.avr_model.specs.Devices.{words_of, io_end, size_of, ramend, back_of, wrapped, device_of}
 use Rattle.avr_model.specs.Assumptions.{has_pairs}
 use Rattle.avr_model.specs.declared.choice.Choice.{Choice}
 use Rattle.avr_model.specs.declared.choice.Choice.TheVariants.{Go}
 use Rattle.avr_model.specs.declared.effect.Effect.{Effect}
 use Rattle.avr_model.specs.Sreg.{flag}
 use Rattle.avr_model.specs.Masks.{reads_masks}
-use Rattle.avr_model.specs.State.{State, Memory, minus16, plus16}
+use Rattle.avr_model.specs.State.{State, Memory, minus_sp, plus_sp}
 use Rattle.avr_model.specs.Effects.{way_back, going_to}
 use Rattle.avr_model.specs.Step.{after, all_inside, live_write, registers_after, with_registers, sreg_after, sp_after, open_after, enables_after}
 use Rattle.sp_domain.specs.Tags.{Origin, LessHolds}
@@ -34,20 +34,20 @@ use Rattle.local_rules.specs.declared.local.Exit.{Exit}
 use Rattle.local_rules.specs.Cover.{IsNodeIn, IsWithinBase, HasRoom, ArrivesAt, IsReturn}
 use Rattle.local_rules.specs.Machine.{IsMachine, floor_of}
 use Rattle.local_laws.specs.Laws.{LiveBytesStay}
-use Rattle.local_laws.proofs.AllLaws.{joins_are_least, local_parts_are_nodes, local_parts_fit, open_pairs_stay}
+use Rattle.local_laws.proofs.AllLaws.{inside_pushed, sp_down, sp_up, joins_are_least, local_parts_are_nodes, local_parts_fit, open_pairs_stay}
 use Rattle.edge_rules.specs.Edges.{raw_of, IsFaultless, Enters, by_call, by_interrupt, returned_key, moving, entering, returning}
 use Rattle.edge_rules.specs.Families.{RankedFamily, IsCovered, IsSoundFamily}
 use Rattle.edge_rules.specs.Nest.{recurs, enters as by_node}
 use Rattle.edge_rules.specs.Frames.{Frame, AreLeft, Runs, Change, moved, returned_to, HasNext}
 use Rattle.frame_laws.proofs.Left.{not_root, root_base, within, base_inside, left_kept}
-use Rattle.frame_laws.proofs.Way.{WayBack, two_inside, way_pushed, way_read}
+use Rattle.frame_laws.proofs.Way.{WayBack, way_pushed, way_read}
 use Rattle.frame_laws.proofs.Answers.{StepGoesOn}
 use Rattle.local_rules.specs.Site.{Task}
 
 -- an entry: the return address is pushed, and registers stay
 abbrev pub entry_effect : State → ℕ → ℕ → ℕ → ℕ → Effect
 entry_effect m target sreg enables back =
-    record (going_to m target) { sreg = sreg; sp = minus16 m.sp 2; is_open = false; enables = enables; pushes = way_back m.sp back }
+    record (going_to m target) { sreg = sreg; sp = minus_sp m.device m.sp (back_of m.device); is_open = false; enables = enables; pushes = way_back m.device m.sp back }
 
 pub floor_fits : (base : ℕ) (is_open : Bool) (sp : ℕ) (form : SpForm) → SpIs base is_open sp form → floor_of is_open sp ≤ base
 floor_fits base true sp (Closed offset) h = absurd (let e = h.0 in cc)
@@ -80,14 +80,11 @@ module _ (live : LiveBytesStay) (task : Task) (f : RankedFamily) (sound : IsSoun
     low_base : g.origin.base ≤ ramend m.device
     low_base = on_machine (λ device. g.origin.base ≤ ramend device) (base_inside task f sound m.memory gs g.node.key.inst g.origin runs.left)
 
+    same_back : back_of (device_of task.flash) ≡ back_of m.device
+    same_back = ap back_of (sym runs.device)
+
     small : f.bound ≤ size_of m.device
     small = on_machine (λ device. f.bound ≤ size_of device) sound.small
-
-    few : size_of m.device ≤ 16384
-    few = devices_are_alike.most_bytes m.device
-
-    low_io : io_end m.device ≤ 0x1FF
-    low_io = devices_are_alike.most_io m.device
 
     -- a step that writes no live byte keeps this
     kept_by : (guarded : Bool) (e : Effect) → live_write m.memory (e.stores ++ e.pushes) ≡ None → Keeps m.memory (after m guarded e).memory (floor_of (after m guarded e).is_open (after m guarded e).sp)
@@ -148,7 +145,7 @@ module _ (live : LiveBytesStay) (task : Task) (f : RankedFamily) (sound : IsSoun
                       stands = values_say_less.state g.origin to.state cov.state n (states_are_ordered.through to.state joined.state cov.state joined.above cov.above) stands;
                       facts = facts_less to.state cov.state n (states_are_ordered.through to.state joined.state cov.state joined.above cov.above) lands.facts;
                       root = subst (λ (i : InstKey). i.kind ≡ Root → g.origin.base ≡ ramend m.device) (sym inst) runs.running.root;
-                      base_word = runs.running.base_word;
+                      top = runs.running.top;
                       room = λ may. place_at node cov.present inst to.key.sp refl (λ offset high is. open_pairs_stay.stays task g.node.key g.node.state to offset high faultless member is) may;
                     };
                     left = subst (λ i. AreLeft task f n.memory gs i g.origin) (sym inst) left;
@@ -164,7 +161,7 @@ module _ (live : LiveBytesStay) (task : Task) (f : RankedFamily) (sound : IsSoun
 
     -- the origin of the entered frame
     abbrev entry_origin : Origin
-    entry_origin = record { registers = m.registers; sreg = m.sreg; base = minus16 m.sp 2 }
+    entry_origin = record { registers = m.registers; sreg = m.sreg; base = minus_sp m.device m.sp (back_of m.device) }
 
     -- the instance is entered where the bound leaves room for it: a cut one no deeper than its line permits
     module _ (way : EdgeKind) (inst : InstKey) (back offset : ℕ) (form : g.node.key.sp ≡ Closed offset) (enters : Enters task g.node way inst back)
@@ -175,46 +172,52 @@ module _ (live : LiveBytesStay) (task : Task) (f : RankedFamily) (sound : IsSoun
       covered : IsCovered f.nodes (record { key = entry_key inst; state = entered g.node.state })
       covered = sound.edges g.node _ runs.present (entering way inst back enters)
 
-      fits_by : (cut : Option ℕ) → cut_at task.assumptions inst ≡ cut → ramend m.device + 2 + f.need_of inst ≤ m.sp + f.bound
+      fits_by : (cut : Option ℕ) → cut_at task.assumptions inst ≡ cut → ramend m.device + back_of m.device + f.need_of inst ≤ m.sp + f.bound
       fits_by None is =
           let below = sound.needs g.node.key.inst inst (offset_of g.node.key.sp) (by_node g.node way back runs.present refl refl enters is) in
-          omega (arith, in_bound, below, ap offset_of form, closed_sp offset form)
+          omega (arith, in_bound, below, ap offset_of form, closed_sp offset form, same_back)
       fits_by (Some depth) is =
           let below = sound.needs root_inst inst depth (recurs _ covered.present refl is refl) in
-          omega (arith, below, sound.bounded, shallow depth is)
+          omega (arith, below, sound.bounded, shallow depth is, same_back)
 
-      fits : ramend m.device + 2 + f.need_of inst ≤ m.sp + f.bound
+      fits : ramend m.device + back_of m.device + f.need_of inst ≤ m.sp + f.bound
       fits = fits_by (cut_at task.assumptions inst) refl
 
-      room : ramend m.device + 2 ≤ m.sp + size_of m.device
+      room : ramend m.device + back_of m.device ≤ m.sp + size_of m.device
       room = omega (arith, fits, small)
+
+      few : back_of m.device ≤ 3
+      few = devices_are_alike.most_back m.device
+
+      -- the next base is as far below the stack pointer as a return address is long
+      down : minus_sp m.device m.sp (back_of m.device) + back_of m.device ≡ m.sp
+      down = sp_down m.device m.sp (back_of m.device) (omega (arith, room)) (omega (arith, few)) runs.running.machine.sp_fits
 
       abbrev entry_frame : Frame
       entry_frame = record { node = record { key = entry_key inst; state = covered.state }; origin = entry_origin }
 
-      left_by : (n : Memory) → Keeps m.memory n (minus16 m.sp 2) → WayBack n (minus16 m.sp 2) back → AreLeft task f n (g ∷ gs) inst entry_origin
+      left_by : (n : Memory) → Keeps m.memory n (minus_sp m.device m.sp (back_of m.device)) → WayBack (back_of m.device) n (minus_sp m.device m.sp (back_of m.device)) back → AreLeft task f n (g ∷ gs) inst entry_origin
       left_by n kept pushed =
-          let sp = closed_sp offset form in (
+          let sp = closed_sp offset form in
+          let way_left : WayBack (back_of (device_of task.flash)) n entry_origin.base back = subst (λ device. WayBack (back_of device) n entry_origin.base back) runs.device pushed in (
             record {
               present = runs.present;
               registers = runs.running.stands.registers;
               flags = runs.running.stands.flags;
               less = runs.running.stands.less;
               facts = runs.running.facts;
-              slots = slots_follow.kept g.origin m.memory n (minus16 m.sp 2) g.node.state.slots kept (omega (arith, count_slots, ap offset_of form, room, top, few, low_io, sp)) runs.running.stands.slots;
+              slots = slots_follow.kept g.origin m.memory n (minus_sp m.device m.sp (back_of m.device)) g.node.state.slots kept (omega (arith, count_slots, ap offset_of form, down, sp)) runs.running.stands.slots;
               offset = offset;
               closed = form;
-              place = omega (arith, room, top, few, low_io, sp);
+              place = omega (arith, down, same_back, sp);
               way = way;
               back = back;
               enters = enters;
-              need = subst (λ device. (ramend device - minus16 m.sp 2) + f.need_of inst ≤ f.bound) runs.device (omega (arith, fits, room, top, few, low_io));
-              low_byte = pushed.low_byte;
-              high_byte = pushed.high_byte;
-              low_live = pushed.low_live;
-              high_live = pushed.high_live;
+              need = subst (λ device. (ramend device - entry_origin.base) + f.need_of inst ≤ f.bound) runs.device (omega (arith, fits, down, top));
+              bytes = way_left.bytes;
+              live = way_left.live;
             },
-            left_kept task f sound m.memory n (minus16 m.sp 2) kept gs g.node.key.inst g.origin (omega (arith, room, top, few, low_io, sp)) runs.left,
+            left_kept task f sound m.memory n (minus_sp m.device m.sp (back_of m.device)) kept gs g.node.key.inst g.origin (omega (arith, down, sp)) runs.left,
           )
 
       module _ (target sreg enables : ℕ) (to : wrapped m.device target ≡ inst.entry) (flags : sreg % 128 ≡ m.sreg % 128) (i : flag sreg 7 ≡ inst.i) (masks : EnablesAre (reads_masks (device_of task.flash) task.assumptions) enables inst.masks) where
@@ -225,13 +228,13 @@ module _ (live : LiveBytesStay) (task : Task) (f : RankedFamily) (sound : IsSoun
             let n = after m true (entry_effect m target sreg enables back) in
             let formed = runs.running.node.formed in
             let stands : Stands entry_origin (entered g.node.state) n = record {
-              registers = entries_are_true.registers g.origin g.node.state m.registers m.sreg (minus16 m.sp 2) formed.count_registers runs.running.stands.registers;
-              flags = entries_are_true.flags g.origin g.node.state (offset_of g.node.key.sp) m.registers m.sreg sreg (minus16 m.sp 2) formed flags runs.running.stands.flags;
+              registers = entries_are_true.registers g.origin g.node.state m.registers m.sreg entry_origin.base formed.count_registers runs.running.stands.registers;
+              flags = entries_are_true.flags g.origin g.node.state (offset_of g.node.key.sp) m.registers m.sreg sreg entry_origin.base formed flags runs.running.stands.flags;
               less = tt;
               slots = λ d lt. absurd (omega arith);
             } in
             record {
-              inside = two_inside m.device m.sp back top room;
+              inside = inside_pushed m.device (back_of m.device) m.sp offset g.origin.base back (closed_sp offset form) low_base (omega (arith, room, closed_sp offset form));
               done = λ miss machine. (
                 entry_frame,
                 g ∷ gs,
@@ -247,10 +250,11 @@ module _ (live : LiveBytesStay) (task : Task) (f : RankedFamily) (sound : IsSoun
                         facts_less (entered g.node.state) covered.state n covered.above
                         (entries_are_true.facts g.node.state m.registers (flag m.sreg 0) (flag m.sreg 1) (flag m.sreg 4) (flag n.sreg 0) (flag n.sreg 1) (flag n.sreg 4) runs.running.facts);
                     root = λ kind. absurd (not_root enters kind);
-                    base_word = omega arith;
-                    room = λ may. omega (arith, room, top, few, low_io);
+                    top = omega (arith, down, top);
+                    room = λ may. omega (arith, room, down);
                   };
-                  left = left_by n.memory (kept_by true (entry_effect m target sreg enables back) miss) (way_pushed m.device m.memory m.sp back runs.running.machine.below runs.running.machine.count_bytes runs.running.machine.count_live top room);
+                  left = left_by n.memory (kept_by true (entry_effect m target sreg enables back) miss)
+                      (way_pushed m.device (back_of m.device) m.memory m.sp back few runs.running.machine.below runs.running.machine.count_bytes runs.running.machine.count_live top runs.running.machine.sp_fits room);
                 },
                 change covered.state covered.above,
               );
@@ -268,11 +272,11 @@ module _ (live : LiveBytesStay) (task : Task) (f : RankedFamily) (sound : IsSoun
       same_sreg : returned_state.sreg ≡ e.sreg
       same_sreg = ap (sreg_after e.sreg) is.stores
 
-      raised_sp : returned_state.sp ≡ plus16 m.sp 2
-      raised_sp = ap₂ sp_after is.sp is.stores
+      raised_sp : returned_state.sp ≡ plus_sp m.device m.sp (back_of m.device)
+      raised_sp = ap₂ (sp_after m.device) is.sp is.stores
 
       still_closed : returned_state.is_open ≡ false
-      still_closed = ap₂ open_after is.closed is.stores
+      still_closed = ap₂ (open_after m.device) is.closed is.stores
 
       -- the slots of the frame that continues lie in SRAM or above it
       caller_room : (h : Frame) (hs : List Frame) → AreLeft task f m.memory hs h.node.key.inst h.origin → Contains f.nodes h.node → (offset : ℕ) → h.node.key.sp ≡ Closed offset
@@ -290,14 +294,17 @@ module _ (live : LiveBytesStay) (task : Task) (f : RankedFamily) (sound : IsSoun
           let caller = sound.formed h.node was.present in
           let callee = subst (λ sp. IsFormed g.node.state (offset_of sp)) form runs.running.node.formed in
           let sp : m.sp ≡ g.origin.base = omega (arith, closed_sp 0 form) in
-          let floor : floor_of n.is_open n.sp ≡ g.origin.base + 2 = ap₂ floor_of still_closed raised_sp ∙ omega (arith, low_base, few, low_io, sp) in
+          let base_low : h.origin.base ≤ ramend m.device = on_machine (λ device. h.origin.base ≤ ramend device) (base_inside task f sound m.memory hs h.node.key.inst h.origin left.1) in
+          let up : plus_sp m.device m.sp (back_of m.device) ≡ m.sp + back_of m.device = sp_up m.device m.sp (back_of m.device) (omega (arith, sp, was.place, base_low, same_back, devices_are_alike.in_sp m.device)) in
+          let floor : floor_of n.is_open n.sp ≡ g.origin.base + back_of (device_of task.flash) = ap₂ floor_of still_closed raised_sp ∙ omega (arith, up, sp, same_back) in
           let kept = subst (Keeps m.memory n.memory) floor (kept_by guarded e miss) in
-          let slots = slots_follow.kept h.origin m.memory n.memory (g.origin.base + 2) h.node.state.slots kept (omega (arith, was.place, ap offset_of was.closed, caller.formed.count_slots)) was.slots in
+          let slots = slots_follow.kept h.origin m.memory n.memory (g.origin.base + back_of (device_of task.flash)) h.node.state.slots kept (omega (arith, was.place, ap offset_of was.closed, caller.formed.count_slots)) was.slots in
           let back = returns_are_true.stands h.origin g.origin h.node.state g.node.state (offset_of h.node.key.sp) g.origin.registers m.registers g.origin.sreg m.sreg e.sreg n.memory
           caller.formed callee was.registers was.flags was.less slots was.facts (record { registers_kept = refl; flags_kept = refl }) runs.running.stands.registers runs.running.stands.flags
           runs.running.facts is.flags in
           let edge = returning was.way g.node.key.inst was.back g.node x back.0 was.enters runs.present refl faultless exit back.1 in
           let cov = sound.edges h.node _ was.present edge in
+          let word_inside : was.back < words_of m.device = on_machine (λ device. was.back < words_of device) (back_inside was.enters) in
           let key = returned_key was.way h.node.key was.back x in
           let node = sound.formed (record { key = key; state = cov.state }) cov.present in
           let stands : Stands h.origin back.0 n = record {
@@ -317,21 +324,22 @@ module _ (live : LiveBytesStay) (task : Task) (f : RankedFamily) (sound : IsSoun
                 place = record {
                   pc = is.pc
                       ∙ ap (wrapped m.device)
-                      (way_read (reads_masks (device_of task.flash) task.assumptions) m g.origin.base was.back b1 b2 runs.running.machine.below runs.running.machine.count_live sp low_base
-                      record { low_byte = was.low_byte; high_byte = was.high_byte; low_live = was.low_live; high_live = was.high_live })
-                      ∙ devices_are_alike.same m.device was.back (on_machine (λ device. was.back < words_of device) (back_inside was.enters));
+                      (way_read (reads_masks (device_of task.flash) task.assumptions) m (back_of m.device) g.origin.base was.back b1 b2 runs.running.machine.below runs.running.machine.count_live sp (omega (arith, was.place, base_low, same_back))
+                      (on_machine (λ device. WayBack (back_of device) m.memory g.origin.base was.back) (record { bytes = was.bytes; live = was.live }))
+                      (omega (arith, word_inside, devices_are_alike.in_back m.device)))
+                      ∙ devices_are_alike.same m.device was.back word_inside;
                   enables = subst (λ ws. EnablesAre (reads_masks (device_of task.flash) task.assumptions) (enables_after m.device e.enables ws) x.masks) (sym is.stores) is.enables;
                   i = ap (λ s. flag s 7) same_sreg ∙ is.i;
                   delay = is.delay;
-                  sp = subst (SpIs h.origin.base n.is_open n.sp) (sym was.closed) (still_closed, omega (arith, raised_sp, was.place, low_base, few, low_io, sp));
+                  sp = subst (SpIs h.origin.base n.is_open n.sp) (sym was.closed) (still_closed, omega (arith, raised_sp, up, was.place, same_back, sp));
                 };
                 stands = values_say_less.state h.origin back.0 cov.state n cov.above stands;
                 facts = facts_less back.0 cov.state n cov.above (subst₂ (HoldsAt back.0.facts) (sym same_registers) (sym same_sreg) back.6);
-                root = λ kind. root_base task f n.memory hs h.node.key.inst h.origin (left_kept task f sound m.memory n.memory (g.origin.base + 2) kept hs h.node.key.inst h.origin (omega (arith, was.place)) left.1) kind ∙ ap ramend (sym runs.device);
-                base_word = omega (arith, base_inside task f sound m.memory hs h.node.key.inst h.origin left.1, devices_are_alike.most_bytes (device_of task.flash), devices_are_alike.most_io (device_of task.flash));
+                root = λ kind. root_base task f n.memory hs h.node.key.inst h.origin (left_kept task f sound m.memory n.memory (g.origin.base + back_of (device_of task.flash)) kept hs h.node.key.inst h.origin (omega (arith, was.place)) left.1) kind ∙ ap ramend (sym runs.device);
+                top = base_low;
                 room = λ may. caller_room h hs left.1 was.present was.offset was.closed;
               };
-              left = left_kept task f sound m.memory n.memory (g.origin.base + 2) kept hs h.node.key.inst h.origin (omega (arith, was.place)) left.1;
+              left = left_kept task f sound m.memory n.memory (g.origin.base + back_of (device_of task.flash)) kept hs h.node.key.inst h.origin (omega (arith, was.place)) left.1;
             },
             returned_to b1 b2 h hs was.way was.back x back.0 cov.state frames was.enters faultless exit back.1 cov.above,
           )

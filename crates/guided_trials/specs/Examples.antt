@@ -60,12 +60,16 @@ another_once : takes_of M328 8 3 ≡ record { vector = 8; clears = false; need =
 unfolding device_row
 another_once = refl
 
--- three bytes on the stack, two for the return address and a need of five reach the bound of ten; with a need of four they don't
-wanted_at_the_bound : is_wanted (record { bytes = 0 ∷ []; takes = []; bound = 10 }) 3 (record { vector = 8; clears = false; need = 5 }) ≡ true
+-- three bytes on the stack, two for the return address and a need of five reach the bound of ten; with a need of four they don't, but with
+-- a return address of three bytes they do
+wanted_at_the_bound : is_wanted (record { bytes = 0 ∷ []; takes = []; bound = 10; back = 2 }) 3 (record { vector = 8; clears = false; need = 5 }) ≡ true
 wanted_at_the_bound = refl
 
-one_byte_short : is_wanted (record { bytes = 0 ∷ []; takes = []; bound = 10 }) 3 (record { vector = 8; clears = false; need = 4 }) ≡ false
+one_byte_short : is_wanted (record { bytes = 0 ∷ []; takes = []; bound = 10; back = 2 }) 3 (record { vector = 8; clears = false; need = 4 }) ≡ false
 one_byte_short = refl
+
+wanted_by_a_longer_address : is_wanted (record { bytes = 0 ∷ []; takes = []; bound = 10; back = 3 }) 3 (record { vector = 8; clears = false; need = 4 }) ≡ true
+wanted_by_a_longer_address = refl
 
 -- members are numbered modulo their count
 third_of_two : member (0x11 ∷ 0x22 ∷ []) 3 ≡ 0x22

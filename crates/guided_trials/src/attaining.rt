@@ -95,6 +95,7 @@ fn guide_of(
         bytes,
         takes: Candidates::new(takes),
         bound: certificate.bound(),
+        back: flash.device().back(),
     })
 }
 
@@ -126,6 +127,7 @@ fn with_schedule(
     ensures completed { IfOk result (IsCompleted flash.now assumptions.now trials certificate) }
     ensures attained { IfOk result (AttainedWhere flash.now assumptions.now trials certificate) }
     ensures valid { IfOk result (KeepsValid flash.now assumptions.now certificate) }
+    ensures device { IfOk result (λ c. c.device ≡ device_of flash.now) }
 {
     if certificate.witness().is_some() {
         return Ok(certificate);
@@ -157,6 +159,7 @@ pub fn attain(
     ensures completed { IfOk result (IsCompleted flash.now assumptions.now trials certificate) }
     ensures attained { IfOk result (AttainedWhere flash.now assumptions.now trials certificate) }
     ensures valid { IfOk result (KeepsValid flash.now assumptions.now certificate) }
+    ensures device { IfOk result (λ c. c.device ≡ device_of flash.now) }
     ensures other { result ≡ Err AttainFault.Device → certificate.device ≢ device_of flash.now }
 {
     if certificate.device() != flash.device() {

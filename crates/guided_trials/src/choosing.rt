@@ -97,15 +97,15 @@ fn is_wanted(guide: &Guide, depth: u16, candidate: &Candidate) -> bool
     ensures { result ≡ spec.is_wanted guide.now depth candidate.now }
 {
     let need = candidate.need;
-    let back = u64::from(depth) + 2;
-    u64::from(guide.bound) <= back + u64::from(need)
+    let fall = u64::from(depth) + u64::from(guide.back);
+    u64::from(guide.bound) <= fall + u64::from(need)
 }
 
 // The first interrupt in the menu that is wanted.
 fn wanted(guide: &Guide, menu: &Menu, depth: u16) -> Option<Candidate>
     ensures { result ≡ spec.wanted_at guide.now depth (spec.stands menu.now) }
 {
-    if !guide.takes.reach(guide.bound, depth) {
+    if !guide.takes.reach(guide.bound, depth, guide.back) {
         return None;
     }
     for candidate in guide.takes.as_slice() {
@@ -164,8 +164,7 @@ fn by_chance(guide: &Guide, menu: &Menu, t: u32, number: u64) -> Option<Candidat
 fn taken(flash: &Flash, guide: &Guide, t: u32, number: u64, menu: &Menu) -> Option<Candidate>
     ensures { result ≡ spec.taken_at guide.now t number (spec.fallen flash.now menu.now.sp) (spec.stands menu.now) }
 {
-    // No vector has the number 0: if it is the open one, none is open.
-    if !menu.takes || (menu.masks.bits() == 0 && menu.device.is_open_vector(0)) {
+    if !menu.takes {
         return None;
     }
     if high(number) % 4 != 0 {

@@ -99,13 +99,13 @@ impl Candidates {
         self.list.as_slice()
     }
 
-    /// Whether a stack of this depth, with a return address and the greatest need, reaches the bound.
-    pub fn reach(&self, bound: u16, depth: u16) -> bool
-        ensures { result ≡ nat_le bound (depth + 2 + greatest self.now) }
+    /// Whether a stack of this depth, with a return address of `back` bytes and the greatest need, reaches the bound.
+    pub fn reach(&self, bound: u16, depth: u16, back: u8) -> bool
+        ensures { result ≡ nat_le bound (depth + back + greatest self.now) }
     {
         let need = self.most;
-        let back = u64::from(depth) + 2;
-        u64::from(bound) <= back + u64::from(need)
+        let fall = u64::from(depth) + u64::from(back);
+        u64::from(bound) <= fall + u64::from(need)
     }
 }
 
@@ -118,6 +118,8 @@ pub struct Guide {
     pub takes: Candidates,
     /// The bound.
     pub bound: u16,
+    /// The bytes of a return address.
+    pub back: u8,
 }
 
 /// The state of a trial: its last number, and its input byte.

@@ -5,7 +5,7 @@ use Rattle.std.proofs.lemmas.Bool.{and_parts}
 use Rattle.std.proofs.lemmas.Bool.Decides.{nat_tests}
 use Rattle.std.proofs.lemmas.Slice.Eq.{bytes_eq-Decides}
 use Rattle.std.specs.Str.{bytes_eq}
-use Rattle.std.specs.Prelude.{nat_le, length, decimal, ◌≤◌, ◌+◌}
+use Rattle.std.specs.Prelude.{nat_le, length, decimal, ◌≤◌}
 use Rattle.avr_model.specs.State.{SIZE}
 use Rattle.basics.specs.Lists.{chosen, same_tail}
 use Rattle.std.proofs.lemmas.Option.{same_Some, none-some}

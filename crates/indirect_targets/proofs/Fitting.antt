@@ -9,8 +9,8 @@ use Rattle.avr_model.specs.declared.rows.Place.{Place}
 use Rattle.avr_model.specs.declared.assumption.Entry.{Entry}
 use Rattle.avr_model.specs.declared.assumption.Entry.TheVariants.{Pairs, Masks, Jump, Store, Prove, Free, Never, Frame, Recur, Scratch}
 use Rattle.avr_model.specs.State.{SIZE}
-use Rattle.avr_model.specs.Devices.{io_end, depth_of}
-use Rattle.avr_model.specs.Vectors.{places, has_enables, is_core, is_protected, is_vector}
+use Rattle.avr_model.specs.Devices.{io_end, depth_of, has_sph}
+use Rattle.avr_model.specs.Vectors.{places, has_enables, is_core_by, is_core, is_protected, is_vector}
 use Rattle.avr_model.proofs.AllLaws.{devices_are_alike, places_are_apart}
 use Rattle.vector_table.specs.Entries.{fits_device, is_word, is_word_of, is_io, ascends}
 use Rattle.indirect_targets.specs.Reading.{is_entry_of}
@@ -22,7 +22,7 @@ word_of_list d a h =
 
 -- each place is in I/O
 abbrev AreInIo : Device → List Place → Type 0
-AreInIo d rows = All (λ (p : Place). (is_vector d p.vector ≡ true) × ((is_core p.address ≡ false) × ((p.address ≤ io_end d) × (p.mask < 256)))) rows
+AreInIo d rows = All (λ (p : Place). (is_vector d p.vector ≡ true) × ((is_core d p.address ≡ false) × ((p.address ≤ io_end d) × (p.mask < 256)))) rows
 
 some_place : (d : Device) (rows : List Place) (a : ℕ) → AreInIo d rows → list_any (λ (p : Place). eqb p.address a) rows ≡ true → a ≤ io_end d
 some_place d [] a h e = cc
@@ -34,6 +34,14 @@ some_place d (p ∷ rows) a h e = elim (cases_Bool (eqb p.address a)) [
   | inr other ↦ some_place d rows a (λ k q lt. h (suc k) q (omega arith)) (rw other at e)
 ]
 
+or_false : (b : Bool) → b ≡ (b || false)
+or_false true = refl
+or_false false = refl
+
+core_io : (high : Bool) (a : ℕ) → is_core_by high a ≡ true → is_io a ≡ true
+core_io true a h = grind (arith, nat_tests, h)
+core_io false a h = grind (arith, nat_tests, h)
+
 protected_io : (d : Device) (a : ℕ) → is_protected d a ≡ true → is_io a ≡ true
 unfolding has_enables
 protected_io d a h = elim (cases_Bool (has_enables d a)) [
@@ -41,7 +49,7 @@ protected_io d a h = elim (cases_Bool (has_enables d a)) [
       let small = some_place d (places d) a (places_are_apart.each d) held in
       let most = devices_are_alike.most_io d in
       grind (arith, nat_tests)
-  | inr none ↦ let rest : (is_core a || false) ≡ true = rw none at h in grind (arith, nat_tests)
+  | inr none ↦ core_io (has_sph d) a (let rest : (is_core d a || false) ≡ true = rw none at h in or_false (is_core d a) ∙ rest)
 ]
 
 all_more : (p q : ℕ → Bool) → ((n : ℕ) → p n ≡ true → q n ≡ true) → (ns : List ℕ) → list_all p ns ≡ true → list_all q ns ≡ true

@@ -13,8 +13,9 @@ use avr_model::device::Device;
 use avr_model::instruction::{LowRegister, Pointer};
 use bit_domain::TriByte;
 use flash_image::Flash;
+use local_rows::high_bytes::pair_tags;
 use local_rows::registers::pair;
-use local_rules::Pointed;
+use local_rules::{Pointed, SpView};
 use mask_states::NodeKey;
 use sp_domain::{Tag, frame};
 
@@ -40,15 +41,15 @@ pub fn pair_constant(state: &AbsState, r: LowRegister) -> Option<u16>
 }
 
 /// The address by registers `r` and `r + 1` plus a number, modulo 65,536.
-pub fn point(state: &AbsState, r: LowRegister, up: u16) -> Pointed
-    ensures { result ≡ reads.pointed state.now r up }
+pub fn point(view: SpView, state: &AbsState, r: LowRegister, up: u16) -> Pointed
+    ensures { result ≡ reads.pointed view state.now r up }
 {
-    let (low, high) = pair(state, r);
+    let (low, high) = pair_tags(view, state, r);
     let constant = match pair_constant(state, r) {
         Some(number) => Some(number.wrapping_add(up)),
         None => None,
     };
-    let frame = match frame(low.tag, high.tag) {
+    let frame = match frame(low, high) {
         Some(below) => Some(below.wrapping_sub(up)),
         None => None,
     };

@@ -106,7 +106,7 @@ pub fn read_at(device: Device, may: bool, key: &NodeKey, state: &AbsState, addre
     match address {
         0..REGISTERS_END => value(state, Register::new(address)),
         SPL => sp_bytes(device, key.inst.kind, key.sp).0,
-        SPH => sp_bytes(device, key.inst.kind, key.sp).1,
+        SPH if device.has_sph() => sp_bytes(device, key.inst.kind, key.sp).1,
         SREG => sreg_value(key, state),
         _ if address <= device.io_end() => {
             AbsByte::untagged(io_bits(device, may, key.masks, address))

@@ -15,11 +15,11 @@ use Rattle.nesting_bound.proofs.Walk.{no_cycle}
 pub ranks_rule_out_cycles : RanksRuleOutCycles
 ranks_rule_out_cycles = no_cycle
 
-bounded : (gs : List GraphInst) (need : ℕ → ℕ) → AreGraphNeeds gs need → (i depth : ℕ) → Nests gs i depth → depth ≤ need i
-bounded gs need needs i depth (here _ p h) = needs.offsets i p h
-bounded gs need needs i depth (deeper _ below e h rest) =
+bounded : (back : ℕ) (gs : List GraphInst) (need : ℕ → ℕ) → AreGraphNeeds back gs need → (i depth : ℕ) → Nests back gs i depth → depth ≤ need i
+bounded back gs need needs i depth (here _ p h) = needs.offsets i p h
+bounded back gs need needs i depth (deeper _ below e h rest) =
     let a = needs.entered i e h in
-    let b = bounded gs need needs e.into below rest in
+    let b = bounded back gs need needs e.into below rest in
     omega arith
 
 pub needs_bound_nesting : NeedsBoundNesting
@@ -42,11 +42,11 @@ named_one gs a b na nb =
 
 pub answers_are_one : LeastNeedsAreOne
 answers_are_one = record {
-  ranks = λ gs ranks needs ranks' needs' l l'. same_number_lists ranks ranks' (l.ranks_length ∙ sym l'.ranks_length) (λ k lt.
+  ranks = λ back gs ranks needs ranks' needs' l l'. same_number_lists ranks ranks' (l.ranks_length ∙ sym l'.ranks_length) (λ k lt.
       let a = l.least_ranks (slice_index ranks') l'.are_ranks k (omega (arith, l.ranks_length)) in
       let b = l'.least_ranks (slice_index ranks) l.are_ranks k (omega (arith, l.ranks_length)) in
       omega (arith, a, b));
-  needs = λ gs ranks needs ranks' needs' l l'. same_number_lists needs needs' (l.needs_length ∙ sym l'.needs_length) (λ k lt.
+  needs = λ back gs ranks needs ranks' needs' l l'. same_number_lists needs needs' (l.needs_length ∙ sym l'.needs_length) (λ k lt.
       let a = l.least_needs (slice_index needs') l'.are_needs k (omega (arith, l.needs_length)) in
       let b = l'.least_needs (slice_index needs) l.are_needs k (omega (arith, l.needs_length)) in
       omega (arith, a, b));
@@ -54,16 +54,16 @@ answers_are_one = record {
 }
 
 -- ---- chains
-ending : (gs : List GraphInst) (needs : List ℕ) (i above : ℕ) (links : List Link) → IsChainFrom gs needs i above links → EndsAt links (above + slice_index needs i)
-ending gs needs i above links (ends _ _ p first) = record {
+ending : (back : ℕ) (gs : List GraphInst) (needs : List ℕ) (i above : ℕ) (links : List Link) → IsChainFrom back gs needs i above links → EndsAt links (above + slice_index needs i)
+ending back gs needs i above links (ends _ _ p first) = record {
   front = [];
   end = record { inst = i; node = p.node; depth = above + p.offset; way = None };
   is = refl;
   last = refl;
   deep = omega (arith, first.is.1);
 }
-ending gs needs i above links (goes _ _ e rest no_end first chain) =
-    let below = ending gs needs e.into (above + e.offset + 2) rest chain in
+ending back gs needs i above links (goes _ _ e rest no_end first chain) =
+    let below = ending back gs needs e.into (above + e.offset + back) rest chain in
     record {
       front = record { inst = i; node = e.node; depth = above + e.offset; way = Some e.way } ∷ below.front;
       end = below.end;
@@ -72,28 +72,28 @@ ending gs needs i above links (goes _ _ e rest no_end first chain) =
       deep = omega (arith, below.deep, first.is.1);
     }
 
-nesting : (gs : List GraphInst) (needs : List ℕ) (i above : ℕ) (links : List Link) → IsChainFrom gs needs i above links → Nests gs i (slice_index needs i)
-nesting gs needs i above links (ends _ _ p first) = subst (Nests gs i) first.is.1 (here i p first.is.0)
-nesting gs needs i above links (goes _ _ e rest no_end first chain) =
-    subst (Nests gs i) first.is.1 (deeper i (slice_index needs e.into) e first.is.0 (nesting gs needs e.into (above + e.offset + 2) rest chain))
+nesting : (back : ℕ) (gs : List GraphInst) (needs : List ℕ) (i above : ℕ) (links : List Link) → IsChainFrom back gs needs i above links → Nests back gs i (slice_index needs i)
+nesting back gs needs i above links (ends _ _ p first) = subst (Nests back gs i) first.is.1 (here i p first.is.0)
+nesting back gs needs i above links (goes _ _ e rest no_end first chain) =
+    subst (Nests back gs i) first.is.1 (deeper i (slice_index needs e.into) e first.is.0 (nesting back gs needs e.into (above + e.offset + back) rest chain))
 
 pub chains_reach_the_need : ChainsReachTheNeed
 chains_reach_the_need = record {
-  ends = λ gs needs links chain. subst (EndsAt links) (omega arith) (ending gs needs 0 0 links chain);
-  nests = λ gs needs links chain. nesting gs needs 0 0 links chain;
+  ends = λ back gs needs links chain. subst (EndsAt links) (omega arith) (ending back gs needs 0 0 links chain);
+  nests = λ back gs needs links chain. nesting back gs needs 0 0 links chain;
 }
 
-module _ (gs : List GraphInst) (needs : List ℕ) where
+module _ (back : ℕ) (gs : List GraphInst) (needs : List ℕ) where
   places_same : (i : ℕ) (p q : Place) → IsFirst (IsDeepPlace gs needs i) IsPlaceUpTo p → IsFirst (IsDeepPlace gs needs i) IsPlaceUpTo q → p ≡ q
   places_same i p q f g =
       let nodes : p.node ≡ q.node = omega (arith, f.first q g.is, g.first p f.is) in
       let offsets : p.offset ≡ q.offset = f.is.1 ∙ sym g.is.1 in
       λ j. record { node = nodes j; offset = offsets j }
 
-  ways_same : (i : ℕ) (e d : Entered) → IsFirst (IsDeepEdge gs needs i) (IsEdgeUpTo gs) e → IsFirst (IsDeepEdge gs needs i) (IsEdgeUpTo gs) d → e ≡ d
-  ways_same i e d f g = edges_same gs needs e d (slice_index needs i) (f.first d g.is) (g.first e f.is) f.is.1 g.is.1
+  ways_same : (i : ℕ) (e d : Entered) → IsFirst (IsDeepEdge back gs needs i) (IsEdgeUpTo gs) e → IsFirst (IsDeepEdge back gs needs i) (IsEdgeUpTo gs) d → e ≡ d
+  ways_same i e d f g = edges_same back gs needs e d (slice_index needs i) (f.first d g.is) (g.first e f.is) f.is.1 g.is.1
 
-  one : (i i' above above' : ℕ) → i ≡ i' → above ≡ above' → (links links' : List Link) → IsChainFrom gs needs i above links → IsChainFrom gs needs i' above' links' → links ≡ links'
+  one : (i i' above above' : ℕ) → i ≡ i' → above ≡ above' → (links links' : List Link) → IsChainFrom back gs needs i above links → IsChainFrom back gs needs i' above' links' → links ≡ links'
   one i i' above above' ei ea links links' (ends _ _ p f) (ends _ _ q g) =
       let same = places_same i p q f (subst (λ k. IsFirst (IsDeepPlace gs needs k) IsPlaceUpTo q) (sym ei) g) in
       λ j. record { inst = ei j; node = (same j).node; depth = ea j + (same j).offset; way = None } ∷ []
@@ -102,9 +102,9 @@ module _ (gs : List GraphInst) (needs : List ℕ) where
   one i i' above above' ei ea links links' (goes _ _ e rest no_end f chain) (ends _ _ q g) =
       absurd (no_end q (subst (λ k. IsDeepPlace gs needs k q) (sym ei) g.is))
   one i i' above above' ei ea links links' (goes _ _ e rest no_end f chain) (goes _ _ d rest' no_end' g chain') =
-      let same = ways_same i e d f (subst (λ k. IsFirst (IsDeepEdge gs needs k) (IsEdgeUpTo gs) d) (sym ei) g) in
-      let tail = one e.into d.into (above + e.offset + 2) (above' + d.offset + 2) (ap (λ x. x.into) same) (λ j. ea j + (same j).offset + 2) rest rest' chain chain' in
+      let same = ways_same i e d f (subst (λ k. IsFirst (IsDeepEdge back gs needs k) (IsEdgeUpTo gs) d) (sym ei) g) in
+      let tail = one e.into d.into (above + e.offset + back) (above' + d.offset + back) (ap (λ x. x.into) same) (λ j. ea j + (same j).offset + back) rest rest' chain chain' in
       λ j. record { inst = ei j; node = (same j).node; depth = ea j + (same j).offset; way = Some (same j).way } ∷ tail j
 
 pub chains_are_one : ChainsAreOne
-chains_are_one = λ gs needs links links' a b. one gs needs 0 0 0 0 refl refl links links' a b
+chains_are_one = λ back gs needs links links' a b. one back gs needs 0 0 0 0 refl refl links links' a b

@@ -27,7 +27,7 @@ reaches_inside : (gs : List GraphInst) (i j : ℕ) → ReachesBy gs i j → i < 
 reaches_inside gs i j (once _ e enters) = slice_get_within gs i enters.inst enters.is
 reaches_inside gs i j (more _ _ e enters rest) = slice_get_within gs i enters.inst enters.is
 
-module _ (gs : List GraphInst) (table : List (Option Found)) (sound : IsSoundTable gs table) where
+module _ (back : ℕ) (gs : List GraphInst) (table : List (Option Found)) (sound : IsSoundTable back gs table) where
   module _ (all : (i : ℕ) → i < length table → at table i ≢ None) where
     found : (i : ℕ) → i < length gs → (x : Found) × (at table i ≡ Some x)
     found i lt = found_there (at table i) (all i (subst (λ n. i < n) (sym sound.same) lt))
@@ -38,10 +38,10 @@ module _ (gs : List GraphInst) (table : List (Option Found)) (sound : IsSoundTab
     need_at : (i : ℕ) (x : Found) → at table i ≡ Some x → slice_index (map need_of table) i ≡ x.need
     need_at i x is = at_map need_of refl table i ∙ ap need_of is
 
-    pub least_of : (ranks needs : List ℕ) → ranks ≡ map rank_of table → needs ≡ map need_of table → IsLeast gs ranks needs
-    least_of ranks needs er en = subst (λ rs. IsLeast gs rs needs) (sym er) (subst (λ ns. IsLeast gs (map rank_of table) ns) (sym en) least)
+    pub least_of : (ranks needs : List ℕ) → ranks ≡ map rank_of table → needs ≡ map need_of table → IsLeast back gs ranks needs
+    least_of ranks needs er en = subst (λ rs. IsLeast back gs rs needs) (sym er) (subst (λ ns. IsLeast back gs (map rank_of table) ns) (sym en) least)
       where
-        least : IsLeast gs (map rank_of table) (map need_of table)
+        least : IsLeast back gs (map rank_of table) (map need_of table)
         least =
             record {
               ranks_length = map_length rank_of table ∙ sound.same;
@@ -82,7 +82,7 @@ module _ (gs : List GraphInst) (table : List (Option Found)) (sound : IsSoundTab
       m.inst m.inside m.none
       (subst (λ g. (j : ℕ) → j < length g → ReachesBy g j j → ⊥) eg acyclic)
 
-  pub least_at : (table0 : List (Option Found)) (ranks needs : List ℕ) → table0 ≡ table → AreFound table0 (length table0) ranks needs → IsLeast gs ranks needs
+  pub least_at : (table0 : List (Option Found)) (ranks needs : List ℕ) → table0 ≡ table → AreFound table0 (length table0) ranks needs → IsLeast back gs ranks needs
   least_at table0 ranks needs et found =
       let whole : take (length table) table ≡ table = take_all (length table) table (omega arith) in
       let f : AreFound table (length table) ranks needs = subst (λ t. AreFound t (length t) ranks needs) et found in

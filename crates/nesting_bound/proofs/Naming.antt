@@ -1,7 +1,7 @@
 -- The named instance: settled ones never are, and one more instance.
 use Rattle.std.specs.Option.{is_some}
 use Rattle.std.specs.List.{Contains}
-use Rattle.std.proofs.Common.{true, ◌≡◌, ◌≢◌, ◌∙◌, ℕ, zero, suc, ◌+◌, ◌<◌, ◌≤◌, Option, Some, None, List, length, replicate, slice_get, slice_index, refl, sym, ap, subst, arith, ◌⊎◌, ⊎_elim}
+use Rattle.std.proofs.Common.{true, ◌≡◌, ◌≢◌, ◌∙◌, ℕ, zero, suc, ◌+◌, ◌<◌, ◌≤◌, Option, Some, None, List, length, replicate, slice_get, slice_index, refl, sym, ap, subst, arith, ⊎_elim}
 use Rattle.std.proofs.lemmas.Option.{slice_get_within}
 use Rattle.basics.specs.Numbers.{before_or_last}
 use Rattle.nesting_bound.specs.declared.found.Found.{Found}
@@ -15,16 +15,16 @@ use Rattle.nesting_bound.proofs.Table.{same_found}
 use Rattle.nesting_bound.proofs.Tested.{edge_of}
 
 -- what a settled instance reaches is settled, with a lower rank
-lower : (gs : List GraphInst) (table : List (Option Found)) → IsSoundTable gs table → (i j : ℕ) → ReachesBy gs i j → (x : Found) → at table i ≡ Some x → (y : Found) × (at table j ≡ Some y) × (y.rank < x.rank)
-lower gs table sound i j (once _ e enters) x is = let p = (sound.settled i x is).entered e enters in (p.0, p.1, p.2)
-lower gs table sound i j (more _ _ e enters rest) x is =
+lower : (back : ℕ) (gs : List GraphInst) (table : List (Option Found)) → IsSoundTable back gs table → (i j : ℕ) → ReachesBy gs i j → (x : Found) → at table i ≡ Some x → (y : Found) × (at table j ≡ Some y) × (y.rank < x.rank)
+lower back gs table sound i j (once _ e enters) x is = let p = (sound.settled i x is).entered e enters in (p.0, p.1, p.2)
+lower back gs table sound i j (more _ _ e enters rest) x is =
     let p = (sound.settled i x is).entered e enters in
-    let q = lower gs table sound e.into j rest p.0 p.1 in
+    let q = lower back gs table sound e.into j rest p.0 p.1 in
     (q.0, q.1, omega (arith, p.2, q.2))
 
-pub settled_apart : (gs : List GraphInst) (table : List (Option Found)) → IsSoundTable gs table → (i : ℕ) (x : Found) → at table i ≡ Some x → ReachesBy gs i i → ⊥
-settled_apart gs table sound i x is r =
-    let q = lower gs table sound i i r x is in
+pub settled_apart : (back : ℕ) (gs : List GraphInst) (table : List (Option Found)) → IsSoundTable back gs table → (i : ℕ) (x : Found) → at table i ≡ Some x → ReachesBy gs i i → ⊥
+settled_apart back gs table sound i x is r =
+    let q = lower back gs table sound i i r x is in
     let same : q.0 ≡ x = same_found q.0 x (at table i) q.1 is in
     absurd (omega (arith, q.2, ap (λ y. y.rank) same))
 

@@ -11,36 +11,36 @@ use Rattle.nesting_bound.specs.Least.{IsLeast}
 use Rattle.nesting_bound.specs.Chain.{IsFirst, IsPlaceUpTo, IsEdgeUpTo, IsDeepPlace, IsDeepEdge, IsChainFrom, IsChain, ends, goes, HavePlaces}
 use Rattle.nesting_bound.specs.Turn.{IsOnWay, IsTurn, AreLeastNeeds}
 
-pub least_needs : (gs : List GraphInst) (ranks needs : List ℕ) → IsLeast gs ranks needs → AreLeastNeeds gs needs
-least_needs gs ranks needs l = record { same = l.needs_length; are = l.are_needs; least = l.least_needs }
+pub least_needs : (back : ℕ) (gs : List GraphInst) (ranks needs : List ℕ) → IsLeast back gs ranks needs → AreLeastNeeds back gs needs
+least_needs back gs ranks needs l = record { same = l.needs_length; are = l.are_needs; least = l.least_needs }
 
-pub on_way_first : (gs : List GraphInst) (needs : List ℕ) → IsGraph gs → HavePlaces gs → IsOnWay gs needs 0 0 []
-on_way_first gs needs graph places = record { inside = graph.some; place = places.root; depth = omega arith; whole = λ rest chain. chain }
+pub on_way_first : (back : ℕ) (gs : List GraphInst) (needs : List ℕ) → IsGraph gs → HavePlaces gs → IsOnWay back gs needs 0 0 []
+on_way_first back gs needs graph places = record { inside = graph.some; place = places.root; depth = omega arith; whole = λ rest chain. chain }
 
-module _ (gs : List GraphInst) (needs : List ℕ) (i above : ℕ) (links : List Link) (way : IsOnWay gs needs i above links) where
-  pub ends_here : (p : Place) → IsFirst (IsDeepPlace gs needs i) IsPlaceUpTo p → IsChain gs needs (links ++ record { inst = i; node = p.node; depth = above + p.offset; way = None } ∷ [])
+module _ (back : ℕ) (gs : List GraphInst) (needs : List ℕ) (i above : ℕ) (links : List Link) (way : IsOnWay back gs needs i above links) where
+  pub ends_here : (p : Place) → IsFirst (IsDeepPlace gs needs i) IsPlaceUpTo p → IsChain back gs needs (links ++ record { inst = i; node = p.node; depth = above + p.offset; way = None } ∷ [])
   ends_here p first = way.whole (record { inst = i; node = p.node; depth = above + p.offset; way = None } ∷ []) (ends i above p first)
 
-  module _ (e : Entered) (no_end : (p : Place) → IsDeepPlace gs needs i p → ⊥) (first : IsFirst (IsDeepEdge gs needs i) (IsEdgeUpTo gs) e) where
+  module _ (e : Entered) (no_end : (p : Place) → IsDeepPlace gs needs i p → ⊥) (first : IsFirst (IsDeepEdge back gs needs i) (IsEdgeUpTo gs) e) where
     abbrev link : Link
     link = record { inst = i; node = e.node; depth = above + e.offset; way = Some e.way }
 
-    pub goes_here : IsGraph gs → HavePlaces gs → IsOnWay gs needs e.into (above + (e.offset + 2)) (links ++ link ∷ [])
+    pub goes_here : IsGraph gs → HavePlaces gs → IsOnWay back gs needs e.into (above + (e.offset + back)) (links ++ link ∷ [])
     goes_here graph places = record {
       inside = graph.within i e first.is.0;
       place = places.entered i e first.is.0;
       depth = omega (arith, way.depth, first.is.1);
       whole = λ rest chain.
-          let more = goes i above e rest no_end first (subst (λ n. IsChainFrom gs needs e.into n rest) (omega arith) chain) in
-          subst (IsChain gs needs) (sym (append_assoc links (link ∷ []) rest)) (way.whole (link ∷ rest) more);
+          let more = goes i above e rest no_end first (subst (λ n. IsChainFrom back gs needs e.into n rest) (omega arith) chain) in
+          subst (IsChain back gs needs) (sym (append_assoc links (link ∷ []) rest)) (way.whole (link ∷ rest) more);
     }
 
 -- ---- where it goes on, by the lists that the code has on the way
-turned : (gs gs0 : List GraphInst) (needs needs0 : List ℕ) (i : ℕ) (t : Turn) → gs0 ≡ gs → needs0 ≡ needs → IsTurn gs0 needs0 i t → IsTurn gs needs i t
-turned gs gs0 needs needs0 i t eg en so = subst (λ xs. IsTurn xs needs i t) eg (subst (λ ns. IsTurn gs0 ns i t) en so)
+turned : (back : ℕ) (gs gs0 : List GraphInst) (needs needs0 : List ℕ) (i : ℕ) (t : Turn) → gs0 ≡ gs → needs0 ≡ needs → IsTurn back gs0 needs0 i t → IsTurn back gs needs i t
+turned back gs gs0 needs needs0 i t eg en so = subst (λ xs. IsTurn back xs needs i t) eg (subst (λ ns. IsTurn back gs0 ns i t) en so)
 
-pub turned_end : (gs gs0 : List GraphInst) (needs needs0 : List ℕ) (i : ℕ) (t : Turn) (p : Place) → gs0 ≡ gs → needs0 ≡ needs → t ≡ Ends p → IsTurn gs0 needs0 i t → IsFirst (IsDeepPlace gs needs i) IsPlaceUpTo p
-turned_end gs gs0 needs needs0 i t p eg en is so = subst (IsTurn gs needs i) is (turned gs gs0 needs needs0 i t eg en so)
+pub turned_end : (back : ℕ) (gs gs0 : List GraphInst) (needs needs0 : List ℕ) (i : ℕ) (t : Turn) (p : Place) → gs0 ≡ gs → needs0 ≡ needs → t ≡ Ends p → IsTurn back gs0 needs0 i t → IsFirst (IsDeepPlace gs needs i) IsPlaceUpTo p
+turned_end back gs gs0 needs needs0 i t p eg en is so = subst (IsTurn back gs needs i) is (turned back gs gs0 needs needs0 i t eg en so)
 
-pub turned_way : (gs gs0 : List GraphInst) (needs needs0 : List ℕ) (i : ℕ) (t : Turn) (e : Entered) → gs0 ≡ gs → needs0 ≡ needs → t ≡ Enters e → IsTurn gs0 needs0 i t → ((p : Place) → IsDeepPlace gs needs i p → ⊥) × IsFirst (IsDeepEdge gs needs i) (IsEdgeUpTo gs) e
-turned_way gs gs0 needs needs0 i t e eg en is so = subst (IsTurn gs needs i) is (turned gs gs0 needs needs0 i t eg en so)
+pub turned_way : (back : ℕ) (gs gs0 : List GraphInst) (needs needs0 : List ℕ) (i : ℕ) (t : Turn) (e : Entered) → gs0 ≡ gs → needs0 ≡ needs → t ≡ Enters e → IsTurn back gs0 needs0 i t → ((p : Place) → IsDeepPlace gs needs i p → ⊥) × IsFirst (IsDeepEdge back gs needs i) (IsEdgeUpTo gs) e
+turned_way back gs gs0 needs needs0 i t e eg en is so = subst (IsTurn back gs needs i) is (turned back gs gs0 needs needs0 i t eg en so)

@@ -61,9 +61,9 @@ neither Equal a b = refl
 neither Greater a b = absurd (b refl)
 
 -- two equally deep edges, neither before the other
-pub edges_same : (gs : List GraphInst) (needs : List ℕ) (a b : Entered) (n : ℕ) → IsEdgeUpTo gs a b → IsEdgeUpTo gs b a → a.offset + 2 + slice_index needs a.into ≡ n → b.offset + 2 + slice_index needs b.into ≡ n → a ≡ b
+pub edges_same : (back : ℕ) (gs : List GraphInst) (needs : List ℕ) (a b : Entered) (n : ℕ) → IsEdgeUpTo gs a b → IsEdgeUpTo gs b a → a.offset + back + slice_index needs a.into ≡ n → b.offset + back + slice_index needs b.into ≡ n → a ≡ b
 unfolding edge_cmp turn_of
-edges_same gs needs a b n up down deep_a deep_b =
+edges_same back gs needs a b n up down deep_a deep_b =
     let equal : edge_cmp gs b a ≡ Equal = neither (edge_cmp gs b a) up (λ e. down ((edge_total gs).antisymm a b ∙ e)) in
     let same = numbers_equal (turn_of gs b) (turn_of gs a) equal in
     let tails : way_numbers b.way ++ entry_of (slice_get gs b.into) ∷ b.into ∷ [] ≡ way_numbers a.way ++ entry_of (slice_get gs a.into) ∷ a.into ∷ [] = cc in

@@ -31,8 +31,8 @@ pub same_found : (x y : Found) (o : Option Found) → o ≡ Some x → o ≡ Som
 same_found x y o e e' = cc
 
 -- ---- above what an instance enters
-pub over_none : (offsets : List Place) (table : List (Option Found)) (g : ℕ) → ((p : Place) → Contains offsets p → p.offset ≤ g) → ((m : ℕ) → ((p : Place) → Contains offsets p → p.offset ≤ m) → g ≤ m) → IsOver [] offsets table (record { rank = 0; need = g })
-over_none offsets table g above least =
+pub over_none : (back : ℕ) (offsets : List Place) (table : List (Option Found)) (g : ℕ) → ((p : Place) → Contains offsets p → p.offset ≤ g) → ((m : ℕ) → ((p : Place) → Contains offsets p → p.offset ≤ m) → g ≤ m) → IsOver back [] offsets table (record { rank = 0; need = g })
+over_none back offsets table g above least =
     record {
       entered = λ e h. absurd (none_within h);
       above = above;
@@ -53,15 +53,15 @@ greatest_more xs i d most most' lt e above least =
       least = λ m all. let old = least m (λ p h. all p (within_first xs i d p lt h)) in let new = all (get_or xs i d) (within_last xs i d lt) in omega arith;
     }
 
-pub over_more : (es : List Entered) (offsets : List Place) (table : List (Option Found)) (i : ℕ) (d : Entered) (f x f' : Found) → i < length es → at table (get_or es i d).into ≡ Some x → f' ≡ raised f (get_or es i d) x → IsOver (take i es) offsets table f → IsOver (take (i + 1) es) offsets table f'
-over_more es offsets table i d f x f' lt is e over =
+pub over_more : (back : ℕ) (es : List Entered) (offsets : List Place) (table : List (Option Found)) (i : ℕ) (d : Entered) (f x f' : Found) → i < length es → at table (get_or es i d).into ≡ Some x → f' ≡ raised back f (get_or es i d) x → IsOver back (take i es) offsets table f → IsOver back (take (i + 1) es) offsets table f'
+over_more back es offsets table i d f x f' lt is e over =
     let last = get_or es i d in
     let er : f'.rank ≡ max f.rank (x.rank + 1) = ap (λ y. y.rank) e in
-    let en : f'.need ≡ max f.need (last.offset + 2 + x.need) = ap (λ y. y.need) e in
+    let en : f'.need ≡ max f.need (last.offset + back + x.need) = ap (λ y. y.need) e in
     record {
       entered = λ e' h. ⊎_elim
           (λ h. let p = over.entered e' h in (p.0, p.1, omega (arith, p.2, er), omega (arith, p.3, en)))
-          (λ same. (x, subst (λ y. at table y.into ≡ Some x) same is, omega (arith, er), subst (λ y. y.offset + 2 + x.need ≤ f'.need) same (omega (arith, en))))
+          (λ same. (x, subst (λ y. at table y.into ≡ Some x) same is, omega (arith, er), subst (λ y. y.offset + back + x.need ≤ f'.need) same (omega (arith, en))))
           (more_within es i d e' lt h);
       above = λ o h. omega (arith, over.above o h, en);
       rank_least = λ m all. let old = over.rank_least m (λ e' y h. all e' y (within_first es i d e' lt h)) in let new = all last x (within_last es i d lt) is in omega (arith, er);
@@ -69,13 +69,13 @@ over_more es offsets table i d f x f' lt is e over =
     }
 
 -- for a list that the code has on the way
-pub over_more_at : (es es0 : List Entered) (offsets : List Place) (table : List (Option Found)) (i : ℕ) (d : Entered) (f x f' : Found) → es0 ≡ es → i < length es0 → at table (get_or es0 i d).into ≡ Some x → f' ≡ raised f (get_or es0 i d) x → IsOver (take i es) offsets table f → IsOver (take (i + 1) es) offsets table f'
-over_more_at es es0 offsets table i d f x f' e lt is raise over =
-    subst (λ ys. IsOver (take (i + 1) ys) offsets table f') e (over_more es0 offsets table i d f x f' lt is raise (subst (λ ys. IsOver (take i ys) offsets table f) (sym e) over))
+pub over_more_at : (back : ℕ) (es es0 : List Entered) (offsets : List Place) (table : List (Option Found)) (i : ℕ) (d : Entered) (f x f' : Found) → es0 ≡ es → i < length es0 → at table (get_or es0 i d).into ≡ Some x → f' ≡ raised back f (get_or es0 i d) x → IsOver back (take i es) offsets table f → IsOver back (take (i + 1) es) offsets table f'
+over_more_at back es es0 offsets table i d f x f' e lt is raise over =
+    subst (λ ys. IsOver back (take (i + 1) ys) offsets table f') e (over_more back es0 offsets table i d f x f' lt is raise (subst (λ ys. IsOver back (take i ys) offsets table f) (sym e) over))
 
-pub over_none_at : (offsets offsets0 : List Place) (table : List (Option Found)) (g : ℕ) → offsets0 ≡ offsets → ((p : Place) → Contains offsets0 p → p.offset ≤ g) → ((m : ℕ) → ((p : Place) → Contains offsets0 p → p.offset ≤ m) → g ≤ m) → IsOver [] offsets table (record { rank = 0; need = g })
-over_none_at offsets offsets0 table g e above least =
-    subst (λ os. IsOver [] os table (record { rank = 0; need = g })) e (over_none offsets0 table g above least)
+pub over_none_at : (back : ℕ) (offsets offsets0 : List Place) (table : List (Option Found)) (g : ℕ) → offsets0 ≡ offsets → ((p : Place) → Contains offsets0 p → p.offset ≤ g) → ((m : ℕ) → ((p : Place) → Contains offsets0 p → p.offset ≤ m) → g ≤ m) → IsOver back [] offsets table (record { rank = 0; need = g })
+over_none_at back offsets offsets0 table g e above least =
+    subst (λ os. IsOver back [] os table (record { rank = 0; need = g })) e (over_none back offsets0 table g above least)
 
 pub count_le : (table : List (Option Found)) → count_found table ≤ length table
 count_le [] = omega arith
@@ -85,12 +85,12 @@ count_le (o ∷ table) = omega (arith, sum_by-cons one_if_found o table, at_most
     at_most_one None = omega arith
     at_most_one (Some x) = omega arith
 
-pub small_table : (gs : List GraphInst) (table : List (Option Found)) → IsGraph gs → IsSoundTable gs table → (j : ℕ) (x : Found) → at table j ≡ Some x → IsSmall x 65537
-small_table gs table graph sound j x is =
+pub small_table : (back : ℕ) (gs : List GraphInst) (table : List (Option Found)) → IsGraph gs → IsSoundTable back gs table → (j : ℕ) (x : Found) → at table j ≡ Some x → IsSmall x 65537
+small_table back gs table graph sound j x is =
     let s = sound.small j x is in
     (omega (arith, s.0, count_le table, sound.same, graph.few), s.1)
 
-module _ (gs : List GraphInst) (table : List (Option Found)) (graph : IsGraph gs) (sound : IsSoundTable gs table) (i : ℕ) (inst : GraphInst) (within : i < length gs) (here : slice_get gs i ≡ Some inst) (missing : at table i ≡ None) where
+module _ (back : ℕ) (byte : back < 256) (gs : List GraphInst) (table : List (Option Found)) (graph : IsGraph gs) (sound : IsSoundTable back gs table) (i : ℕ) (inst : GraphInst) (within : i < length gs) (here : slice_get gs i ≡ Some inst) (missing : at table i ≡ None) where
   same_inst : (e : Entered) → EntersAlong gs i e → Contains inst.entered e
   same_inst e enters = let is : enters.inst ≡ inst = let a = enters.is in cc in subst (λ x. Contains x.entered e) is enters.has
 
@@ -106,7 +106,7 @@ module _ (gs : List GraphInst) (table : List (Option Found)) (graph : IsGraph gs
   pub stays_stuck : (e : Entered) → Contains inst.entered e → at table e.into ≡ None → IsInstStuck gs table i
   stays_stuck e h none = (e, enters_it e h, none)
 
-  module _ (f : Found) (over : IsOver inst.entered inst.offsets table f) where
+  module _ (f : Found) (over : IsOver back inst.entered inst.offsets table f) where
     new : List (Option Found)
     new = set table i (Some f)
 
@@ -131,7 +131,7 @@ module _ (gs : List GraphInst) (table : List (Option Found)) (graph : IsGraph gs
         omega (arith, e, z)
 
     -- settled entries stay settled
-    lift : (j : ℕ) (x : Found) → IsSettled gs table j x → IsSettled gs (set table i (Some f)) j x
+    lift : (j : ℕ) (x : Found) → IsSettled back gs table j x → IsSettled back gs (set table i (Some f)) j x
     lift j x s =
         record {
           entered = λ e h. let p = s.entered e h in (p.0, keeps e.into p.0 p.1, p.2, p.3);
@@ -140,7 +140,7 @@ module _ (gs : List GraphInst) (table : List (Option Found)) (graph : IsGraph gs
           need_least = s.need_least;
         }
 
-    settled_here : IsSettled gs (set table i (Some f)) i f
+    settled_here : IsSettled back gs (set table i (Some f)) i f
     settled_here =
         record {
           entered = λ e h. let p = over.entered e (same_inst e h) in (p.0, keeps e.into p.0 p.1, p.2, p.3);
@@ -152,7 +152,7 @@ module _ (gs : List GraphInst) (table : List (Option Found)) (graph : IsGraph gs
     small_here : IsSmall f (count_found table + 1)
     small_here =
         let r = over.rank_least (count_found table) (λ e x h is. (sound.small e.into x is).0) in
-        let n = over.need_least (16386 * (f.rank + 1)) (λ o h. let a = graph.offsets i o (has_it o h) in omega arith)
+        let n = over.need_least (16639 * (f.rank + 1)) (λ o h. let a = graph.offsets i o (has_it o h) in omega arith)
         (λ e x h is.
         let p = over.entered e h in
         let same : p.0 ≡ x = same_found p.0 x (at table e.into) p.1 is in
@@ -170,12 +170,12 @@ module _ (gs : List GraphInst) (table : List (Option Found)) (graph : IsGraph gs
         (λ ne. other (sym (get_or-set_other table i j (Some f) None ne) ∙ is))
         (cases_eq j i)
 
-    pub settled_visit : IsVisit gs table i true (set table i (Some f))
+    pub settled_visit : IsVisit back gs table i true (set table i (Some f))
     settled_visit =
         record {
           sound = record {
             same = length-set table i (Some f) ∙ sound.same;
-            settled = λ j x is. at_table (λ y k. IsSettled gs (set table i (Some f)) k y) j x is settled_here (λ old. lift j x (sound.settled j x old));
+            settled = λ j x is. at_table (λ y k. IsSettled back gs (set table i (Some f)) k y) j x is settled_here (λ old. lift j x (sound.settled j x old));
             small = λ j x is. subst (IsSmall x) (sym one_more) (at_table (λ y k. IsSmall y (count_found table + 1)) j x is small_here (λ old. let s = sound.small j x old in (omega (arith, s.0), s.1)));
           };
           fewer = λ e. one_less;
@@ -183,8 +183,8 @@ module _ (gs : List GraphInst) (table : List (Option Found)) (graph : IsGraph gs
           stuck = λ e. absurd (let e' = e in cc);
         }
 
-pub no_visit : (gs : List GraphInst) (table : List (Option Found)) (i : ℕ) → IsSoundTable gs table → (at table i ≡ None → IsInstStuck gs table i) → IsVisit gs table i false table
-no_visit gs table i sound stuck =
+pub no_visit : (back : ℕ) (gs : List GraphInst) (table : List (Option Found)) (i : ℕ) → IsSoundTable back gs table → (at table i ≡ None → IsInstStuck gs table i) → IsVisit back gs table i false table
+no_visit back gs table i sound stuck =
     record {
       sound = sound;
       fewer = λ e. absurd (let e' = e in cc);
@@ -202,8 +202,8 @@ none_found (suc n) (suc i) = none_found n i
 nothing_found : (n : ℕ) (table : List (Option Found)) → table ≡ replicate n None → (i : ℕ) (x : Found) → at table i ≡ Some x → ⊥
 nothing_found n table is i x e = none-some x (sym (ap (λ (t : List (Option Found)). at t i) is ∙ none_found n i) ∙ e)
 
-pub none_sound : (gs : List GraphInst) (table : List (Option Found)) → table ≡ replicate (length gs) None → IsSoundTable gs table
-none_sound gs table is = record {
+pub none_sound : (back : ℕ) (gs : List GraphInst) (table : List (Option Found)) → table ≡ replicate (length gs) None → IsSoundTable back gs table
+none_sound back gs table is = record {
   same = ap length is ∙ length-replicate (length gs) None;
   settled = λ i x e. absurd (nothing_found (length gs) table is i x e);
   small = λ i x e. absurd (nothing_found (length gs) table is i x e);
@@ -213,5 +213,5 @@ pub none_here : (o : Option Found) → is_some o ≡ false → o ≡ None
 none_here None e = refl
 none_here (Some x) e = absurd (let e' = e in cc)
 
-pub into_within : (gs : List GraphInst) (table : List (Option Found)) → IsGraph gs → IsSoundTable gs table → (i : ℕ) (inst : GraphInst) → slice_get gs i ≡ Some inst → (e : Entered) → Contains inst.entered e → e.into < length table
-into_within gs table graph sound i inst is e h = omega (arith, sound.same, graph.within i e (record { inst = inst; is = is; has = h }))
+pub into_within : (back : ℕ) (gs : List GraphInst) (table : List (Option Found)) → IsGraph gs → IsSoundTable back gs table → (i : ℕ) (inst : GraphInst) → slice_get gs i ≡ Some inst → (e : Entered) → Contains inst.entered e → e.into < length table
+into_within back gs table graph sound i inst is e h = omega (arith, sound.same, graph.within i e (record { inst = inst; is = is; has = h }))

@@ -57,22 +57,22 @@ IsEdgeUpTo gs e d = edge_cmp gs d e ≢ Less
 abbrev pub IsDeepPlace : List GraphInst → List ℕ → ℕ → Place → Type 0
 IsDeepPlace gs needs i p = HasPlace gs i p × (p.offset ≡ slice_index needs i)
 
--- an edge out of instance i that attains its need
-abbrev pub IsDeepEdge : List GraphInst → List ℕ → ℕ → Entered → Type 0
-IsDeepEdge gs needs i e = EntersAlong gs i e × (e.offset + 2 + slice_index needs e.into ≡ slice_index needs i)
+-- an edge out of instance i that attains its need, if a return address takes `back` bytes
+abbrev pub IsDeepEdge : ℕ → List GraphInst → List ℕ → ℕ → Entered → Type 0
+IsDeepEdge back gs needs i e = EntersAlong gs i e × (e.offset + back + slice_index needs e.into ≡ slice_index needs i)
 
 -- The chain from instance i on, whose base is `above` bytes below the root's. It ends at the least place as deep as the need, if there is
 -- one; else it follows the least edge that attains the need.
-pub data IsChainFrom (gs : List GraphInst) (needs : List ℕ) : ℕ → ℕ → List Link → Type 0 where
+pub data IsChainFrom (back : ℕ) (gs : List GraphInst) (needs : List ℕ) : ℕ → ℕ → List Link → Type 0 where
   ends : (i above : ℕ) (p : Place) → IsFirst (IsDeepPlace gs needs i) IsPlaceUpTo p
-      → IsChainFrom gs needs i above (record { inst = i; node = p.node; depth = above + p.offset; way = None } ∷ [])
-  goes : (i above : ℕ) (e : Entered) (rest : List Link) → ((p : Place) → IsDeepPlace gs needs i p → ⊥) → IsFirst (IsDeepEdge gs needs i) (IsEdgeUpTo gs) e
-      → IsChainFrom gs needs e.into (above + e.offset + 2) rest
-      → IsChainFrom gs needs i above (record { inst = i; node = e.node; depth = above + e.offset; way = Some e.way } ∷ rest)
+      → IsChainFrom back gs needs i above (record { inst = i; node = p.node; depth = above + p.offset; way = None } ∷ [])
+  goes : (i above : ℕ) (e : Entered) (rest : List Link) → ((p : Place) → IsDeepPlace gs needs i p → ⊥) → IsFirst (IsDeepEdge back gs needs i) (IsEdgeUpTo gs) e
+      → IsChainFrom back gs needs e.into (above + e.offset + back) rest
+      → IsChainFrom back gs needs i above (record { inst = i; node = e.node; depth = above + e.offset; way = Some e.way } ∷ rest)
 
 -- the chain from the root
-abbrev pub IsChain : List GraphInst → List ℕ → List Link → Type 0
-IsChain gs needs links = IsChainFrom gs needs 0 0 links
+abbrev pub IsChain : ℕ → List GraphInst → List ℕ → List Link → Type 0
+IsChain back gs needs links = IsChainFrom back gs needs 0 0 links
 
 -- instance i has a place
 abbrev pub HasSome : List GraphInst → ℕ → Type 0

@@ -26,10 +26,10 @@ abbrev pub AreGraphRanks : List GraphInst → (ℕ → ℕ) → Type 0
 AreGraphRanks gs rank = (i : ℕ) (e : Entered) → EntersAlong gs i e → rank e.into < rank i
 
 -- An instance's need is at least the offset of each of its nodes whose stack pointer is whole. For each instance that it enters, it is at
--- least the offset there, two bytes for the return address, and the need of that instance.
-pub record AreGraphNeeds (gs : List GraphInst) (need : ℕ → ℕ) : Type 0 where
+-- least the offset there, the bytes of a return address, and the need of that instance.
+pub record AreGraphNeeds (back : ℕ) (gs : List GraphInst) (need : ℕ → ℕ) : Type 0 where
   pub offsets : (i : ℕ) (p : Place) → HasPlace gs i p → p.offset ≤ need i
-  pub entered : (i : ℕ) (e : Entered) → EntersAlong gs i e → e.offset + 2 + need e.into ≤ need i
+  pub entered : (i : ℕ) (e : Entered) → EntersAlong gs i e → e.offset + back + need e.into ≤ need i
 
 -- a valid graph: 1 to 65,537 instances, each entered instance among them, each offset at most 16,384
 pub record IsGraph (gs : List GraphInst) : Type 0 where

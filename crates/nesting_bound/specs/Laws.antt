@@ -10,10 +10,10 @@ use Rattle.nesting_bound.specs.Graph.{EntersAlong, HasPlace, ReachesBy, AreGraph
 use Rattle.nesting_bound.specs.Least.{IsLeast}
 
 -- Nested entries from instance i on lower the stack pointer by this many bytes below its base: at a place of its own, or through an edge,
--- with two bytes of return address, and on from the entered instance.
-pub data Nests (gs : List GraphInst) : ℕ → ℕ → Type 0 where
-  here : (i : ℕ) (p : Place) → HasPlace gs i p → Nests gs i p.offset
-  deeper : (i depth : ℕ) (e : Entered) → EntersAlong gs i e → Nests gs e.into depth → Nests gs i (e.offset + 2 + depth)
+-- with the `back` bytes of a return address, and on from the entered instance.
+pub data Nests (back : ℕ) (gs : List GraphInst) : ℕ → ℕ → Type 0 where
+  here : (i : ℕ) (p : Place) → HasPlace gs i p → Nests back gs i p.offset
+  deeper : (i depth : ℕ) (e : Entered) → EntersAlong gs i e → Nests back gs e.into depth → Nests back gs i (e.offset + back + depth)
 
 -- if ranks exist, no instance is on a cycle
 abbrev pub RanksRuleOutCycles : Type 0
@@ -21,12 +21,12 @@ RanksRuleOutCycles = (gs : List GraphInst) (rank : ℕ → ℕ) → AreGraphRank
 
 -- An instance's need bounds all nested entries from it.
 abbrev pub NeedsBoundNesting : Type 0
-NeedsBoundNesting = (gs : List GraphInst) (need : ℕ → ℕ) → AreGraphNeeds gs need → (i depth : ℕ) → Nests gs i depth → depth ≤ need i
+NeedsBoundNesting = (back : ℕ) (gs : List GraphInst) (need : ℕ → ℕ) → AreGraphNeeds back gs need → (i depth : ℕ) → Nests back gs i depth → depth ≤ need i
 
 -- least ranks and needs are unique, and so is the named instance
 pub record LeastNeedsAreOne : Type 0 where
-  pub ranks : (gs : List GraphInst) (ranks needs ranks' needs' : List ℕ) → IsLeast gs ranks needs → IsLeast gs ranks' needs' → ranks ≡ ranks'
-  pub needs : (gs : List GraphInst) (ranks needs ranks' needs' : List ℕ) → IsLeast gs ranks needs → IsLeast gs ranks' needs' → needs ≡ needs'
+  pub ranks : (back : ℕ) (gs : List GraphInst) (ranks needs ranks' needs' : List ℕ) → IsLeast back gs ranks needs → IsLeast back gs ranks' needs' → ranks ≡ ranks'
+  pub needs : (back : ℕ) (gs : List GraphInst) (ranks needs ranks' needs' : List ℕ) → IsLeast back gs ranks needs → IsLeast back gs ranks' needs' → needs ≡ needs'
   pub named : (gs : List GraphInst) (a b : ℕ) → IsNamed gs a → IsNamed gs b → a ≡ b
 
 -- the depth at the end of the links
@@ -39,9 +39,9 @@ pub record EndsAt (links : List Link) (depth : ℕ) : Type 0 where
 
 -- a chain ends at the depth of the root's need, so the need is attained
 pub record ChainsReachTheNeed : Type 0 where
-  pub ends : (gs : List GraphInst) (needs : List ℕ) (links : List Link) → IsChain gs needs links → EndsAt links (slice_index needs 0)
-  pub nests : (gs : List GraphInst) (needs : List ℕ) (links : List Link) → IsChain gs needs links → Nests gs 0 (slice_index needs 0)
+  pub ends : (back : ℕ) (gs : List GraphInst) (needs : List ℕ) (links : List Link) → IsChain back gs needs links → EndsAt links (slice_index needs 0)
+  pub nests : (back : ℕ) (gs : List GraphInst) (needs : List ℕ) (links : List Link) → IsChain back gs needs links → Nests back gs 0 (slice_index needs 0)
 
 -- the chain is unique
 abbrev pub ChainsAreOne : Type 0
-ChainsAreOne = (gs : List GraphInst) (needs : List ℕ) (links links' : List Link) → IsChain gs needs links → IsChain gs needs links' → links ≡ links'
+ChainsAreOne = (back : ℕ) (gs : List GraphInst) (needs : List ℕ) (links links' : List Link) → IsChain back gs needs links → IsChain back gs needs links' → links ≡ links'

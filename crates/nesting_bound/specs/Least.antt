@@ -3,11 +3,11 @@ use Rattle.std.specs.Prelude.{◌≡◌, ℕ, ◌<◌, ◌≤◌, List, length, 
 use Rattle.nesting_bound.specs.declared.graph.GraphInst.{GraphInst}
 use Rattle.nesting_bound.specs.Graph.{AreGraphRanks, AreGraphNeeds}
 
--- ranks and needs, one of each for each instance, and none are smaller anywhere
-pub record IsLeast (gs : List GraphInst) (ranks needs : List ℕ) : Type 0 where
+-- ranks and needs, one of each for each instance, and none are smaller anywhere; a return address takes `back` bytes
+pub record IsLeast (back : ℕ) (gs : List GraphInst) (ranks needs : List ℕ) : Type 0 where
   pub ranks_length : length ranks ≡ length gs
   pub needs_length : length needs ≡ length gs
   pub are_ranks : AreGraphRanks gs (slice_index ranks)
-  pub are_needs : AreGraphNeeds gs (slice_index needs)
+  pub are_needs : AreGraphNeeds back gs (slice_index needs)
   pub least_ranks : (rank : ℕ → ℕ) → AreGraphRanks gs rank → (i : ℕ) → i < length gs → slice_index ranks i ≤ rank i
-  pub least_needs : (need : ℕ → ℕ) → AreGraphNeeds gs need → (i : ℕ) → i < length gs → slice_index needs i ≤ need i
+  pub least_needs : (need : ℕ → ℕ) → AreGraphNeeds back gs need → (i : ℕ) → i < length gs → slice_index needs i ≤ need i

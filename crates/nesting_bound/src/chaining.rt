@@ -85,8 +85,9 @@ fn best_edge(
     needs: &[u32],
     edges: &[Entered],
     need: u32,
+    back: u8,
 ) -> Option<Entered>
-    ensures { IsBestEdge instances.now needs.now need edges.now result }
+    ensures { IsBestEdge back instances.now needs.now need edges.now result }
 {
     let mut best: Option<Entered> = None;
     for entered in edges {
@@ -95,7 +96,9 @@ fn best_edge(
             Some(old) => is_before(instances, entered, &old),
         };
         let below = read(needs, entered.into as usize);
-        if first && u64::from(entered.offset) + 2 + u64::from(below) == u64::from(need) {
+        if first
+            && u64::from(entered.offset) + u64::from(back) + u64::from(below) == u64::from(need)
+        {
             best = Some(*entered);
         }
     }
@@ -103,17 +106,17 @@ fn best_edge(
 }
 
 // How the chain continues from the instance.
-fn goes_on(instances: &[GraphInst], needs: &[u32], inst: u32) -> Turn
-    requires least { AreLeastNeeds instances.now needs.now }
+fn goes_on(instances: &[GraphInst], needs: &[u32], inst: u32, back: u8) -> Turn
+    requires least { AreLeastNeeds back instances.now needs.now }
     requires within { inst < length instances.now }
     requires place { HasSome instances.now inst }
-    ensures { IsTurn instances.now needs.now inst result }
+    ensures { IsTurn back instances.now needs.now inst result }
 {
     let here = &instances[inst as usize];
     let need = needs[inst as usize];
     match best_place(here.offsets.as_slice(), need) {
         Some(place) => Turn::Ends(place),
-        None => match best_edge(instances, needs, here.entered.as_slice(), need) {
+        None => match best_edge(instances, needs, here.entered.as_slice(), need, back) {
             Some(entered) => Turn::Enters(entered),
             None => unreachable!(),
         },
@@ -121,14 +124,19 @@ fn goes_on(instances: &[GraphInst], needs: &[u32], inst: u32) -> Turn
 }
 
 /// The deepest chain. It starts at the root. In each instance it ends at the least node whose offset is the instance's need, if there is
-/// one. Otherwise it follows the least edge whose offset + 2 + need is: by node, calls before interrupts, calls by target and interrupts
+/// one. Otherwise it follows the least edge whose offset + back + need is: by node, calls before interrupts, calls by target and interrupts
 /// by vector, the one that keeps its own enable bit before the one that clears it; recur edges last, by target. Source: own.
-pub fn chain(alloc: Global, graph: &Graph, composed: &Composed) -> Result<Vec<Link>, AllocError>
+pub fn chain(
+    alloc: Global,
+    graph: &Graph,
+    composed: &Composed,
+    back: u8,
+) -> Result<Vec<Link>, AllocError>
     requires graph { IsGraph graph.now.instances }
-    requires least { IsLeast graph.now.instances composed.now.ranks composed.now.needs }
+    requires least { IsLeast back graph.now.instances composed.now.ranks composed.now.needs }
     requires bound { slice_index composed.now.needs 0 ≤ SIZE }
     requires places { HavePlaces graph.now.instances }
-    ensures { IfOk result (λ links. IsChain graph.now.instances composed.now.needs links.items) }
+    ensures { IfOk result (λ links. IsChain back graph.now.instances composed.now.needs links.items) }
 {
     let instances = graph.instances.as_slice();
     let needs = composed.needs.as_slice();
@@ -136,7 +144,7 @@ pub fn chain(alloc: Global, graph: &Graph, composed: &Composed) -> Result<Vec<Li
     let mut inst = 0;
     let mut above = 0;
     'links: loop {
-        match goes_on(instances, needs, inst) {
+        match goes_on(instances, needs, inst, back) {
             Turn::Ends(place) => {
                 links.push(Link {
                     inst,
@@ -153,7 +161,7 @@ pub fn chain(alloc: Global, graph: &Graph, composed: &Composed) -> Result<Vec<Li
                     depth: above + entered.offset,
                     way: Some(entered.way),
                 })?;
-                above += entered.offset + 2;
+                above += entered.offset + u16::from(back);
                 inst = entered.into;
             }
         }

@@ -68,9 +68,9 @@ fn told(
     numbers: Vec<u32>,
 ) -> Result<Composed, ComposeFault>
     requires graph { IsGraph instances.now }
-    requires sound { IsSoundTable instances.now table.now }
+    requires sound { (back : ℕ) × IsSoundTable back instances.now table.now }
     requires stuck { (i : ℕ) → i < length instances.now → at table.now i ≡ None → IsInstStuck instances.now table.now i }
-    ensures ok { IfOk result (λ c. IsLeast instances.now c.ranks c.needs) }
+    ensures ok { (back : ℕ) → IsSoundTable back instances.now table.now → IfOk result (λ c. IsLeast back instances.now c.ranks c.needs) }
     ensures acyclic { IfOk result (λ _. (i : ℕ) → ReachesBy instances.now i i → ⊥) }
     ensures err { IfErr result (IsFaultOf instances.now) }
 {
@@ -83,28 +83,28 @@ fn told(
     }
 }
 
-/// The least ranks and needs. The rank of an instance is above that of each instance it enters. Its need is at least the offset of each
-/// of its nodes, and offset + 2 + need of each instance it enters. Fails with `Cycle` exactly if an instance is on a cycle. It names one
+/// The least ranks and needs, if a return address takes `back` bytes. The rank of an instance is above that of each instance it enters. Its need is at least the offset of each
+/// of its nodes, and offset + back + need of each instance it enters. Fails with `Cycle` exactly if an instance is on a cycle. It names one
 /// of the least such vector, otherwise one of the least entry, and of those the one with the least number. Source: own.
-pub fn compose(alloc: Global, graph: &Graph) -> Result<Composed, ComposeFault>
+pub fn compose(alloc: Global, graph: &Graph, back: u8) -> Result<Composed, ComposeFault>
     requires { IsGraph graph.now.instances }
-    ensures ok { IfOk result (λ c. IsLeast graph.now.instances c.ranks c.needs) }
+    ensures ok { IfOk result (λ c. IsLeast back graph.now.instances c.ranks c.needs) }
     ensures acyclic { IfOk result (λ _. (i : ℕ) → ReachesBy graph.now.instances i i → ⊥) }
     ensures err { IfErr result (IsFaultOf graph.now.instances) }
 {
     let instances = graph.instances.as_slice();
     let walked = walk_all(alloc, instances)?;
-    let table = peel(alloc, instances, walked.order.as_slice())?;
+    let table = peel(alloc, instances, walked.order.as_slice(), back)?;
     told(alloc, instances, table.as_slice(), walked.component)
 }
 
 /// The least ranks and needs of an acyclic graph.
-pub fn compose_acyclic(alloc: Global, graph: &Graph) -> Result<Composed, AllocError>
+pub fn compose_acyclic(alloc: Global, graph: &Graph, back: u8) -> Result<Composed, AllocError>
     requires graph { IsGraph graph.now.instances }
     requires acyclic { (at : ℕ) → IsNamed graph.now.instances at → ⊥ }
-    ensures { IfOk result (λ c. IsLeast graph.now.instances c.ranks c.needs) }
+    ensures { IfOk result (λ c. IsLeast back graph.now.instances c.ranks c.needs) }
 {
-    match compose(alloc, graph) {
+    match compose(alloc, graph, back) {
         Ok(composed) => Ok(composed),
         Err(ComposeFault::Memory) => Err(AllocError),
         Err(ComposeFault::Cycle(_)) => unreachable!(),

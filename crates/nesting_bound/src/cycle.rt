@@ -1,6 +1,6 @@
 //! The instance that names a cycle.
 
-ghost use Rattle.std.specs.Prelude.{◌≡◌, ◌⊎◌, ◌+◌, ◌<◌, ◌≤◌, Contains, IfOk, IfSome, length, slice_index, true, false};
+ghost use Rattle.std.specs.Prelude.{ℕ, ◌≡◌, ◌⊎◌, ◌+◌, ◌<◌, ◌≤◌, Contains, IfOk, IfSome, length, slice_index, true, false};
 ghost use Rattle.nesting_bound.specs.declared.graph.Entered.{Entered};
 ghost use Rattle.nesting_bound.specs.Graph.{ReachesBy, IsGraph};
 ghost use Rattle.nesting_bound.specs.Cycle.{group_of, number_of};
@@ -51,7 +51,7 @@ fn highest(edges: &[Entered], numbers: &[u32]) -> u32
 
 // Whether instance i may reach itself: it is not settled, and enters one whose number is not below its own.
 fn is_candidate(graph: &[GraphInst], table: &[Option<Found>], numbers: &[u32], i: usize) -> bool
-    requires sound { IsSoundTable graph.now table.now }
+    requires sound { (back : ℕ) × IsSoundTable back graph.now table.now }
     requires layers { AreLayers graph.now numbers.now }
     requires within { i < length graph.now }
     ensures { result ≡ false → ReachesBy graph.now i i → ⊥ }
@@ -86,7 +86,7 @@ fn is_behind(graph: &[GraphInst], best: Option<u32>, i: usize) -> bool
 
 // The candidate that is named first.
 fn first_candidate(graph: &[GraphInst], table: &[Option<Found>], numbers: &[u32]) -> Option<usize>
-    requires sound { IsSoundTable graph.now table.now }
+    requires sound { (back : ℕ) × IsSoundTable back graph.now table.now }
     requires layers { AreLayers graph.now numbers.now }
     ensures { IfSome result (λ at. at < length graph.now) }
 {
@@ -111,7 +111,7 @@ fn guess(
     numbers: &[u32],
 ) -> Result<Option<u32>, AllocError>
     requires graph { IsGraph graph.now }
-    requires sound { IsSoundTable graph.now table.now }
+    requires sound { (back : ℕ) × IsSoundTable back graph.now table.now }
     requires layers { AreLayers graph.now numbers.now }
     ensures { IfOk result (IsNamedBelow graph.now 0) }
 {
@@ -147,7 +147,7 @@ pub fn first_named(
     numbers: Vec<u32>,
 ) -> Result<Option<u32>, AllocError>
     requires graph { IsGraph graph.now }
-    requires sound { IsSoundTable graph.now table.now }
+    requires sound { (back : ℕ) × IsSoundTable back graph.now table.now }
     ensures { IfOk result (IsNamedBelow graph.now (length graph.now)) }
 {
     let layers = layers(alloc, graph, numbers)?;

@@ -24,10 +24,10 @@ fn greatest(places: &[Place]) -> u32
 }
 
 // The least rank and need above those of an instance's nodes and of the instances it enters, if all of these are known.
-fn settle(inst: &GraphInst, table: &[Option<Found>]) -> Option<Found>
+fn settle(inst: &GraphInst, table: &[Option<Found>], back: u8) -> Option<Found>
     requires small { (j : ℕ) (x : Found) → at table.now j ≡ Some x → IsSmall x 65537 }
     requires within { (e : Entered) → Contains inst.now.entered e → e.into < length table.now }
-    ensures some { IfSome result (λ f. IsOver inst.now.entered inst.now.offsets table.now f) }
+    ensures some { IfSome result (λ f. IsOver back inst.now.entered inst.now.offsets table.now f) }
     ensures none { IfNone result ((e : Entered) × Contains inst.now.entered e × (at table.now e.into ≡ None)) }
 {
     let mut found = Found {
@@ -41,7 +41,9 @@ fn settle(inst: &GraphInst, table: &[Option<Found>]) -> Option<Found>
             Some(x) => {
                 found = Found {
                     rank: found.rank.max(x.rank + 1),
-                    need: found.need.max(u32::from(entered.offset) + 2 + x.need),
+                    need: found
+                        .need
+                        .max(u32::from(entered.offset) + u32::from(back) + x.need),
                 };
             }
         }
@@ -50,16 +52,16 @@ fn settle(inst: &GraphInst, table: &[Option<Found>]) -> Option<Found>
 }
 
 // Settles one instance if possible. Returns whether it did.
-fn visit(graph: &[GraphInst], table: &mut [Option<Found>], i: usize) -> bool
+fn visit(graph: &[GraphInst], table: &mut [Option<Found>], i: usize, back: u8) -> bool
     requires graph { IsGraph graph.now }
-    requires sound { IsSoundTable graph.now table.old }
+    requires sound { IsSoundTable back graph.now table.old }
     requires within { i < length graph.now }
-    ensures { IsVisit graph.now table.old i result table.new }
+    ensures { IsVisit back graph.now table.old i result table.new }
 {
     if table[i].is_some() {
         return false;
     }
-    match settle(&graph[i], table) {
+    match settle(&graph[i], table, back) {
         None => false,
         Some(found) => {
             table[i] = Some(found);
@@ -69,29 +71,29 @@ fn visit(graph: &[GraphInst], table: &mut [Option<Found>], i: usize) -> bool
 }
 
 // Visits each instance once. Returns whether one was settled.
-fn pass(graph: &[GraphInst], table: &mut [Option<Found>]) -> bool
+fn pass(graph: &[GraphInst], table: &mut [Option<Found>], back: u8) -> bool
     requires graph { IsGraph graph.now }
-    requires sound { IsSoundTable graph.now table.old }
-    ensures { ArePassed graph.now table.old (length graph.now) result table.new }
+    requires sound { IsSoundTable back graph.now table.old }
+    ensures { ArePassed back graph.now table.old (length graph.now) result table.new }
 {
     let mut grew = false;
     for i in 0..graph.len() {
-        let grown = visit(graph, table, i);
+        let grown = visit(graph, table, i, back);
         grew |= grown;
     }
     grew
 }
 
 // Visits instances in this order.
-fn settle_in(graph: &[GraphInst], table: &mut [Option<Found>], order: &[u32])
+fn settle_in(graph: &[GraphInst], table: &mut [Option<Found>], order: &[u32], back: u8)
     requires graph { IsGraph graph.now }
-    requires sound { IsSoundTable graph.now table.old }
-    ensures { IsSoundTable graph.now table.new }
+    requires sound { IsSoundTable back graph.now table.old }
+    ensures { IsSoundTable back graph.now table.new }
 {
     for inst in order {
         let i = *inst as usize;
         if i < graph.len() {
-            visit(graph, table, i);
+            visit(graph, table, i, back);
         }
     }
 }
@@ -102,15 +104,16 @@ pub fn peel(
     alloc: Global,
     graph: &[GraphInst],
     order: &[u32],
+    back: u8,
 ) -> Result<Vec<Option<Found>>, AllocError>
     requires graph { IsGraph graph.now }
-    ensures sound { IfOk result (λ table. IsSoundTable graph.now table.items) }
+    ensures sound { IfOk result (λ table. IsSoundTable back graph.now table.items) }
     ensures stuck { IfOk result (λ table. (i : ℕ) → i < length graph.now → at table.items i ≡ None → IsInstStuck graph.now table.items i) }
 {
     let mut table = vec![in alloc; None; graph.len()]?;
-    settle_in(graph, table.as_mut_slice(), order);
+    settle_in(graph, table.as_mut_slice(), order, back);
     loop {
-        let grew = pass(graph, table.as_mut_slice());
+        let grew = pass(graph, table.as_mut_slice(), back);
         if !grew {
             break;
         }

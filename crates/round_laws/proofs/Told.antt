@@ -2,6 +2,7 @@
 use Rattle.std.proofs.Common.{◌≡◌, refl, sym, ap, ◌∙◌, subst, ℕ, zero, suc, ◌+◌, ◌<◌, ◌≤◌, ◌⊎◌, inl, inr, ⊎_elim, Bool, true, false, if◌then◌else◌, List, [], ◌∷◌, map, length, Option, Some, None, slice_get, slice_index, arith}
 use Rattle.std.proofs.lemmas.Option.{none-some, same_Some, slice_get_within}
 use Rattle.basics.specs.Lists.{get_inside}
+use Rattle.avr_model.specs.Devices.{device_of, back_of}
 use Rattle.mask_states.specs.declared.keys.InstKey.{InstKey}
 use Rattle.mask_states.specs.declared.keys.Kind.{Kind}
 use Rattle.mask_states.specs.declared.keys.Kind.TheVariants.{Root, Call, Vector}
@@ -196,7 +197,7 @@ module _ (task : Task) (f : Family) (keys : List InstKey) (gs : List GraphInst) 
 
   -- ---- ranks and needs
 
-  module _ (ranks needs : List ℕ) (least : IsLeast gs ranks needs) where
+  module _ (ranks needs : List ℕ) (least : IsLeast (back_of (device_of task.flash)) gs ranks needs) where
     in_ranks : (i : ℕ) (inst : InstKey) → IsNumber keys i inst → i < length ranks
     in_ranks i inst e = let lt = slice_get_within keys i inst e in omega (arith, lt, is.inside, least.ranks_length)
 
@@ -265,7 +266,7 @@ module _ (task : Task) (f : Family) (keys : List InstKey) (gs : List GraphInst) 
             omega (arith, least.are_needs.entered h.number h.edge h.enters, h.at, need_is h.number i h.from, need_le h.edge.into j h.to);
       }
 
-    graph_needs : (need : InstKey → ℕ) → AreNeeds task f need → graph.AreGraphNeeds gs (by_number need)
+    graph_needs : (need : InstKey → ℕ) → AreNeeds task f need → graph.AreGraphNeeds (back_of (device_of task.flash)) gs (by_number need)
     graph_needs need are = record {
       offsets = λ i p has. let x = is.places i p has in omega (arith, are.offsets x.node p.offset x.has x.closed, by_number_is need i x.node.key.inst x.of);
       entered = λ i e h.

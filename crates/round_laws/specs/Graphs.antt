@@ -1,6 +1,7 @@
 -- The graph of a family: each instance with a node has a number of its own. An entered instance without a node gets one number behind
 -- these, which has no edges.
 use Rattle.std.specs.Prelude.{ℕ, ◌+◌, ◌≡◌, ◌<◌, ◌≤◌, ◌⊎◌, List, [], ◌∷◌, length, map, Some, slice_get, slice_index, if◌then◌else◌}
+use Rattle.avr_model.specs.Devices.{device_of, back_of}
 use Rattle.mask_states.specs.declared.keys.InstKey.{InstKey}
 use Rattle.mask_states.specs.declared.keys.SpForm.TheVariants.{Closed}
 use Rattle.mask_states.specs.declared.keys.Kind.TheVariants.{Vector}
@@ -88,12 +89,12 @@ pub record GraphsTell : Type 0 where
   pub named : (task : Task) (f : Family) (keys : List InstKey) (gs : List GraphInst) (at : ℕ) → IsGraphOver task f keys gs
       → IsNamed gs at → at < length keys
   pub ranks : (task : Task) (f : Family) (keys : List InstKey) (gs : List GraphInst) (ranks needs : List ℕ) → IsGraphOver task f keys gs
-      → IsLeast gs ranks needs → AreRanks task f (valued keys ranks)
+      → IsLeast (back_of (device_of task.flash)) gs ranks needs → AreRanks task f (valued keys ranks)
   pub least_ranks : (task : Task) (f : Family) (keys : List InstKey) (gs : List GraphInst) (ranks needs : List ℕ) (rank : InstKey → ℕ)
-      → IsGraphOver task f keys gs → IsLeast gs ranks needs → AreRanks task f rank → (inst : InstKey) → valued keys ranks inst ≤ rank inst
+      → IsGraphOver task f keys gs → IsLeast (back_of (device_of task.flash)) gs ranks needs → AreRanks task f rank → (inst : InstKey) → valued keys ranks inst ≤ rank inst
   pub needs : (task : Task) (f : Family) (keys : List InstKey) (gs : List GraphInst) (ranks needs : List ℕ) (spare : ℕ) → IsGraphOver task f keys gs
-      → IsLeast gs ranks needs → AreNeeds task f (valued keys (map (λ x. x + spare) needs))
+      → IsLeast (back_of (device_of task.flash)) gs ranks needs → AreNeeds task f (valued keys (map (λ x. x + spare) needs))
   pub least_needs : (task : Task) (f : Family) (keys : List InstKey) (gs : List GraphInst) (ranks needs : List ℕ) (need : InstKey → ℕ)
-      → IsGraphOver task f keys gs → IsLeast gs ranks needs → AreNeeds task f need → (inst : InstKey) → valued keys needs inst ≤ need inst
+      → IsGraphOver task f keys gs → IsLeast (back_of (device_of task.flash)) gs ranks needs → AreNeeds task f need → (inst : InstKey) → valued keys needs inst ≤ need inst
   pub root : (task : Task) (f : Family) (keys : List InstKey) (gs : List GraphInst) (ranks needs : List ℕ) → IsGraphOver task f keys gs
-      → IsLeast gs ranks needs → IsRootNeed task f (slice_index needs 0)
+      → IsLeast (back_of (device_of task.flash)) gs ranks needs → IsRootNeed task f (slice_index needs 0)

@@ -1,5 +1,8 @@
 -- Allowances cover the notes.
 use Rattle.std.proofs.Common.{◌≡◌, refl, sym, ap, ◌∙◌, subst, ⊎_elim, Bool, true, false, cond, Option, Some, None, List, ℕ, ◌+◌, ◌<◌, ◌≤◌, arith}
+use Rattle.avr_model.proofs.AllLaws.{devices_are_alike}
+use Rattle.avr_model.specs.declared.device.Device.{Device}
+use Rattle.avr_model.specs.Devices.{device_of, size_of, back_of}
 use Rattle.round_laws.proofs.AllLaws.{reached_lower}
 use Rattle.mask_states.specs.declared.keys.InstKey.{InstKey}
 use Rattle.mask_states.specs.Order.{same_inst}
@@ -69,8 +72,8 @@ abbrev need_in : Option Allowance → ℕ
 need_in None = 0
 need_in (Some a) = a.need
 
-pub nests : (size : ℕ) (gs : Granted) (n : Noted) → AllowsRoot gs size → CoversNoted gs n.spots n.entrances → TellsAll size n Nests
-nests size gs n root covers task f sized there nesting = (
+pub nests : (device : Device) (gs : Granted) (n : Noted) → AllowsRoot gs (size_of device) → CoversNoted gs n.spots n.entrances → TellsAll device n Nests
+nests device gs n root covers task f sized there nesting = (
   λ i reaches. let lt = reached_lower task f rank are_ranks i i reaches in omega (arith, lt),
   record {
     need = need;
@@ -81,10 +84,11 @@ nests size gs n root covers task f sized there nesting = (
           subst (λ (o : Option Allowance). offset ≤ need_in o) (sym a.is) a.fits;
       entered = λ i j offset e.
           let a = allows i j offset e in
-          subst (λ (o : Option Allowance). offset + 2 + need_in o ≤ need i) (sym a.is_into)
-          (subst (λ (o : Option Allowance). offset + 2 + a.into.need ≤ need_in o) (sym a.is_from) a.allows.need);
+          subst (λ (o : Option Allowance). offset + back_of (device_of task.flash) + need_in o ≤ need i) (sym a.is_into)
+          (subst (λ (o : Option Allowance). offset + back_of (device_of task.flash) + a.into.need ≤ need_in o) (sym a.is_from)
+          (omega (arith, a.allows.need, devices_are_alike.most_back (device_of task.flash))));
     };
-    small = let le = subst (λ (o : Option Allowance). need_in o ≤ size) (sym root.is) root.fits in omega (arith, le, sized);
+    small = let le = subst (λ (o : Option Allowance). need_in o ≤ size_of device) (sym root.is) root.fits in omega (arith, le, ap size_of sized);
   },
 )
   where

@@ -1,6 +1,8 @@
 -- The graph justifies the verdict for each family with these notes.
 use Rattle.std.proofs.Common.{◌≡◌, refl, sym, ap, ◌∙◌, subst, List, ◌∷◌, Some, slice_get, slice_index, slice_index_or, ℕ, ◌<◌, ◌≤◌, length, Contains, arith}
 use Rattle.std.proofs.lemmas.Option.{slice_get_within, slice_get-get_or}
+use Rattle.avr_model.specs.declared.device.Device.{Device}
+use Rattle.avr_model.specs.Devices.{device_of, size_of, back_of}
 use Rattle.mask_states.specs.declared.keys.InstKey.{InstKey}
 use Rattle.mask_states.specs.declared.keys.Kind.TheVariants.{Vector}
 use Rattle.mask_states.specs.declared.keys.SpForm.TheVariants.{Closed}
@@ -92,8 +94,8 @@ module _ (n : Noted) (others : List InstKey) (gs : List GraphInst) (drawn : IsDr
       all_places = all_places;
     }
 
-  pub tells_all : (size : ℕ) (w : NestingVerdict) → GraphTells size gs w → TellsAll size n w
-  tells_all size w tells task f sized root nesting = tells task f keys sized (is_graph_of task f nesting)
+  pub tells_all : (device : Device) (w : NestingVerdict) → GraphTells device gs w → TellsAll device n w
+  tells_all device w tells task f sized root nesting = tells task f keys sized (is_graph_of task f nesting)
 
 -- ---- from the graph
 
@@ -104,20 +106,24 @@ module _ (tell : GraphsTell) (gs : List GraphInst) where
         let k = there keys at (tell.named task f keys gs at of named) in
         k.1 ∙ ap (λ (x : InstKey). Some x) (sym (of.keyed at g k.0 is k.1))
 
-    pub re_entry : (v : ℕ) → g.key.kind ≡ Vector v → (size : ℕ) → GraphTells size gs (ReEntry v g.key.entry)
-    re_entry v kind size task f keys sized of = tell.re_entry task f keys gs at v g.key of named (number task f keys of) kind
+    pub re_entry : (v : ℕ) → g.key.kind ≡ Vector v → (device : Device) → GraphTells device gs (ReEntry v g.key.entry)
+    re_entry v kind device task f keys sized of = tell.re_entry task f keys gs at v g.key of named (number task f keys of) kind
 
-    pub recursion : group_of g.key.kind ≡ 1 → (size : ℕ) → GraphTells size gs (Recursion g.key.entry)
-    recursion one size task f keys sized of = tell.recursion task f keys gs at g.key of named (number task f keys of) one
+    pub recursion : group_of g.key.kind ≡ 1 → (device : Device) → GraphTells device gs (Recursion g.key.entry)
+    recursion one device task f keys sized of = tell.recursion task f keys gs at g.key of named (number task f keys of) one
 
-  module _ (ranks needs : List ℕ) (least : IsLeast gs ranks needs) (acyclic : (i : ℕ) → graph.ReachesBy gs i i → ⊥) where
-    pub nests : (size : ℕ) → slice_index needs 0 ≤ size → GraphTells size gs Nests
-    nests size le task f keys sized of =
-        let root = tell.root task f keys gs ranks needs of least in
-        (tell.acyclic task f keys gs of acyclic, record { need = root.need; are = root.are; small = omega (arith, root.is, le, sized) })
+  module _ (device : Device) (ranks needs : List ℕ) (least : IsLeast (back_of device) gs ranks needs) (acyclic : (i : ℕ) → graph.ReachesBy gs i i → ⊥) where
+    -- for a firmware of the device
+    least_of : (task : Task) → device_of task.flash ≡ device → IsLeast (back_of (device_of task.flash)) gs ranks needs
+    least_of task sized = subst (λ d. IsLeast (back_of d) gs ranks needs) (sym sized) least
 
-    pub too_deep : (size : ℕ) → size < slice_index needs 0 → GraphTells size gs (TooDeep (slice_index needs 0))
-    too_deep size lt task f keys sized of = (tell.acyclic task f keys gs of acyclic, tell.root task f keys gs ranks needs of least, omega (arith, lt, sized))
+    pub nests : slice_index needs 0 ≤ size_of device → GraphTells device gs Nests
+    nests le task f keys sized of =
+        let root = tell.root task f keys gs ranks needs of (least_of task sized) in
+        (tell.acyclic task f keys gs of acyclic, record { need = root.need; are = root.are; small = omega (arith, root.is, le, ap size_of sized) })
+
+    pub too_deep : size_of device < slice_index needs 0 → GraphTells device gs (TooDeep (slice_index needs 0))
+    too_deep lt task f keys sized of = (tell.acyclic task f keys gs of acyclic, tell.root task f keys gs ranks needs of (least_of task sized), omega (arith, lt, ap size_of sized))
 
 -- ---- a named instance is there
 

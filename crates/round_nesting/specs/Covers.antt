@@ -15,10 +15,10 @@ Granted = List (InstKey × Allowance)
 abbrev pub allowed : Granted → InstKey → Option Allowance
 allowed gs inst = lookup (same_inst inst) gs
 
--- the allowances cover that the first instance enters the second at this offset
+-- the allowances cover that the first instance enters the second at this offset, if a return address takes at most three bytes
 pub record Allows (from into : Allowance) (offset : ℕ) : Type 0 where
   pub rank : into.rank < from.rank
-  pub need : offset + 2 + into.need ≤ from.need
+  pub need : offset + 3 + into.need ≤ from.need
 
 -- the root's need is at most this many bytes
 pub record AllowsRoot (gs : Granted) (size : ℕ) : Type 0 where

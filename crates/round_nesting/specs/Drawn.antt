@@ -1,7 +1,8 @@
 -- The graph of a nesting.
 use Rattle.std.specs.Prelude.{ℕ, ◌+◌, ◌≡◌, ◌↔◌, ◌⊎◌, Bool, if◌then◌else◌, List, ◌∷◌, Some, length, Contains, slice_get}
 use Rattle.std.specs.List.{position_or_len}
-use Rattle.avr_model.specs.Devices.{device_of, size_of}
+use Rattle.avr_model.specs.declared.device.Device.{Device}
+use Rattle.avr_model.specs.Devices.{device_of}
 use Rattle.mask_states.specs.declared.keys.InstKey.{InstKey}
 use Rattle.mask_states.specs.Keys.{root_inst}
 use Rattle.mask_states.specs.Order.{same_inst}
@@ -87,7 +88,7 @@ pub record IsDrawn (keys : List InstKey) (spots : List Spot) (entrances : List E
   pub edges : (i : ℕ) (e : Entered) → EntersAlong gs i e → IsEdgeOf keys entrances i e
   pub all_edges : (x : Entrance) → Contains entrances x → HasEntranceEdge keys gs x
 
--- the graph justifies the verdict, for each family with this graph on a device with this many bytes of SRAM
-abbrev pub GraphTells : ℕ → List GraphInst → NestingVerdict → Type 0
-GraphTells size gs w =
-    (task : Task) (f : Family) (keys : List InstKey) → size_of (device_of task.flash) ≡ size → IsGraphOver task f keys gs → VerdictTells task f w
+-- the graph justifies the verdict, for each family with this graph on this device
+abbrev pub GraphTells : Device → List GraphInst → NestingVerdict → Type 0
+GraphTells device gs w =
+    (task : Task) (f : Family) (keys : List InstKey) → device_of task.flash ≡ device → IsGraphOver task f keys gs → VerdictTells task f w

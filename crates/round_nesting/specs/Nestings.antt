@@ -1,6 +1,7 @@
 -- The nesting of a family's instances: its notes, and the verdict from them. Source: own.
 use Rattle.std.specs.Prelude.{ℕ, ◌≡◌, ◌<◌, ◌≤◌, ◌↔◌, ◌⊎◌, List, [], length, Contains, Some, slice_get}
 use Rattle.std.specs.FinMap.{len}
+use Rattle.avr_model.specs.declared.device.Device.{Device}
 use Rattle.avr_model.specs.Devices.{device_of, size_of}
 use Rattle.mask_states.specs.declared.keys.InstKey.{InstKey}
 use Rattle.mask_states.specs.declared.keys.NodeKey.{NodeKey}
@@ -81,10 +82,10 @@ VerdictTells task f (ReEntry v word) = IsReEntry task f v word
 VerdictTells task f (Recursion word) = IsRecursion task f word
 VerdictTells task f (TooDeep d) = IsAcyclic task f × IsRootNeed task f d × (size_of (device_of task.flash) < d)
 
--- the verdict holds of each family with these notes in which the root has a node, on a device with this many bytes of SRAM
-abbrev pub TellsAll : ℕ → Noted → NestingVerdict → Type 0
-TellsAll size n w =
-    (task : Task) (f : Family) → size_of (device_of task.flash) ≡ size → FamilyHasInst f root_inst → IsNestingOf task f n → VerdictTells task f w
+-- the verdict holds of each family with these notes in which the root has a node, on this device
+abbrev pub TellsAll : Device → Noted → NestingVerdict → Type 0
+TellsAll device n w =
+    (task : Task) (f : Family) → device_of task.flash ≡ device → FamilyHasInst f root_inst → IsNestingOf task f n → VerdictTells task f w
 
 -- ---- laws
 

@@ -4,6 +4,7 @@ ghost use Rattle.std.specs.Prelude.{◌≡◌, ◌+◌, ◌*◌, ◌^◌, ◌<�
 
 use crate::drawing::number;
 use crate::notes::{NotedEntrance, NotedSpot};
+use avr_model::device::Device;
 use indexmap::{IndexMap, IndexSet};
 use mask_states::InstKey;
 use nesting_bound::Composed;
@@ -29,9 +30,12 @@ fn number_at(numbers: &[u32], i: usize) -> u64
     u64::from(numbers.get(i).copied().unwrap_or(0))
 }
 
-// How much smaller the allowance of an entered instance is, besides the offset, in bytes: two for the return address, and six so that it
+// The bytes of a return address on the devices where it has most.
+const BACK: u64 = 3;
+
+// How much smaller the allowance of an entered instance is, besides the offset, in bytes: those of the return address, and five so that it
 // may be entered again at a greater offset.
-const STEP: u64 = 8;
+const STEP: u64 = BACK + 5;
 
 // The distance between the ranks of instances that had nodes when ranks were last computed.
 const APART: u64 = 65_536;
@@ -78,18 +82,18 @@ impl Allowances {
         }
     }
 
-    /// The allowances of the root and these others above their ranks and needs, on a device with this many bytes of SRAM, and those that
-    /// these entrances leave to instances without nodes.
+    /// The allowances of the root and these others above their ranks and needs, on this device, and those that these entrances leave to
+    /// instances without nodes.
     pub fn over(
         alloc: Global,
         composed: &Composed,
         others: &IndexSet<InstKey>,
         entrances: &IndexSet<NotedEntrance>,
-        size: u16,
+        device: Device,
     ) -> Result<Allowances, AllocError> {
         let mut granted = Allowances::none(alloc);
         granted
-            .grant_all(composed, others, entrances, size)
+            .grant_all(composed, others, entrances, device.size())
             .and(Ok(granted))
     }
 
@@ -194,7 +198,7 @@ impl Allowances {
             (Some(from), Some(into)) => {
                 into.rank < from.rank
                     && into.need <= from.need
-                    && u64::from(entrance.offset()) + 2 <= from.need - into.need
+                    && u64::from(entrance.offset()) + BACK <= from.need - into.need
             }
             _ => false,
         }

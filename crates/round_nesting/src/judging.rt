@@ -1,7 +1,8 @@
 //! The verdict on a nesting by its graph.
 
-ghost use Rattle.std.specs.Prelude.{◌≤◌, ℕ, IfOk, true};
+ghost use Rattle.std.specs.Prelude.{◌≤◌, IfOk, true};
 ghost use Rattle.indexmap.specs.IndexSet.{index_set_len};
+ghost use Rattle.avr_model.specs.declared.device.Device as device_type;
 ghost use Rattle.nesting_bound.specs.Graph.{IsGraph};
 ghost use Rattle.nesting_bound.specs.Cycle.{IsNamed};
 ghost use Rattle.round_nesting.specs.Drawn.{insts_of, AreOthersApart, GraphTells};
@@ -11,6 +12,7 @@ use crate::allowances::Allowances;
 use crate::drawing::drawn;
 use crate::notes::{NotedEntrance, NotedSpot};
 use crate::verdict::NestingVerdict;
+use avr_model::device::Device;
 use indexmap::IndexSet;
 use mask_states::{InstKey, Kind};
 use nesting_bound::{ComposeFault, Graph, GraphInst, compose};
@@ -20,7 +22,7 @@ use std::alloc::{AllocError, Global};
 // The verdict that names an instance on a cycle.
 fn named(graph: &[GraphInst], at: u32) -> NestingVerdict
     requires { IsNamed graph.now at }
-    ensures { (size : ℕ) → GraphTells size graph.now result }
+    ensures { (device : device_type.Device) → GraphTells device graph.now result }
 {
     graphs_tell();
     let key = &graph[at as usize].key;
@@ -37,19 +39,19 @@ pub(crate) struct JudgedNesting {
     pub allowances: Allowances,
 }
 
-// The verdict on a family's graph, on a device with this many bytes of SRAM.
+// The verdict on a family's graph, on this device.
 fn judge_graph(
     alloc: Global,
     graph: &Graph,
     others: &IndexSet<InstKey>,
     entrances: &IndexSet<NotedEntrance>,
-    size: u16,
+    device: Device,
 ) -> Result<JudgedNesting, AllocError>
     requires { IsGraph graph.now.instances }
-    ensures { IfOk result (λ w. GraphTells size graph.now.instances w.verdict) }
+    ensures { IfOk result (λ w. GraphTells device graph.now.instances w.verdict) }
 {
     graphs_tell();
-    let composed = match compose(alloc, graph) {
+    let composed = match compose(alloc, graph, device.back()) {
         Ok(composed) => composed,
         Err(ComposeFault::Cycle(at)) => {
             return Ok(JudgedNesting {
@@ -60,33 +62,33 @@ fn judge_graph(
         Err(ComposeFault::Memory) => return Err(AllocError),
     };
     let need = composed.need(0);
-    if need > u32::from(size) {
+    if need > u32::from(device.size()) {
         return Ok(JudgedNesting {
             verdict: NestingVerdict::TooDeep(need),
             allowances: Allowances::none(alloc),
         });
     }
-    let allowances = Allowances::over(alloc, &composed, others, entrances, size)?;
+    let allowances = Allowances::over(alloc, &composed, others, entrances, device)?;
     Ok(JudgedNesting {
         verdict: NestingVerdict::Nests,
         allowances,
     })
 }
 
-// The verdict on a family's notes, in which the root has a node, on a device with this many bytes of SRAM.
+// The verdict on a family's notes, in which the root has a node, on this device.
 pub(crate) fn judge_noted(
     alloc: Global,
     others: &IndexSet<InstKey>,
     spots: &IndexSet<NotedSpot>,
     entrances: &IndexSet<NotedEntrance>,
-    size: u16,
+    device: Device,
 ) -> Result<JudgedNesting, AllocError>
     requires few { index_set_len others.now ≤ 65535 }
     requires apart { AreOthersApart others.now.keys }
-    ensures { IfOk result (λ w. TellsAll size (record { insts = insts_of true others.now.keys; spots = spots.now.keys; entrances = entrances.now.keys }) w.verdict) }
+    ensures { IfOk result (λ w. TellsAll device (record { insts = insts_of true others.now.keys; spots = spots.now.keys; entrances = entrances.now.keys }) w.verdict) }
 {
     let graph = drawn(alloc, others, spots.as_slice(), entrances.as_slice())?;
-    let judged = judge_graph(alloc, &graph, others, entrances, size);
+    let judged = judge_graph(alloc, &graph, others, entrances, device);
     drop(graph);
     judged
 }

@@ -10,6 +10,7 @@ use crate::allowances::Allowances;
 use crate::judging::judge_noted;
 use crate::notes::{NotedEntrance, NotedSpot};
 use crate::verdict::NestingVerdict;
+use avr_model::device::Device;
 use indexmap::IndexSet;
 use mask_states::{InstKey, NodeKey, SpForm};
 use std::alloc::{AllocError, Global};
@@ -126,21 +127,27 @@ impl Nesting {
         Ok(())
     }
 
-    /// The verdict on the nesting for a device with this many bytes of SRAM. The notes stay. If the root has no node, the verdict claims
+    /// The verdict on the nesting for this device. The notes stay. If the root has no node, the verdict claims
     /// nothing.
-    pub fn judge(&mut self, size: u16) -> Result<NestingVerdict, AllocError>
+    pub fn judge(&mut self, device: Device) -> Result<NestingVerdict, AllocError>
         requires { length self.old.insts ≤ 65536 }
-        ensures tells { IfOk result (λ w. TellsAll size self.old w) }
+        ensures tells { IfOk result (λ w. TellsAll device self.old w) }
         ensures same { AreAlike self.old self.new }
         ensures once { AreOnce self.new.insts }
     {
-        if self.covered && self.allowances.allow_root(size) {
+        if self.covered && self.allowances.allow_root(device.size()) {
             return Ok(NestingVerdict::Nests);
         }
         if !self.has_root {
             return Ok(NestingVerdict::Nests);
         }
-        let judged = judge_noted(self.alloc, &self.others, &self.spots, &self.entrances, size)?;
+        let judged = judge_noted(
+            self.alloc,
+            &self.others,
+            &self.spots,
+            &self.entrances,
+            device,
+        )?;
         self.covered = judged.allowances.cover(&self.spots, &self.entrances);
         self.allowances = judged.allowances;
         Ok(judged.verdict)

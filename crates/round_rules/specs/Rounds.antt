@@ -3,7 +3,7 @@ use Rattle.std.specs.Prelude.{ℕ, zero, suc, ◌+◌, ◌≡◌, ◌<◌, ◌�
 use Rattle.std.specs.FinMap.{insert, empty}
 use Rattle.avr_model.specs.declared.assumption.Entry.{Entry}
 use Rattle.avr_model.specs.Assumptions.{has_pairs}
-use Rattle.avr_model.specs.Devices.{device_of, size_of}
+use Rattle.avr_model.specs.Devices.{device_of, size_of, back_of}
 use Rattle.mask_states.specs.declared.keys.InstKey.{InstKey}
 use Rattle.mask_states.specs.declared.keys.SpForm.TheVariants.{Closed}
 use Rattle.mask_states.specs.Keys.{root_inst, entry_key}
@@ -32,10 +32,10 @@ abbrev pub AreRanks : Task → Family → (InstKey → ℕ) → Type 0
 AreRanks task f rank = (i j : InstKey) (offset : ℕ) → Entering task f i j offset → rank j < rank i
 
 -- An instance's need is at least the offset of each of its closed nodes, and at least the need of each instance below it plus its depth
--- and two bytes for the return address. An instance without nodes may have any need.
+-- and the bytes of a return address. An instance without nodes may have any need.
 pub record AreNeeds (task : Task) (f : Family) (need : InstKey → ℕ) : Type 0 where
   pub offsets : (n : Node) (offset : ℕ) → FamilyHas f n → n.key.sp ≡ Closed offset → offset ≤ need n.key.inst
-  pub entered : (i j : InstKey) (offset : ℕ) → Entering task f i j offset → offset + 2 + need j ≤ need i
+  pub entered : (i j : InstKey) (offset : ℕ) → Entering task f i j offset → offset + back_of (device_of task.flash) + need j ≤ need i
 
 -- the least need of the root
 pub record IsRootNeed (task : Task) (f : Family) (d : ℕ) : Type 0 where

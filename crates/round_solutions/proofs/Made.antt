@@ -13,7 +13,7 @@ use Rattle.local_laws.proofs.AllLaws.{node_key}
 use Rattle.family_graph.proofs.Graphs.{keys_long}
 use Rattle.avr_model.specs.declared.device.Device.{Device}
 use Rattle.avr_model.specs.Assumptions.{has_pairs}
-use Rattle.avr_model.specs.Devices.{device_of, size_of, depth_of}
+use Rattle.avr_model.specs.Devices.{device_of, size_of, depth_of, back_of}
 use Rattle.avr_model.specs.Vectors.{enable_count}
 use Rattle.avr_model.proofs.AllLaws.{devices_are_alike}
 use Rattle.abs_state.specs.declared.state.AbsState.{AbsState}
@@ -214,7 +214,7 @@ module _ (task : Task) (n : ℕ) (f : Family) (insts : List Inst) (seeds : Seeds
       let is = key_is gs i g.0 g.1.0 in
       let has = (has_inst g.0.key).0 (subst (λ (l : List InstKey). Contains l g.0.key) (sym are_keys) (contained_at keys i g.0.key is)) in
       let fit = fits_both (fits_kind (device_of task.flash) g.0.key.kind g.0.key.entry g.0.key.masks g.0.key.i) g.0.key.masks (2 ^ enable_count (device_of task.flash)) (insts_fit task n f solved g.0.key has) in
-      let low = few_ranks gs parts.is_graph parts.ranks parts.needs parts.least i lt in
+      let low = few_ranks (back_of (device_of task.flash)) gs parts.is_graph parts.ranks parts.needs parts.least i lt in
       let under = rounds_are_least.under_root task n f (valued keys parts.needs) solved.comes solved.passes.faultless valued_needs g.0.key has in
       let at = valued_at keys parts.needs i g.0.key told.once (omega (arith, lt, parts.least.needs_length)) is in
       subst (IsInst (device_of task.flash)) (sym g.1.1)

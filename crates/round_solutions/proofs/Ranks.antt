@@ -41,7 +41,7 @@ not_all [] i v lt le = absurd (omega (arith, lt))
 not_all (x ∷ xs) zero v lt le = let rest = bounded xs v in omega (arith, le, rest)
 not_all (x ∷ xs) (suc i) v lt le = let rest = not_all xs i v (omega (arith, lt)) le in omega (arith, rest)
 
-module _ (gs : List GraphInst) (is : IsGraph gs) (ranks needs : List ℕ) (least : IsLeast gs ranks needs) where
+module _ (back : ℕ) (gs : List GraphInst) (is : IsGraph gs) (ranks needs : List ℕ) (least : IsLeast back gs ranks needs) where
   -- the number of instances with lower ranks is a rank too
   counted : AreGraphRanks gs (λ i. below ranks (slice_index ranks i))
   counted i e h =

@@ -1,6 +1,7 @@
 -- The parts of a family's certificate. Source: own.
 use Rattle.std.specs.Prelude.{ℕ, ◌≡◌, ◌<◌, List, length, None, Some, slice_get, slice_index}
 use Rattle.avr_model.specs.declared.device.Device.{Device}
+use Rattle.avr_model.specs.Devices.{device_of, back_of}
 use Rattle.avr_model.specs.declared.assumption.Entry.{Entry}
 use Rattle.local_rules.specs.declared.local.Node.{Node}
 use Rattle.edge_rules.specs.declared.seeded.NodeForm.{NodeForm}
@@ -50,7 +51,7 @@ pub record AreCertificateParts (task : Task) (f : Family) (insts : List Inst) (s
   pub needs : List ℕ
   pub is_graph : IsGraph graph
   pub of : IsGraphOf task (nodes_of f) graph
-  pub least : IsLeast graph ranks needs
+  pub least : IsLeast (back_of (device_of task.flash)) graph ranks needs
   pub insts_are : AreInsts graph ranks needs insts
   pub forms : AreForms task (nodes_of f) seeds
 

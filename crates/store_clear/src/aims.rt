@@ -11,7 +11,7 @@ use local_reads::members::may_be;
 use local_reads::pointers::{point, step_before};
 use local_rows::registers::pair;
 use local_rows::transfer::{base_register, pointer_register};
-use local_rules::Pointed;
+use local_rules::{Pointed, SpView};
 use mask_states::{Kind, NodeKey};
 
 // The least possible byte of the value.
@@ -111,18 +111,18 @@ fn slot_aimed(device: Device, kind: Kind, pointed: Pointed) -> Option<u16>
 pub(crate) fn aim(device: Device, key: &NodeKey, state: &AbsState, instr: &Instr) -> Option<Aim>
     ensures { result ≡ aim_of device key.now state.now instr.now }
 {
-    let kind = key.inst.kind;
+    let (kind, view) = (key.inst.kind, SpView::of(device, key));
     match instr {
         Instr::Std(base, q, _) => {
             let (register, up) = (base_register(*base), q.get());
             Some(Aim {
                 reach: raised(pair_span(state, register), up),
-                slot: slot_aimed(device, kind, point(state, register, up)),
+                slot: slot_aimed(device, kind, point(view, state, register, up)),
             })
         }
         Instr::St(pointer, _) => {
             let register = pointer_register(*pointer);
-            let pointed = point(state, register, step_before(*pointer));
+            let pointed = point(view, state, register, step_before(*pointer));
             Some(Aim {
                 reach: pointer_reach(*pointer, state),
                 slot: slot_aimed(device, kind, pointed),

@@ -10,6 +10,7 @@ ghost use Rattle.local_rules.specs.Writes as writes;
 use crate::need::stored_bits;
 use crate::writes::may_write;
 use abs_state::AbsState;
+use avr_model::device::Device;
 use avr_model::instruction::Instr;
 use avr_model::rows::Ivsel;
 use bit_domain::{Tri, TriByte};
@@ -18,6 +19,7 @@ use local_reads::flow::port;
 use local_reads::pointers::{point, step_before};
 use local_rows::registers::bits;
 use local_rows::transfer::{base_register, pointer_register};
+use local_rules::SpView;
 use mask_states::NodeKey;
 
 // Whether the slot is one of a running frame with this offset.
@@ -31,19 +33,21 @@ fn is_own_slot(slot: Option<u16>, offset: u16) -> bool
 }
 
 // Whether the byte of an instruction may go to this address.
-fn may_reach(key: &NodeKey, state: &AbsState, instr: &Instr, address: u16) -> bool
-    ensures { result ≡ may_reach key.now state.now instr.now address }
+fn may_reach(device: Device, key: &NodeKey, state: &AbsState, instr: &Instr, address: u16) -> bool
+    ensures { result ≡ may_reach device key.now state.now instr.now address }
 {
     match instr {
         Instr::Out(at, _) => port(*at) == address,
         Instr::Sts(only, _) => *only == address,
         Instr::Std(base, q, _) => {
-            let slot = point(state, base_register(*base), q.get()).frame;
+            let view = SpView::of(device, key);
+            let slot = point(view, state, base_register(*base), q.get()).frame;
             may_write(state, instr, address) && !is_own_slot(slot, key.offset())
         }
         Instr::St(pointer, _) => {
             let up = step_before(*pointer);
-            let slot = point(state, pointer_register(*pointer), up).frame;
+            let view = SpView::of(device, key);
+            let slot = point(view, state, pointer_register(*pointer), up).frame;
             may_write(state, instr, address) && !is_own_slot(slot, key.offset())
         }
         _ => false,
@@ -69,11 +73,12 @@ fn may_be_one(value: TriByte, bit: u8) -> bool
 }
 
 // Whether an instruction may set this bit.
-fn may_set(place: Ivsel, key: &NodeKey, state: &AbsState, instr: &Instr) -> bool
+fn may_set(device: Device, place: Ivsel, key: &NodeKey, state: &AbsState, instr: &Instr) -> bool
     requires { place.bit < 8 }
-    ensures { result ≡ may_set (Some place) (may_reach key.now state.now instr.now) (written_bits state.now instr.now) }
+    ensures { result ≡ may_set (Some place) (may_reach device key.now state.now instr.now) (written_bits state.now instr.now) }
 {
-    may_reach(key, state, instr, place.address) && may_be_one(written_bits(state, instr), place.bit)
+    may_reach(device, key, state, instr, place.address)
+        && may_be_one(written_bits(state, instr), place.bit)
 }
 
 // Whether an instruction may set IVSEL, under a list that reads masks.
@@ -86,7 +91,7 @@ pub(crate) fn may_move(task: &Task<'_>, key: &NodeKey, state: &AbsState, instr: 
         return false;
     }
     match device.ivsel() {
-        Some(place) => may_set(place, key, state, instr),
+        Some(place) => may_set(device, place, key, state, instr),
         None => false,
     }
 }

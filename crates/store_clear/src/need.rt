@@ -67,7 +67,7 @@ fn is_guarded(store: &Store<'_>, address: u16) -> bool
     let device = store.flash.device();
     if assumptions.admits_enables(device, store.pc) {
         let value = stored_bits(store.state, store.instr);
-        is_core(address) || may_enable_barred(device, assumptions, address, &value)
+        is_core(device, address) || may_enable_barred(device, assumptions, address, &value)
     } else {
         is_protected(device, address) && !lists(assumptions.stores(store.pc), address)
     }

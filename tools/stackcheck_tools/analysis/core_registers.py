@@ -8,7 +8,7 @@ from typing import Dict, FrozenSet, Iterator, List, Optional, Set, Tuple
 from stackcheck_tools.analysis.causes import Cause
 from stackcheck_tools.analysis.node_values import Nodes, pointer, stored
 from stackcheck_tools.firmware import opcodes, records
-from stackcheck_tools.firmware.devices import CORE, Device
+from stackcheck_tools.firmware.devices import Device
 from stackcheck_tools.firmware.elf import CODE_END, Elf
 from stackcheck_tools.firmware.taken import numbers_at, parts, pieces, virtual_tables
 from stackcheck_tools.spec.lines import Lines
@@ -21,7 +21,7 @@ STS = 0x9200
 
 def core(device: Device) -> Dict[int, str]:
     """The registers of the core by their addresses."""
-    found = {CORE[name]: name for name in REGISTERS}
+    found = {device.core[name]: name for name in REGISTERS if name in device.core}
     return {**found, device.moving.address: device.moving.registers[0]} if device.moving else found
 
 

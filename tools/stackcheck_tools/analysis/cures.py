@@ -128,7 +128,7 @@ CURES = {
         "`jmp` or `call` on a device that has none: the file was linked for another one",
         "`--device` with the device that it was linked for"),
     "group": (
-        "`refused 5` with an opcode of `mul`, `elpm` or `break`, which the device lacks",
+        "`refused 5` with an opcode of `mul`, `movw`, `lpm` with a register, `elpm` or `break`, which the device lacks",
         "a library or assembly for another device, or the file was linked for one",
         "libraries and assembly for this device; `--device` with the device that it was linked for"),
     "unsupported": (
@@ -271,6 +271,8 @@ def of_stack_pointer(elf: Elf, device: Device, lines: Lines, word: int, name: st
         begin, end = elf.extent(symbol)
         if not any(begin <= 2 * it < end for it in lines.sites("frame")):
             return "prologues"
+        if not device.has_sph:
+            return "sized"
         if not lines.has_pairs():
             return "division"
         return "sized" if all(registers.keeps_zero(elf, it) for it in elf.code if not it.name.startswith("__")) else "zero register"
@@ -312,7 +314,7 @@ def cure(elf: Elf, device: Device, refusal: str, lines: Lines) -> Tuple[str, Opt
     if number == "7" or word is None:
         return "masks" if number == "7" else "deep" if number == "6" else "unfollowed", word
     symbol = elf.symbol_at(2 * word)
-    name = symbol.name if symbol else ""
+    name, moves = symbol.name if symbol else "", text.startswith("out 0x3E" if device.has_sph else "out 0x3D")
     if number == "1":
         return of_jump(elf, name), word
     if number in "23" and needs_optimiser(elf, lines, number, word):
@@ -323,17 +325,17 @@ def cure(elf: Elf, device: Device, refusal: str, lines: Lines) -> Tuple[str, Opt
         return of_opcode(elf, device, lines, text), word
     if number == "8":
         return "proved" if lines.has(word, "prove") else "copy" if text.endswith("+, r0") else "array", word
-    if number in "24" and not text.startswith("out 0x3E") and goes_through_tables(elf, lines):
+    if number in "24" and not moves and goes_through_tables(elf, lines):
         return "two tables", word
     if number == "2" and word not in candidates.reached(elf, word) and is_joined(elf, lines):
         return "joined", word
     if number == "2":
         return of_recursion(elf, device, word), word
-    if number == "4" and text.startswith("out 0x3E"):
+    if number == "4" and moves:
         return of_stack_pointer(elf, device, lines, word, name), word
     if number == "4" and text.startswith("out 0x3D"):
         return of_low_byte(elf, word, name), word
-    if number == "4" and is_low_first(elf, word):
+    if number == "4" and device.has_sph and is_low_first(elf, word):
         return "low byte first", word
     is_other = name not in JUMPERS and is_joined(elf, lines)
     return "joined" if is_other and word else "deep" if number == "6" else "unfollowed", word

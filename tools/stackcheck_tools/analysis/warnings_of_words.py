@@ -58,10 +58,10 @@ def unset_pointer(firmware: Firmware, certificate: str) -> Iterator[Warned]:
     device: Device = firmware.device
     word = None if device.is_first() else first_use(firmware.elf, Nodes(firmware.elf, certificate))
     if word is not None:
+        registers, zero = ("SPH and SPL", "0000") if device.has_sph else ("SPL", "00")
         yield Warned(word, UNSET, f"uses the stack before SPL is written; the bound takes SP to be {device.last:04X} at reset, and older "
-                                  f"chips start with 0000: "
-                                  f"write SPH and SPL first, as avr-libc's start-up code does, or judge this place if the data sheet says "
-                                  f"{device.last:04X}")
+                                  f"chips start with {zero}: write {registers} first, as avr-libc's start-up code does, or judge this "
+                                  f"place if the data sheet says {device.last:04X}")
 
 
 def warnings(firmware: Firmware, certificate: str) -> List[Warned]:

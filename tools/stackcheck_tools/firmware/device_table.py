@@ -89,11 +89,60 @@ atmega328pb 16384 0100 08FF 2 2 jmp,mul,movw,lpmx,break 45 7 MCUCR=0055.02 50
 attiny13 512 0060 009F 1 1 movw,lpmx,break 10 9 - 51 attiny13a
 attiny22 1024 0060 00DF 1 1 - 3 - - 52 at90s2323 at90s2343
 attiny2313 1024 0060 00DF 1 1 movw,lpmx,break 19 19 - 53
-attiny2313a 1024 0060 00DF 1 1 movw,lpmx,break 21 19 - 54
-attiny24 1024 0060 00DF 1 1 movw,lpmx,break 17 5 - 55 attiny24a
-attiny25 1024 0060 00DF 1 1 movw,lpmx,break 15 13 - 56
-attiny26 1024 0060 00DF 1 1 - 12 - - 57
+attiny2313a 1024 0060 00DF 1 1 movw,lpmx,break 21 19 - 37
+attiny24 1024 0060 00DF 1 1 movw,lpmx,break 17 5 - 39 attiny24a
+attiny25 1024 0060 00DF 1 1 movw,lpmx,break 15 13 - 41
+attiny26 1024 0060 00DF 1 1 - 12 - - 54
 attiny261 1024 0060 00DF 1 1 movw,lpmx,break 19 13 - 42 attiny261a
+"""
+
+# The names that the compiler takes and that are left out, each with the reason.
+LEFT_OUT = """\
+at43usb320 the header names no vectors
+at43usb355 the header names no vectors
+at76c711 the header names no vectors
+at86rf401 no bit for two of five vectors
+at90c8534 the header names no vectors
+at90scr100 ten vectors (AES, HSSPI, smart card, keyboard ..) without a known bit
+at94k the header names no vectors
+ata5272 the header names few of its vectors
+ata5700m322 receiver with firmware in ROM: 8 to 43 vectors without a known bit, or no header
+ata5702m322 receiver with firmware in ROM: 8 to 43 vectors without a known bit, or no header
+ata5782 receiver with firmware in ROM: 8 to 43 vectors without a known bit, or no header
+ata5787 receiver with firmware in ROM: 8 to 43 vectors without a known bit, or no header
+ata5790 receiver with firmware in ROM: 8 to 43 vectors without a known bit, or no header
+ata5790n receiver with firmware in ROM: 8 to 43 vectors without a known bit, or no header
+ata5791 receiver with firmware in ROM: 8 to 43 vectors without a known bit, or no header
+ata5795 receiver with firmware in ROM: 8 to 43 vectors without a known bit, or no header
+ata5831 receiver with firmware in ROM: 8 to 43 vectors without a known bit, or no header
+ata5835 receiver with firmware in ROM: 8 to 43 vectors without a known bit, or no header
+ata6285 18 vectors without a known bit
+ata6286 18 vectors without a known bit
+ata6289 18 vectors without a known bit
+ata8210 receiver with firmware in ROM: 8 to 43 vectors without a known bit, or no header
+ata8510 receiver with firmware in ROM: 8 to 43 vectors without a known bit, or no header
+atmega103 `elpm` without `elpm rD, Z`
+atmega1284rfr2 77 vectors, more than 64
+atmega128rfa1 72 vectors, more than 64
+atmega128rfr2 77 vectors, more than 64
+atmega16hva battery manager: 6 to 9 vectors without a known bit
+atmega16hva2 battery manager: 6 to 9 vectors without a known bit
+atmega16hvb battery manager: 6 to 9 vectors without a known bit
+atmega16hvbrevb battery manager: 6 to 9 vectors without a known bit
+atmega2560 a program counter of three bytes
+atmega2561 a program counter of three bytes
+atmega2564rfr2 a program counter of three bytes, and 77 vectors, more than 64
+atmega256rfr2 a program counter of three bytes, and 77 vectors, more than 64
+atmega323 header and start-up object disagree on the number of vectors
+atmega32hvb battery manager: 6 to 9 vectors without a known bit
+atmega32hvbrevb battery manager: 6 to 9 vectors without a known bit
+atmega406 battery manager: seven vectors without a known bit
+atmega644rfr2 77 vectors, more than 64
+atmega64hve battery manager: 6 to 9 vectors without a known bit
+atmega64hve2 battery manager: 6 to 9 vectors without a known bit
+atmega64rfr2 77 vectors, more than 64
+atmega8hva battery manager: 6 to 9 vectors without a known bit
+m3000 the header names no vectors
 """
 
 # The lists of vectors. A line for each: its number; the places of its enable bit (names of the register, data address, mask), behind `~` if
@@ -1550,62 +1599,6 @@ VECTORS = (
 17 USICR=002D.40 USI_OVERFLOW
 18 EECR=003C.08 EEPROM_READY
 19 WDTCSR=0041.40 WDT_OVERFLOW
-""",
-"""\
-2 GIMSK=005B.40 INT0
-3 GIMSK=005B.80 INT1
-4 TIMSK=0059.08 TIMER1_CAPT
-5 TIMSK=0059.40 TIMER1_COMPA
-6 TIMSK=0059.80 TIMER1_OVF
-7 TIMSK=0059.02 TIMER0_OVF
-8 UCSRB=002A.80 USART0_RX
-9 UCSRB=002A.20 USART0_UDRE
-10 UCSRB=002A.40 USART0_TX
-11 ACSR=0028.08 ANA_COMP
-12 GIMSK=005B.20 PCINT0
-13 TIMSK=0059.20 TIMER1_COMPB
-14 TIMSK=0059.01 TIMER0_COMPA
-15 TIMSK=0059.04 TIMER0_COMPB
-16 USICR=002D.80 USI_START
-17 USICR=002D.40 USI_OVERFLOW
-18 EECR=003C.08 EEPROM_Ready
-19 WDTCR=0041.40 WDT_OVERFLOW
-20 GIMSK=005B.08 PCINT1
-21 GIMSK=005B.10 PCINT2
-""",
-"""\
-2 GIMSK=005B.40 EXT_INT0
-3 GIMSK=005B.10 PCINT0
-4 GIMSK=005B.20 PCINT1
-5 WDTCSR=0041.40 WATCHDOG
-6 TIMSK1=002C.20 TIM1_CAPT
-7 TIMSK1=002C.02 TIM1_COMPA
-8 TIMSK1=002C.04 TIM1_COMPB
-9 TIMSK1=002C.01 TIM1_OVF
-10 TIMSK0=0059.02 TIM0_COMPA
-11 TIMSK0=0059.04 TIM0_COMPB
-12 TIMSK0=0059.01 TIM0_OVF
-13 ACSR=0028.08 ANA_COMP
-14 ADCSRA=0026.08 ADC
-15 EECR=003C.08 EE_RDY
-16 USICR=002D.80 USI_START
-17 USICR=002D.40 USI_OVF
-""",
-"""\
-2 GIMSK=005B.40 INT0
-3 GIMSK=005B.20 PCINT0
-4 TIMSK=0059.40 TIM1_COMPA
-5 TIMSK=0059.04 TIM1_OVF
-6 TIMSK=0059.02 TIM0_OVF
-7 EECR=003C.08 EE_RDY
-8 ACSR=0028.08 ANA_COMP
-9 ADCSRA=0026.08 ADC
-10 TIMSK=0059.20 TIM1_COMPB
-11 TIMSK=0059.10 TIM0_COMPA
-12 TIMSK=0059.08 TIM0_COMPB
-13 WDTCR=0041.40 WDT
-14 USICR=002D.80 USI_START
-15 USICR=002D.40 USI_OVF
 """,
 """\
 2 GIMSK=005B.40 INT0

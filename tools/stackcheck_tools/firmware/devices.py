@@ -4,9 +4,10 @@ from __future__ import annotations
 
 import difflib
 import functools
-from typing import TYPE_CHECKING, Iterator, List, NamedTuple, Optional, Tuple
+import re
+from typing import TYPE_CHECKING, Dict, Iterator, List, NamedTuple, Optional, Tuple
 
-from stackcheck_tools.firmware.device_table import CLASSES, VECTORS
+from stackcheck_tools.firmware.device_table import CLASSES, LEFT_OUT, VECTORS
 
 if TYPE_CHECKING:
     from stackcheck_tools.firmware.elf import Elf
@@ -14,8 +15,13 @@ if TYPE_CHECKING:
 FIRST = ("atmega48pa", "atmega88pa", "atmega168pa", "atmega328p")  # those of certificates without a device's name
 DEFAULT = "atmega328p"  # the one that stackbound takes without --device
 MOST_NEAR, ALIKE = 4, 0.85
-# protected registers of all devices, with their data addresses
+# protected registers with their data addresses; some devices lack SPH
 CORE = {**{f"r{n}": n for n in range(32)}, "SPL": 0x5D, "SPH": 0x5E, "SREG": 0x5F}
+OTHER_CORES = (  # names of chips that no row of the table can describe, and why
+    (r"attiny(4|5|9|10|20|40|102|104)", "another core, AVRrc, with 16 registers"),
+    (r"at90s1200|attiny(11|12|15|28)", "another core, AVR1, without a stack in SRAM"),
+    (r"atmega(8|16|32|48)0[89]|attiny(2|4|8|16|32)[0-2][24567]|avr\d+[a-z]{2}\d+s?", "another core, AVRxt"),
+    (r"atxmega\w+", "another core, XMEGA"))
 
 
 class Misuse(Exception):
@@ -51,12 +57,13 @@ class Device:
     """A class of equal devices, by a line of the table: `words` of flash, the `first` and the `last` byte of SRAM, how many words a vector
     has, the `last_vector`, and the vector of the `watchdog`. `vectors` has the name of each vector that may come, by number; `registers`
     the protected addresses by name; `enabling` those of registers that enable interrupts; `handlers` the functions of handlers by their
-    vectors' names; `moving` the bit that moves the vectors."""
+    vectors' names; `moving` the bit that moves the vectors; `core` the registers of the core, with SPH where it `has_sph`."""
 
     def __init__(self, row: List[str]) -> None:
         self.name, self.words, self.vector_words, self.last_vector = row[0], int(row[1]), int(row[5]), int(row[7])
         self.first, self.last = int(row[2], 16), int(row[3], 16)
         self.has_sph = row[4] == "2"
+        self.core = {name: it for name, it in CORE.items() if name != "SPH" or self.has_sph}
         self.groups = frozenset(row[6].split(","))
         self.watchdog = None if row[8] == "-" else int(row[8])
         self.moving = None if row[9] == "-" else place(row[9])
@@ -65,8 +72,8 @@ class Device:
         self.handlers = {name: f"__vector_{number - 1}" for number, it in self.rows.items() for name in it.names}
         places = [it for row in self.rows.values() for it in row.places]
         self.enabling = frozenset(it.address for it in places)
-        self.registers = {**{name: it.address for it in places for name in it.registers}, **CORE}
-        self.names = {**{address: name for name, address in CORE.items()}, **{it.address: it.registers[0] for it in places}}
+        self.registers = {**{name: it.address for it in places for name in it.registers}, **self.core}
+        self.names = {**{address: name for name, address in self.core.items()}, **{it.address: it.registers[0] for it in places}}
         if self.moving and self.moving.address in self.enabling:  # named as in data sheets
             self.names[self.moving.address] = self.moving.registers[0]
 
@@ -134,10 +141,18 @@ def default() -> Device:
     return of_class(NAMES[DEFAULT][0])
 
 
+def why_none(name: str) -> Optional[str]:
+    """Why the name of a chip is in no row; None where nothing tells it."""
+    left_out = dict(line.split(" ", 1) for line in LEFT_OUT.splitlines())
+    return left_out.get(name) or next((why for form, why in OTHER_CORES if re.fullmatch(form, name)), None)
+
+
 def unknown(name: str) -> str:
-    """What is told of a name that is in no row: names that are near, and where all are."""
-    near = difflib.get_close_matches(name.lower(), NAMES, MOST_NEAR, ALIKE)
-    return f"{len(NAMES)} names but not this one" + (f"; near: {', '.join(near)}" if near else "") + "; docs/DEVICES.md lists them all"
+    """What is told of a name that is in no row: why it is in none, or else names that are near; and where all are."""
+    why = why_none(name.lower())
+    near = [] if why else difflib.get_close_matches(name.lower(), NAMES, MOST_NEAR, ALIKE)
+    more = f": {why}" if why else f"; near: {', '.join(near)}" if near else ""
+    return f"{len(NAMES)} names but not this one{more}; docs/DEVICES.md lists them all"
 
 
 def device_of(elf: Elf, path: str, asked: Optional[str]) -> Tuple[Optional[str], Device]:

@@ -9,7 +9,7 @@ from stackcheck_tools.firmware.elf import Elf, Symbol
 IJMP, ICALL = 0x9409, 0x9509
 SPM, SEI = 0x95E8, 0x9478
 DEC_R29, INC_R29, SUBI_R29 = 0x95DA, 0x95D3, 0x50D0
-OUT_SPH_R29 = 0xBFDE
+OUT_SPH_R29, OUT_SPL_R28 = 0xBFDE, 0xBFCD
 MOV_R30_R0, LDS_R30, LDS_R31 = 0x2DE0, 0x91E0, 0x91F0
 FRAME_LOW, FRAME_HIGH = 28, 29  # the frame pointer
 
@@ -152,6 +152,8 @@ def group(opcode: int) -> Optional[str]:
     """The group of an instruction that not all devices have; None of one that all have."""
     if opcode & 0xFC00 == 0x9C00 or opcode & 0xFE00 == 0x0200:  # with muls, mulsu, fmul, fmuls, fmulsu
         return "mul"
+    if opcode & 0xFF00 == 0x0100 or opcode & 0xFE0E == 0x9004:  # `lpm` with a register
+        return "movw" if opcode & 0x8000 == 0 else "lpmx"
     return "elpm" if is_elpm(opcode) else "break" if opcode == 0x9598 else None
 
 

@@ -94,12 +94,16 @@ def at_line(elf: Elf, kind: str, text: str) -> Set[int]:
 
 
 def frames_of(elf: Elf, symbol: Symbol) -> Iterator[int]:
-    """The words of a function where `add` and `adc` give its frame back, and where the frame's high byte alone is moved."""
+    """The words of a function where `add` and `adc` give its frame back, `add` alone without SPH, and where the frame's high byte alone is
+    moved."""
+    has_sph = elf.chip.has_sph
     code = list(opcodes.words_of(elf, symbol))
     for n, (word, opcode) in enumerate(code):
         after = code[n + 1:n + 1 + NEAR]
         if opcodes.is_add(opcode) and opcodes.destination(opcode) == opcodes.FRAME_LOW and after:
-            if opcodes.is_adc(after[0][1]) and opcodes.destination(after[0][1]) == opcodes.FRAME_HIGH:
+            if not has_sph and any(it == opcodes.OUT_SPL_R28 for _, it in after):
+                yield word
+            elif opcodes.is_adc(after[0][1]) and opcodes.destination(after[0][1]) == opcodes.FRAME_HIGH:
                 yield from (word, after[0][0])
         elif opcodes.moves_high_byte(opcode) and any(it == opcodes.OUT_SPH_R29 for _, it in after):
             yield word

@@ -22,6 +22,9 @@ const CALL: u8 = 1;
 // A recur edge of the root.
 const RECUR: u8 = 255;
 
+// The bytes of a return address.
+const BACK: u8 = 2;
+
 // A node and an offset.
 type At = (u32, u16);
 
@@ -148,13 +151,13 @@ fn are_links(links: &[Link], steps: &[Step]) -> bool {
 
 fn has_chain(alloc: Global, graph: &Graph, composed: &Composed, wanted: &Least) -> bool
     requires graph { IsGraph graph.now.instances }
-    requires least { IsLeast graph.now.instances composed.now.ranks composed.now.needs }
+    requires least { IsLeast BACK graph.now.instances composed.now.ranks composed.now.needs }
     requires places { HavePlaces graph.now.instances }
 {
     if composed.need(0) > u32::from(SIZE) {
         return false;
     }
-    match chain(alloc, graph, composed) {
+    match chain(alloc, graph, composed, BACK) {
         Ok(links) => are_links(&links, wanted.2),
         Err(_) => false,
     }
@@ -169,7 +172,7 @@ fn has(alloc: Global, graph: &Graph, wanted: &Least) -> bool {
     if !graph.is_composable() || !graph.has_places() {
         return false;
     }
-    match compose(alloc, graph) {
+    match compose(alloc, graph, BACK) {
         Ok(composed) => {
             are_least(&composed, wanted) && has_chain(alloc, graph, &composed, wanted)
         }
@@ -182,7 +185,7 @@ fn is_cyclic(alloc: Global, graph: &Graph, at: u32) -> bool {
     if !graph.is_composable() {
         return false;
     }
-    match compose(alloc, graph) {
+    match compose(alloc, graph, BACK) {
         Err(ComposeFault::Cycle(named)) => named == at,
         _ => false,
     }

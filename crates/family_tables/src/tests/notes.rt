@@ -6,13 +6,15 @@ ghost use Rattle.mask_states.specs.Keys.{offset_of};
 
 use super::Worked;
 use crate::tests::nesting::key;
-use avr_model::device::SIZE;
+use avr_model::device::{Device, SIZE};
 use mask_states::{NodeKey, SpForm};
 use round_nesting::{Nesting, NestingVerdict};
 use std::alloc::{AllocError, Global};
 
-// The number of bytes of SRAM of the ATmega328P.
-const SRAM: u16 = 2_048;
+// Devices with 512 and with 2,048 bytes of SRAM.
+const SMALL: Device = Device::M48;
+
+const LARGE: Device = Device::M328;
 
 // The kind of an instance's entry, and the entry: 0 is the root, 1 a call, and any other number a vector.
 type Inst = (u8, u16);
@@ -57,44 +59,50 @@ fn take(nesting: &mut Nesting, note: Note) -> Result<(), AllocError> {
 // Adds the notes, and judges the nesting after each of them if `often`.
 fn take_all(
     nesting: &mut Nesting,
-    size: u16,
+    device: Device,
     notes: &[Note],
     often: bool,
 ) -> Result<(), AllocError> {
     for note in notes {
         take(nesting, *note)?;
         if often && nesting.count() <= 65_536 {
-            nesting.judge(size)?;
+            nesting.judge(device)?;
         }
     }
     Ok(())
 }
 
-// Whether the notes give this verdict for this many bytes of SRAM; if `often`, the nesting is also judged after each note.
+// Whether the notes give this verdict on this device; if `often`, the nesting is also judged after each note.
 fn tells(
     nesting: &mut Nesting,
-    size: u16,
+    device: Device,
     notes: &[Note],
     often: bool,
     due: &NestingVerdict,
 ) -> bool {
-    let taken = take_all(nesting, size, notes, often).is_ok();
+    let taken = take_all(nesting, device, notes, often).is_ok();
     if !taken || nesting.count() > 65_536 {
         return false;
     }
-    match nesting.judge(size) {
+    match nesting.judge(device) {
         Ok(verdict) => verdict == *due,
         Err(_) => false,
     }
 }
 
-fn is_told(alloc: Global, size: u16, notes: &[Note], often: bool, due: &NestingVerdict) -> bool {
+fn is_told(
+    alloc: Global,
+    device: Device,
+    notes: &[Note],
+    often: bool,
+    due: &NestingVerdict,
+) -> bool {
     let mut nesting = Nesting::new(alloc);
-    tells(&mut nesting, size, notes, often, due)
+    tells(&mut nesting, device, notes, often, due)
 }
 
-fn is_row(alloc: Global, size: u16, notes: &[Note], due: &NestingVerdict) -> bool {
-    is_told(alloc, size, notes, false, due) && is_told(alloc, size, notes, true, due)
+fn is_row(alloc: Global, device: Device, notes: &[Note], due: &NestingVerdict) -> bool {
+    is_told(alloc, device, notes, false, due) && is_told(alloc, device, notes, true, due)
 }
 
 // Functions one below the other, each new when it is entered.
@@ -110,19 +118,23 @@ fn chain() -> [Note; 81] {
     notes
 }
 
-/// The number of bytes of SRAM, the notes, and the verdict.
-pub struct Row(u16, &'static [Note], NestingVerdict);
+/// The device, the notes, and the verdict.
+pub struct Row(Device, &'static [Note], NestingVerdict);
 
 pub static ROWS: [(&str, &[Row]); 1] = [(
     "nesting",
     &[
-        Row(SRAM, &[Note::Node(ROOT, 0)], NestingVerdict::Nests),
+        Row(LARGE, &[Note::Node(ROOT, 0)], NestingVerdict::Nests),
         // a need of exactly the SRAM of the ATmega48PA, and one more; then of exactly that of the ATmega328P
-        Row(512, &[Note::Node(ROOT, 512)], NestingVerdict::Nests),
-        Row(512, &[Note::Node(ROOT, 513)], NestingVerdict::TooDeep(513)),
-        Row(SRAM, &[Note::Node(ROOT, 2_048)], NestingVerdict::Nests),
+        Row(SMALL, &[Note::Node(ROOT, 512)], NestingVerdict::Nests),
         Row(
-            SRAM,
+            SMALL,
+            &[Note::Node(ROOT, 513)],
+            NestingVerdict::TooDeep(513),
+        ),
+        Row(LARGE, &[Note::Node(ROOT, 2_048)], NestingVerdict::Nests),
+        Row(
+            LARGE,
             &[
                 Note::Node(ROOT, 0),
                 Note::Entrance(ROOT, 46, FUNCTION),
@@ -131,7 +143,7 @@ pub static ROWS: [(&str, &[Row]); 1] = [(
             NestingVerdict::Nests,
         ),
         Row(
-            SRAM,
+            LARGE,
             &[
                 Note::Node(ROOT, 0),
                 Note::Entrance(ROOT, 46, FUNCTION),
@@ -141,12 +153,12 @@ pub static ROWS: [(&str, &[Row]); 1] = [(
         ),
         // an entered instance without nodes needs nothing
         Row(
-            SRAM,
+            LARGE,
             &[Note::Node(ROOT, 0), Note::Entrance(ROOT, 2_046, FUNCTION)],
             NestingVerdict::Nests,
         ),
         Row(
-            SRAM,
+            LARGE,
             &[
                 Note::Node(ROOT, 0),
                 Note::Entrance(ROOT, 2_047, FUNCTION),
@@ -156,7 +168,7 @@ pub static ROWS: [(&str, &[Row]); 1] = [(
         ),
         // a handler below a function below the root, with a return address for each
         Row(
-            SRAM,
+            LARGE,
             &[
                 Note::Node(ROOT, 10),
                 Note::Entrance(ROOT, 1_000, FUNCTION),
@@ -168,7 +180,7 @@ pub static ROWS: [(&str, &[Row]); 1] = [(
         ),
         // two instances enter a third, each at its own depth
         Row(
-            SRAM,
+            LARGE,
             &[
                 Note::Node(ROOT, 0),
                 Note::Entrance(ROOT, 2_000, LEAF),
@@ -181,7 +193,7 @@ pub static ROWS: [(&str, &[Row]); 1] = [(
         ),
         // a recursive function, and one that is recursive through another
         Row(
-            SRAM,
+            LARGE,
             &[
                 Note::Node(ROOT, 0),
                 Note::Entrance(ROOT, 0, FUNCTION),
@@ -191,7 +203,7 @@ pub static ROWS: [(&str, &[Row]); 1] = [(
             NestingVerdict::Recursion(40),
         ),
         Row(
-            SRAM,
+            LARGE,
             &[
                 Note::Node(ROOT, 0),
                 Note::Entrance(ROOT, 0, FUNCTION),
@@ -204,7 +216,7 @@ pub static ROWS: [(&str, &[Row]); 1] = [(
         ),
         // two handlers that enter each other: the lesser vector is named
         Row(
-            SRAM,
+            LARGE,
             &[
                 Note::Node(ROOT, 0),
                 Note::Entrance(ROOT, 0, LATER),
@@ -217,7 +229,7 @@ pub static ROWS: [(&str, &[Row]); 1] = [(
         ),
         // a handler is named before a function
         Row(
-            SRAM,
+            LARGE,
             &[
                 Note::Node(ROOT, 0),
                 Note::Entrance(ROOT, 0, LEAF),
@@ -231,7 +243,7 @@ pub static ROWS: [(&str, &[Row]); 1] = [(
         ),
         // a cycle comes before the depth, also if the root is noted last
         Row(
-            SRAM,
+            LARGE,
             &[
                 Note::Node(FUNCTION, 2_048),
                 Note::Entrance(FUNCTION, 0, FUNCTION),
@@ -251,5 +263,5 @@ impl Worked for Row {
 
 /// Whether forty functions below each other nest.
 pub fn is_chain(alloc: Global) -> bool {
-    is_row(alloc, SRAM, &chain(), &NestingVerdict::Nests)
+    is_row(alloc, LARGE, &chain(), &NestingVerdict::Nests)
 }

@@ -91,7 +91,7 @@ pub struct Refused(&'static [&'static str]);
 pub static REFUSED: [(&str, &[Refused]); 1] = [(
     "no command",
     &[
-        Refused(&["analyse", "a", "--device", "attiny13"]),
+        Refused(&["analyse", "a", "--device", "atmega2560"]),
         Refused(&["analyse", "a", "--device", "ATmega328P"]),
         Refused(&["demo", "1", "--device", "atmega88pa"]),
         Refused(&[

@@ -124,7 +124,7 @@ pub static UNREAD: [(&str, &[Unread]); 1] = [(
         ),
         Unread(
             "attiny84",
-            "stackcert 4\ndevice attiny13\n",
+            "stackcert 4\ndevice attiny15\n",
             Due::Malformed(12),
         ),
         Unread(

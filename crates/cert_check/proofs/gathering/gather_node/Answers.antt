@@ -69,8 +69,8 @@ returns c =
     let least : IsLeastOffered (LeadsToNode (has_pairs task.assumptions) own nodes) (GapAt (has_pairs task.assumptions) own nodes) KeyBelow c.as_slice.result.now None =
     subst₂ (λ b l. IsLeastOffered (LeadsToNode b own nodes) (GapAt b own nodes) KeyBelow c.as_slice.result.now l) c.requires.followed c.in_default.is c.in_ok-gap.ensures.gap in
     let clear = subst (λ l. IsLeastOffered (LeadsToNode (has_pairs task.assumptions) own nodes) (GapAt (has_pairs task.assumptions) own nodes) KeyBelow l None) c.as_slice.ensures least in
-    let more : c.add_demands.new.demands.items ≡ c.args.gathered.now.demands.items ++ demands_of task.assumptions claim.instances c.key-key.result.now edges =
-    subst₂ (λ i l. c.add_demands.new.demands.items ≡ c.args.gathered.now.demands.items ++ demands_of task.assumptions i c.key-key.result.now l) c.instances.ensures c.as_slice-2.ensures
+    let more : c.add_demands.new.demands.items ≡ c.args.gathered.now.demands.items ++ demands_of task claim.instances c.key-key.result.now edges =
+    subst₂ (λ i l. c.add_demands.new.demands.items ≡ c.args.gathered.now.demands.items ++ demands_of task i c.key-key.result.now l) c.instances.ensures c.as_slice-2.ensures
     c.in_ok-add_demands.ensures in (
       goes_on task own claim.instances nodes c.args.at c.args.gathered.now.demands.items c.requires.before.0 n.0 n.1 edges are
           c.key-key.result.now c.add_demands.new.demands.items c.key-key.ensures clear more,

@@ -1,6 +1,6 @@
-use Rattle.std.proofs.Common.{◌≡◌, sym, ap, ◌∙◌, subst, ◌≤◌, arith}
+use Rattle.std.proofs.Common.{◌≡◌, ℕ, sym, ap, ap₂, ◌∙◌, subst, ◌≤◌, arith}
 use Rattle.basics.specs.Items.{place_of_contained, contained_at}
-use Rattle.avr_model.specs.Devices.{device_of}
+use Rattle.avr_model.specs.Devices.{device_of, back_of}
 use Rattle.avr_model.specs.State.{SIZE}
 use Rattle.avr_model.proofs.AllLaws.{devices_are_alike}
 use Rattle.mask_states.specs.declared.keys.InstKey.{InstKey}
@@ -39,6 +39,7 @@ returns c =
     let w = key_there c.args.reached.now c.args.link.now.node c.key-key.result.now c.key-key.ensures in
     let of = (c.requires.reached.exact w.0).0 (contained_at c.args.reached.now c.args.link.now.node w.0 w.1.0) in
     let at = place_of_contained c.args.family.now.nodes w.0 of.0 in
+    let back : c.back.result ≡ back_of (device_of c.args.task.now.flash.now) = c.back.ensures.exact ∙ ap back_of c.device.ensures in
     let inst : c.key-key.result.now.inst ≡ w.0.key.inst = ap (λ (k : NodeKey). k.inst) (sym w.1.1) in
     record {
       node = w.0;
@@ -46,7 +47,7 @@ returns c =
       inst = inst;
       walk = c.in_ok-walk.walk;
       place = ap (λ (k : NodeKey). place.Node k.pc c.in_ok-walk.walk) (sym w.1.1);
-      adds = c.adds.ensures ∙ ap (λ (k : NodeKey). adds_by (offset_of k.sp) c.args.link.now.way) (sym w.1.1);
+      adds = c.adds.ensures ∙ ap₂ (λ (b : ℕ) (k : NodeKey). adds_by b (offset_of k.sp) c.args.link.now.way) back (sym w.1.1);
       target = at.0;
       is = at.1;
       way = subst (λ (i : InstKey). IsWay (task_of c.args.task.now) c.args.family.now.nodes i at.0 c.in_ok-walk.walk) inst (c.in_ok-walk.ensures at.0 w.0 at.1 w.1.1);

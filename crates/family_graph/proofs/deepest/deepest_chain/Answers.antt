@@ -1,4 +1,6 @@
-use Rattle.std.proofs.Common.{arith, ◌≤◌, slice_index}
+use Rattle.std.proofs.Common.{arith, ap, ◌∙◌, subst, ◌≤◌, slice_index}
+use Rattle.avr_model.specs.Devices.{back_of}
+use Rattle.nesting_bound.specs.Least.{IsLeast}
 use Rattle.avr_model.proofs.AllLaws.{devices_are_alike}
 use Rattle.family_graph.proofs.Conditions.{peopled, some_node, ranked, places, root_bound, root_first}
 use Rattle.family_graph.proofs.deepest.deepest_chain.Goals as goal
@@ -19,7 +21,9 @@ pub chain-requires-clause-bound : goal.chain-requires-clause-bound
 chain-requires-clause-bound c =
     let need : slice_index c.in_ok-composed.composed.needs 0 ≤ c.args.certificate.now.bound =
     root_bound (task_of c.args.task.now) c.args.certificate.now c.args.nodes.now c.requires.meets c.in_ok-graph.graph.instances c.in_ok-graph.ensures.family
-    c.in_ok-composed.composed.ranks c.in_ok-composed.composed.needs c.in_ok-composed.ensures c.in_ok-graph.ensures.graph.some in
+    c.in_ok-composed.composed.ranks c.in_ok-composed.composed.needs
+    (subst (λ back. IsLeast back c.in_ok-graph.graph.instances c.in_ok-composed.composed.ranks c.in_ok-composed.composed.needs) (c.back-back.ensures.exact ∙ ap back_of c.device.ensures) c.in_ok-composed.ensures)
+    c.in_ok-graph.ensures.graph.some in
     omega (arith, need, c.requires.claim.bound_fits, devices_are_alike.most_depth c.args.certificate.now.device)
 
 pub chain-requires-clause-places : goal.chain-requires-clause-places
@@ -33,5 +37,7 @@ pub returns-clause-bounded : goal.returns-clause-bounded
 returns-clause-bounded c =
     let need : slice_index c.in_ok-composed.composed.needs 0 ≤ c.args.certificate.now.bound =
     root_bound (task_of c.args.task.now) c.args.certificate.now c.args.nodes.now c.requires.meets c.in_ok-graph.graph.instances c.in_ok-graph.ensures.family
-    c.in_ok-composed.composed.ranks c.in_ok-composed.composed.needs c.in_ok-composed.ensures c.in_ok-graph.ensures.graph.some in
+    c.in_ok-composed.composed.ranks c.in_ok-composed.composed.needs
+    (subst (λ back. IsLeast back c.in_ok-graph.graph.instances c.in_ok-composed.composed.ranks c.in_ok-composed.composed.needs) (c.back-back.ensures.exact ∙ ap back_of c.device.ensures) c.in_ok-composed.ensures)
+    c.in_ok-graph.ensures.graph.some in
     omega (arith, need, c.need.ensures)

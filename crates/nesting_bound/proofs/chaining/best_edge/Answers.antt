@@ -13,24 +13,24 @@ loop-entered-preserved c =
     let es = take c.loop-entered.entered-index c.args.edges.now in
     let e = get_or c.args.edges.now c.loop-entered.entered-index no_entry in
     let kept : c.match-best.best ≡ c.loop-entered.best = elim c.match-best.branch [ in-None v ↦ v.best-is | in-Some v ↦ v.best-is ∙ sym v.in-Some.is ] in
-    let more : IsBestEdge gs c.args.needs.now c.args.need (es ++ e ∷ []) c.if-first.best = elim c.if-first.branch [
-      | then-first+then-from w ↦ let deep : e.offset + 2 + slice_index c.args.needs.now e.into ≡ c.args.need = omega (arith, w.from.ensures, w.from-then-first.ensures, w.from-then-first-2.ensures, c.read-below.ensures, w.if-from.true) in
-          subst (IsBestEdge gs c.args.needs.now c.args.need (es ++ e ∷ [])) (sym w.best-is) (elim c.match-best.branch [
-            | in-None v ↦ best_first (λ d. d.offset + 2 + slice_index c.args.needs.now d.into ≡ c.args.need) (IsEdgeUpTo gs) es e c.loop-entered.best v.in-None.is deep (edge_same gs e) c.loop-entered.invariant
-            | in-Some v ↦ best_less (λ d. d.offset + 2 + slice_index c.args.needs.now d.into ≡ c.args.need) (IsEdgeUpTo gs) es e v.in-Some.old c.loop-entered.best v.in-Some.is deep (edge_same gs e)
+    let more : IsBestEdge c.args.back gs c.args.needs.now c.args.need (es ++ e ∷ []) c.if-first.best = elim c.if-first.branch [
+      | then-first+then-from w ↦ let deep : e.offset + c.args.back + slice_index c.args.needs.now e.into ≡ c.args.need = omega (arith, w.from.ensures, w.from-then-first.ensures, w.from-then-first-2.ensures, c.read-below.ensures, w.if-from.true) in
+          subst (IsBestEdge c.args.back gs c.args.needs.now c.args.need (es ++ e ∷ [])) (sym w.best-is) (elim c.match-best.branch [
+            | in-None v ↦ best_first (λ d. d.offset + c.args.back + slice_index c.args.needs.now d.into ≡ c.args.need) (IsEdgeUpTo gs) es e c.loop-entered.best v.in-None.is deep (edge_same gs e) c.loop-entered.invariant
+            | in-Some v ↦ best_less (λ d. d.offset + c.args.back + slice_index c.args.needs.now d.into ≡ c.args.need) (IsEdgeUpTo gs) es e v.in-Some.old c.loop-entered.best v.in-Some.is deep (edge_same gs e)
                 (edge_over gs e v.in-Some.old (less_of (edge_cmp gs e v.in-Some.old) v.is_before-first.result v.is_before-first.ensures (sym v.first-is ∙ w.if-first.true))) c.loop-entered.invariant
           ])
       | else-first w ↦ elim w.else-first.branch [
-        | else-first-via-then-first+else-from u ↦ subst (IsBestEdge gs c.args.needs.now c.args.need (es ++ e ∷ [])) (sym (w.best-is ∙ kept)) (best_skip (λ d. d.offset + 2 + slice_index c.args.needs.now d.into ≡ c.args.need) (IsEdgeUpTo gs) es e c.loop-entered.best
+        | else-first-via-then-first+else-from u ↦ subst (IsBestEdge c.args.back gs c.args.needs.now c.args.need (es ++ e ∷ [])) (sym (w.best-is ∙ kept)) (best_skip (λ d. d.offset + c.args.back + slice_index c.args.needs.now d.into ≡ c.args.need) (IsEdgeUpTo gs) es e c.loop-entered.best
             (λ is. absurd (omega (arith, u.from.ensures, u.from-then-first.ensures, u.from-then-first-2.ensures, c.read-below.ensures, u.if-from.false, is))) c.loop-entered.invariant)
         | else-first-via-else-first u ↦ elim c.match-best.branch [
           | in-None v ↦ absurd (let no = sym v.first-is ∙ u.if-first.false in cc)
-          | in-Some v ↦ subst (IsBestEdge gs c.args.needs.now c.args.need (es ++ e ∷ [])) (sym (w.best-is ∙ kept ∙ v.in-Some.is)) (best_keep (λ d. d.offset + 2 + slice_index c.args.needs.now d.into ≡ c.args.need) (IsEdgeUpTo gs) es e v.in-Some.old c.loop-entered.best v.in-Some.is
+          | in-Some v ↦ subst (IsBestEdge c.args.back gs c.args.needs.now c.args.need (es ++ e ∷ [])) (sym (w.best-is ∙ kept ∙ v.in-Some.is)) (best_keep (λ d. d.offset + c.args.back + slice_index c.args.needs.now d.into ≡ c.args.need) (IsEdgeUpTo gs) es e v.in-Some.old c.loop-entered.best v.in-Some.is
               (not_less_of (edge_cmp gs e v.in-Some.old) v.is_before-first.result v.is_before-first.ensures (sym v.first-is ∙ u.if-first.false)) c.loop-entered.invariant)
         ]
       ]
     ] in
-    best_take (λ d. d.offset + 2 + slice_index c.args.needs.now d.into ≡ c.args.need) (IsEdgeUpTo gs) c.args.edges.now c.loop-entered.entered-index no_entry c.if-first.best c.loop-entered-test.true more
+    best_take (λ d. d.offset + c.args.back + slice_index c.args.needs.now d.into ≡ c.args.need) (IsEdgeUpTo gs) c.args.edges.now c.loop-entered.entered-index no_entry c.if-first.best c.loop-entered-test.true more
 
 pub returns : goal.returns
-returns c = best_all (λ d. d.offset + 2 + slice_index c.args.needs.now d.into ≡ c.args.need) (IsEdgeUpTo c.args.instances.now) c.args.edges.now c.loop-entered.entered-index c.loop-entered.best c.loop-entered-test.false c.loop-entered.invariant
+returns c = best_all (λ d. d.offset + c.args.back + slice_index c.args.needs.now d.into ≡ c.args.need) (IsEdgeUpTo c.args.instances.now) c.args.edges.now c.loop-entered.entered-index c.loop-entered.best c.loop-entered-test.false c.loop-entered.invariant

@@ -3,7 +3,7 @@ use Rattle.nesting_bound.specs.Turn.{IsOnWay}
 use Rattle.nesting_bound.proofs.chaining.chain.Given as goal
 
 abbrev pub invariant-links : goal.invariant-links
-invariant-links l = IsOnWay l.graph.instances l.composed.needs l.inst l.above l.links.items
+invariant-links l = IsOnWay l.back l.graph.instances l.composed.needs l.inst l.above l.links.items
 
 abbrev pub decreases-links : goal.decreases-links
-decreases-links l = slice_index l.composed.needs l.inst
+decreases-links l = slice_index l.composed.ranks l.inst

@@ -6,19 +6,19 @@ use Rattle.nesting_bound.proofs.Walk.{no_cycle}
 use Rattle.nesting_bound.proofs.composing.told.Goals as goal
 
 pub returns-in-Some-clause-ok : goal.returns-in-Some-clause-ok
-returns-in-Some-clause-ok c =
+returns-in-Some-clause-ok c = λ back sound.
     let found = rw c.in-Some.is at c.in_ok-composed.ensures in
-    least_at c.args.instances.now c.args.table.now c.requires.sound c.args.table.now c.in-Some.composed.ranks c.in-Some.composed.needs refl found
+    least_at back c.args.instances.now c.args.table.now sound c.args.table.now c.in-Some.composed.ranks c.in-Some.composed.needs refl found
 
 pub returns-in-Some-clause-acyclic : goal.returns-in-Some-clause-acyclic
-returns-in-Some-clause-acyclic c = no_cycle c.args.instances.now (slice_index c.in-Some.composed.ranks) (returns-in-Some-clause-ok c).are_ranks
+returns-in-Some-clause-acyclic c = no_cycle c.args.instances.now (slice_index c.in-Some.composed.ranks) (returns-in-Some-clause-ok c c.requires.sound.0 c.requires.sound.1).are_ranks
 
 pub unreachable-requires : goal.unreachable-requires
 unreachable-requires c =
     let gs = c.args.instances.now in
     let missing = rw c.in-None.is at c.in_ok-composed.ensures in
     let acyclic = subst (IsNamedBelow gs (length gs)) c.in-None-2.is c.in_ok-at-in-None.ensures in
-    stuck_at gs c.args.table.now c.requires.sound gs c.args.table.now refl refl c.requires.graph c.requires.stuck missing acyclic
+    stuck_at c.requires.sound.0 gs c.args.table.now c.requires.sound.1 gs c.args.table.now refl refl c.requires.graph c.requires.stuck missing acyclic
 
 pub returns-in-Some-2-clause-err : goal.returns-in-Some-2-clause-err
 returns-in-Some-2-clause-err c =

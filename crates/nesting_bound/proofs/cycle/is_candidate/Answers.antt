@@ -8,7 +8,7 @@ use Rattle.nesting_bound.proofs.cycle.is_candidate.Goals as goal
 pub returns-then-is_some : goal.returns-then-is_some
 returns-then-is_some c = λ _.
     let found = settled_there (at c.args.table.now c.args.i) (sym c.is_some.ensures ∙ c.if-is_some.true) in
-    settled_apart c.args.graph.now c.args.table.now c.requires.sound c.args.i found.0 found.1
+    settled_apart c.requires.sound.0 c.args.graph.now c.args.table.now c.requires.sound.1 c.args.i found.0 found.1
 
 pub returns : goal.returns
 returns c = λ no.

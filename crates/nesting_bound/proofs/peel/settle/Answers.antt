@@ -1,4 +1,4 @@
-use Rattle.std.proofs.Common.{◌+◌, ◌∙◌, ap, max, subst, get_or}
+use Rattle.std.proofs.Common.{◌+◌, ◌∙◌, ap₂, max, subst, get_or}
 use Rattle.std.specs.List.{Contains}
 use Rattle.std.proofs.lemmas.List.Elements.{Contains-get_or}
 use Rattle.nesting_bound.specs.declared.graph.Entered.{Entered}
@@ -6,7 +6,7 @@ use Rattle.nesting_bound.proofs.Table.{no_entry, over_none_at, over_more_at}
 use Rattle.nesting_bound.proofs.peel.settle.Goals as goal
 
 pub loop-entered-init : goal.loop-entered-init
-loop-entered-init c = over_none_at c.args.inst.now.offsets c.as_slice.result.now c.args.table.now c.greatest.result c.as_slice.ensures c.greatest.ensures.above c.greatest.ensures.least
+loop-entered-init c = over_none_at c.args.back c.args.inst.now.offsets c.as_slice.result.now c.args.table.now c.greatest.result c.as_slice.ensures c.greatest.ensures.above c.greatest.ensures.least
 
 pub bounds : goal.bounds
 bounds c =
@@ -15,5 +15,5 @@ bounds c =
 
 pub loop-entered-preserved : goal.loop-entered-preserved
 loop-entered-preserved c =
-    over_more_at c.args.inst.now.entered c.as_slice-entered-items.result.now c.args.inst.now.offsets c.args.table.now c.loop-entered.entered-index no_entry c.loop-entered.found c.in-Some.x (record { rank = c.max.result; need = c.max-in-Some.result }) c.as_slice-entered-items.ensures c.loop-entered-test.true c.in-Some.is
-    (λ j. record { rank = c.max.ensures j; need = (c.max-in-Some.ensures ∙ ap (λ offset. max c.loop-entered.found.need (offset + 2 + c.in-Some.x.need)) c.from.ensures) j }) c.loop-entered.invariant
+    over_more_at c.args.back c.args.inst.now.entered c.as_slice-entered-items.result.now c.args.inst.now.offsets c.args.table.now c.loop-entered.entered-index no_entry c.loop-entered.found c.in-Some.x (record { rank = c.max.result; need = c.max-in-Some.result }) c.as_slice-entered-items.ensures c.loop-entered-test.true c.in-Some.is
+    (λ j. record { rank = c.max.ensures j; need = (c.max-in-Some.ensures ∙ ap₂ (λ offset back. max c.loop-entered.found.need (offset + back + c.in-Some.x.need)) c.from.ensures c.from-in-Some.ensures) j }) c.loop-entered.invariant

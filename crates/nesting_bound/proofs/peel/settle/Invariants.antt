@@ -3,4 +3,4 @@ use Rattle.nesting_bound.specs.Table.{IsOver}
 use Rattle.nesting_bound.proofs.peel.settle.Given as goal
 
 abbrev pub invariant-loop-entered : goal.invariant-loop-entered
-invariant-loop-entered l = IsOver (take l.entered-index l.inst.entered) l.inst.offsets l.table l.found
+invariant-loop-entered l = IsOver l.back (take l.entered-index l.inst.entered) l.inst.offsets l.table l.found

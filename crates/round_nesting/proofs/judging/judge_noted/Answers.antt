@@ -21,4 +21,4 @@ returns c =
     subst (λ (es : List Entrance). IsDrawn (root_inst ∷ others) n.spots es gs) c.as_slice-2.ensures.keys
     (subst (λ (ss : List Spot). IsDrawn (root_inst ∷ others) ss c.as_slice-2.result.now gs) c.as_slice.ensures.keys c.in_ok-graph.ensures) in
     each_told c.judge_graph-judged.result _ _
-    (λ w told. tells_all n others gs drawn refl (insts_once true others c.requires.apart) c.args.size w.verdict told) c.judge_graph-judged.ensures
+    (λ w told. tells_all n others gs drawn refl (insts_once true others c.requires.apart) c.args.device w.verdict told) c.judge_graph-judged.ensures

@@ -4,6 +4,7 @@ use Rattle.mask_states.specs.Keys.{root_inst}
 use Rattle.round_nesting.specs.declared.verdict.NestingVerdict.TheVariants.{Nests}
 use Rattle.round_nesting.specs.Nestings.{Noted, AreOnce, AreAlike, TellsAll}
 use Rattle.round_nesting.specs.Drawn.{insts_of}
+use Rattle.round_nesting.specs.Covers.{AllowsRoot}
 use Rattle.round_nesting.proofs.Keeping.{insts_once, root_kept, alike}
 use Rattle.round_nesting.proofs.Covering.{nests}
 use Rattle.round_nesting.proofs.nesting.Nesting.judge.Goals as goal
@@ -11,8 +12,9 @@ use Rattle.round_nesting.proofs.nesting.Nesting.judge.Goals as goal
 pub returns-then-allow_root-clause-tells : goal.returns-then-allow_root-clause-tells
 returns-then-allow_root-clause-tells c =
     let old : Noted = record { insts = insts_of c.self.inside.has_root c.self.inside.others.keys; spots = c.self.inside.spots.keys; entrances = c.self.inside.entrances.keys } in
-    subst (λ (n : Noted). TellsAll c.args.size n Nests) c.self.view_is
-    (nests c.args.size c.self.inside.allowances.map.entries old (c.allow_root.ensures c.if-allow_root.true) (c.self.invariant.covers c.if-self.true))
+    subst (λ (n : Noted). TellsAll c.args.device n Nests) c.self.view_is
+    (nests c.args.device c.self.inside.allowances.map.entries old
+    (subst (AllowsRoot c.self.inside.allowances.map.entries) c.size.ensures (c.allow_root.ensures c.if-allow_root.true)) (c.self.invariant.covers c.if-self.true))
 
 pub returns-then-allow_root-clause-once : goal.returns-then-allow_root-clause-once
 returns-then-allow_root-clause-once c = subst (λ (n : Noted). AreOnce n.insts) c.self.view_is (insts_once c.self.inside.has_root c.self.inside.others.keys c.self.invariant.apart)
@@ -30,8 +32,8 @@ returns-in_err-judged-clause-once c = subst (λ (n : Noted). AreOnce n.insts) c.
 pub returns-clause-tells : goal.returns-clause-tells
 returns-clause-tells c =
     let others : List InstKey = c.self.inside.others.keys in
-    subst (λ (n : Noted). TellsAll c.args.size n c.in_ok-judged.judged.verdict) c.self.view_is
-    (subst (λ (b : Bool). TellsAll c.args.size (record { insts = insts_of b others; spots = c.self.inside.spots.keys; entrances = c.self.inside.entrances.keys }) c.in_ok-judged.judged.verdict)
+    subst (λ (n : Noted). TellsAll c.args.device n c.in_ok-judged.judged.verdict) c.self.view_is
+    (subst (λ (b : Bool). TellsAll c.args.device (record { insts = insts_of b others; spots = c.self.inside.spots.keys; entrances = c.self.inside.entrances.keys }) c.in_ok-judged.judged.verdict)
     (sym c.if-not-self.false) c.in_ok-judged.ensures)
 
 pub returns-clause-same : goal.returns-clause-same
