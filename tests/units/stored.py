@@ -1,0 +1,12 @@
+"""What the unit tests share: the tools on the path, and the stored files of tests/firmware."""
+
+import os
+import sys
+
+TOP = os.path.dirname(os.path.dirname(os.path.dirname(os.path.realpath(__file__))))
+sys.path.insert(0, os.path.join(TOP, "tools"))
+
+
+def path(name: str) -> str:
+    """The path of a stored file."""
+    return os.path.join(TOP, "tests", "firmware", name)

@@ -1,0 +1,1 @@
+"""The tools of stackbound: stackcheck, assume, place and flagged."""

@@ -1,0 +1,87 @@
+"""What may happen where a step may be flagged, as `premises --why` tells it, and the lines of a spec that close such places."""
+
+from __future__ import annotations
+
+import os
+import re
+from typing import TYPE_CHECKING, Dict, Iterable, List, Optional, Set
+
+from stackcheck_tools.analysis.telling import line_of_spec
+from stackcheck_tools.firmware.devices import Device
+from stackcheck_tools.firmware.firmware import Firmware
+
+if TYPE_CHECKING:
+    from stackcheck_tools.analysis.mending import Mending
+    from stackcheck_tools.spec.lines import Lines
+
+TOLD = re.compile(r" in \S+(?: protected((?: [0-9A-F]{4})+)( \.\.)?)?( live)?( transfer)?( moves)?$")
+MOST_TRIED = 4  # places at which a line is tried
+
+
+class Cause:
+    """`addresses` of protected registers of a `device` that may be written, and whether there are `more`; `live`: a pushed byte may be;
+    `transfer`: to an unlisted word; `moves`: the interrupt vectors may be moved. The device is None where there are no addresses."""
+
+    def __init__(self, device: Optional[Device] = None, addresses: Iterable[int] = (), more: bool = False, live: bool = False,
+                 transfer: bool = False, moves: bool = False) -> None:
+        self.device, self.addresses, self.more, self.live, self.transfer, self.moves = device, set(addresses), more, live, transfer, moves
+
+    def __bool__(self) -> bool:
+        return bool(self.addresses or self.live or self.transfer or self.moves)
+
+    def is_few(self) -> bool:
+        """Whether a line may list all that may happen."""
+        return bool(self.addresses) and not (self.more or self.live or self.transfer or self.moves)
+
+    def join(self, other: Cause) -> None:
+        self.device, self.addresses = self.device or other.device, self.addresses | other.addresses
+        self.more, self.live, self.transfer = self.more or other.more, self.live or other.live, self.transfer or other.transfer
+        self.moves = self.moves or other.moves
+
+    def __str__(self) -> str:
+        names = " ".join(self.device.register_name(it) if self.device else f"{it:04X}"
+                         for it in sorted(self.addresses)) + (" .." if self.more else "")
+        written = [f"a protected register ({names})"] * bool(self.addresses) + ["a pushed byte"] * self.live
+        told = ["may write " + ", or ".join(written)] * bool(written)
+        told += ["may go to a word that its `jump` line does not list"] * self.transfer
+        return ", and ".join(told)
+
+
+def of_line(device: Device, line: str) -> Cause:
+    """What a line of `premises --why` tells of its place; nothing where it tells none."""
+    found = TOLD.search(line)
+    if not found:
+        return Cause(device)
+    addresses, *others = found.groups()
+    return Cause(device, (int(it, 16) for it in (addresses or "").split()), *(it is not None for it in others))
+
+
+def by_word(device: Device, lines: List[str]) -> Dict[int, Cause]:
+    """The causes of the places, by their words."""
+    return {int(line.split()[1], 16): of_line(device, line) for line in lines if line.startswith("at ")}
+
+
+def without(work: Mending, lines: Lines, folder: str) -> Optional[Set[int]]:
+    """The words at which a step may be flagged under other lines; None where there is no bound under them."""
+    is_accepted, text = work.analyse(lines)
+    if not is_accepted:
+        return None
+    certificate = os.path.join(folder, "tried")
+    with open(certificate, "w", encoding="ascii") as file:
+        file.write(text)
+    told = work.program(lines).lines("premises", certificate) or []
+    return {int(line.split()[1], 16) for line in told if line.startswith("at ")}
+
+
+def closers(firmware: Firmware, work: Mending, causes: Dict[int, Cause], folder: str) -> Dict[int, str]:
+    """For places at which a store may write a few protected registers and nothing else, the line of a spec that takes them off the list:
+    tried, by word."""
+    found, few = {}, [word for word, it in sorted(causes.items()) if it.is_few() and work.lines.may_add(word, "store", it.addresses)]
+    for word in few[:MOST_TRIED]:
+        lines = work.lines.copy()
+        lines.add(word, "store", causes[word].addresses)
+        left = without(work, lines, folder)
+        if left is not None and word not in left:
+            found[word] = line_of_spec(firmware, lines, word, "store") or lines.line(word, "store")
+    work.program()  # whose assumption file the trials wrote anew
+    return found

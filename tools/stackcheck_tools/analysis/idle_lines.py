@@ -1,0 +1,24 @@
+"""Lines `store` of a spec that name no store which the analysis lets write their register: they say something of another place than was
+meant."""
+
+from __future__ import annotations
+
+from stackcheck_tools.analysis.node_values import Nodes
+from stackcheck_tools.analysis.outcome import Accepted
+from stackcheck_tools.firmware.names import SpecFault
+from stackcheck_tools.spec.spec import Spec
+
+
+def check(outcome: Accepted, spec: Spec) -> None:
+    """Refuses the first `store` line none of whose stores may write one of its registers."""
+    lines = [it for it in spec.lines if it.kind == "store"]
+    if not lines:
+        return
+    nodes = Nodes(outcome.firmware.elf, outcome.certificate)
+    for line in lines:
+        for address in sorted(line.items):
+            if not any(nodes.may_write(word, address) for word in line.places):
+                name = outcome.firmware.device.register_name(address)
+                raise SpecFault(f"line {line.number}: no store that `{line.text}` names may write {name}: it names another store than was "
+                                f"meant, "
+                                "or one that never runs (build with -g if the compiler may have inlined it)")

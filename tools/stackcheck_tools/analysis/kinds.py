@@ -1,0 +1,55 @@
+"""The kinds of places at which a step may be flagged, by who is at fault there, and how many of each an answer has."""
+
+from __future__ import annotations
+
+from typing import TYPE_CHECKING, Dict, Iterable
+
+from stackcheck_tools.firmware.fuses import FUSES
+from stackcheck_tools.spec.recursion import PLACE
+
+if TYPE_CHECKING:
+    from stackcheck_tools.analysis.outcome import Accepted
+
+# a correct program may be flagged there
+CALLS, STORES, VECTORS, CORES, MOVES, UNSET = "calls", "stores", "vectors", "cores", "moves", "unset"
+SAFETY, WHOLE = "memory safety", "whole lists"  # only a program without a meaning in its language is
+GIVEN = "given"  # the spec says itself what happens there
+ORDINARY = (CALLS, STORES, VECTORS, CORES, MOVES, UNSET, FUSES)
+WORDS = {CALLS: "call{s}", STORES: "store{s}", VECTORS: "vector{s}", CORES: "store{s} near the core", MOVES: "write{s} of {moving}",
+         UNSET: "use{s} of the stack before SPL is written", FUSES: "fuse{s}", SAFETY: "of memory safety",
+         WHOLE: "call{s} with a complete list", GIVEN: "given line{s}",
+         PLACE: "limited call{s}"}
+
+
+def counts(outcome: Accepted) -> Dict[str, int]:
+    """How many places of each kind there are."""
+    found: Dict[str, int] = {}
+    for entry in outcome.entries:
+        for kind in entry.kinds.values():
+            found[kind] = found.get(kind, 0) + 1
+    return found
+
+
+def count_of(outcome: Accepted, kinds: Iterable[str]) -> int:
+    """How many places are of these kinds."""
+    found = counts(outcome)
+    return sum(found.get(it, 0) for it in kinds)
+
+
+def moving(outcome: Accepted) -> str:
+    """The register whose writes may move the vectors."""
+    device = outcome.firmware.device
+    return device.moving.registers[0] if device.moving else ""
+
+
+def core(outcome: Accepted) -> str:
+    """The registers of the core, in words."""
+    return f"SREG, SP and {moving(outcome)}" if moving(outcome) else "SREG and SP"
+
+
+def counted(outcome: Accepted) -> str:
+    """How many places of each kind there are, in brackets."""
+    found = counts(outcome)
+    told = [f"{found[kind]} " + text.format(s="" if found[kind] == 1 else "s", moving=moving(outcome)) for kind, text in WORDS.items()
+            if kind in found]
+    return f" ({', '.join(told)})" if told else ""

@@ -1,0 +1,136 @@
+"""Lets the list of each call through a pointer have every function whose address is taken, where there is a bound then: no list is a guess
+but those that can't have them all."""
+
+from __future__ import annotations
+
+from dataclasses import dataclass, field
+from typing import TYPE_CHECKING, Dict, FrozenSet, List, Optional, Set
+
+from stackcheck_tools.firmware import candidates, plain_calls, records, taken
+from stackcheck_tools.spec.lines import Lines
+from stackcheck_tools.spec.spec import MOST_ITEMS
+
+if TYPE_CHECKING:
+    from stackcheck_tools.analysis.mending import Mending
+
+MOST_TRIED = 8  # lists that are tried one by one where they aren't accepted together
+ROUNDS = 4  # in which functions that are reached only then bring further lists
+RECORDED = "its list has every function whose address is taken, by the linker's records"
+SEARCHED = "its list has every function whose address is taken, as far as a search of this file finds"
+NONE = "with every function whose address may be taken there is no bound"
+UNNAMED = "the file has no names, so no search finds every function whose address is taken"
+UNTRIED = "a bound with every function whose address may be taken was not tried"
+PLAIN = ", except those in tables of virtual functions alone, which it does not read"
+TOO_MANY = "{} functions have their address taken, and a list has at most {}"
+RECORDS = "link with -Wl,--emit-relocs: then the linker's records name every function whose address is taken"
+
+
+@dataclass
+class Lists:
+    """What is known of the lists of calls through pointers: at which sites they are complete, why at others they aren't, and the lines
+    under which the bound was lower, with that bound."""
+
+    whole: Set[int] = field(default_factory=set)
+    why: Dict[int, str] = field(default_factory=dict)
+    narrower: Dict[int, Set[int]] = field(default_factory=dict)
+    bound: Optional[int] = None
+
+    def copy(self) -> "Lists":
+        return Lists(set(self.whole), dict(self.why), dict(self.narrower), self.bound)
+
+
+def bound_of(certificate: Optional[str]) -> int:
+    """The bound that a certificate has."""
+    return next((int(line.split()[1]) for line in (certificate or "").splitlines() if line.startswith("bound ")), 0)
+
+
+def nodes_of(certificate: Optional[str]) -> FrozenSet[int]:
+    """The words of a certificate's nodes."""
+    return frozenset(int(line.split(" ", 3)[2], 16) for line in (certificate or "").splitlines() if line.startswith("node "))
+
+
+class Widening:
+    """The lists of a firmware that has a bound."""
+
+    def __init__(self, work: "Mending") -> None:
+        self.work, self.elf, self.device = work, work.elf, work.device
+        self.reached = nodes_of(work.certificate)
+        self.wanted: Dict[int, Set[int]] = {}
+
+    def open_sites(self) -> List[int]:
+        """The sites of calls through pointers whose lines this tool wrote and of which nothing is known yet."""
+        lists = self.work.lists
+        calls = set(candidates.indirect(self.elf))
+        return [site for site, kind in self.work.lines.written() if kind == "jump" and site in calls and site not in lists.whole
+                and site not in lists.why]
+
+    def want(self, site: int) -> None:
+        """Works out the complete list of a site, or why there is none."""
+        lists, found = self.work.lists, taken.of_site(self.elf, self.device, site, self.reached)
+        if found is None:
+            lists.why[site] = UNNAMED
+            return
+        now = self.work.lines.of(site, "jump")
+        words = set(found.words) | {word for at, word in self.work.pinned if at == site} or set(now)
+        if words == now:
+            self.take(site)
+        elif len(words) > MOST_ITEMS:
+            lists.why[site] = TOO_MANY.format(len(words), MOST_ITEMS)
+        else:
+            self.wanted[site] = words
+
+    def take(self, site: int) -> None:
+        self.work.lists.whole.add(site)
+        is_plain = plain_calls.is_plain(self.elf, site) and taken.virtual_tables(self.elf)
+        self.work.lists.why[site] = (RECORDED if records.has_records(self.elf) else SEARCHED) + (PLAIN if is_plain else "")
+
+    def attempt(self, sites: List[int]) -> bool:
+        """Whether there is a bound where these sites have their complete lists, which they keep then."""
+        def widen(lines: Lines) -> None:
+            for site in sites:
+                lines.put(site, "jump", self.wanted[site])
+
+        work = self.work
+        before, lines = work.certificate, {site: set(work.lines.of(site, "jump")) for site in sites}
+        work.lists.whole |= set(sites)
+        if not work.attempt(widen):
+            work.lists.whole -= set(sites)
+            return False
+        if work.lists.bound is None:
+            work.lists.bound = bound_of(before)
+        work.lists.narrower.update(lines)
+        for site in sites:
+            self.take(site)
+        return True
+
+    def round(self) -> None:
+        """The lists of all open sites, all together or else one by one."""
+        self.wanted = {}
+        for site in self.open_sites():
+            self.want(site)
+        sites = sorted(self.wanted)
+        if not sites or self.attempt(sites):
+            return
+        for number, site in enumerate(sites):
+            if len(sites) == 1 or number >= MOST_TRIED or not self.attempt([site]):
+                has_all = self.wanted[site] <= self.work.lines.of(site, "jump")
+                self.work.lists.why[site] = UNTRIED if number >= MOST_TRIED else NONE
+                if has_all:
+                    self.take(site)
+
+    def run(self) -> None:
+        for _ in range(ROUNDS):
+            if not self.open_sites():
+                break
+            self.round()
+        lists = self.work.lists
+        for _ in range(ROUNDS if lists.narrower else 0):  # stores that are reached only now
+            if not self.work.add_own():
+                break
+        lists = self.work.lists
+        if lists.bound is not None and bound_of(self.work.certificate) <= lists.bound:
+            lists.bound, lists.narrower = None, {}
+
+
+def widen(work: "Mending") -> None:
+    Widening(work).run()

@@ -1,0 +1,214 @@
+"""Sites in a function's code: its indirect transfers, its stores through pointers and what moves its frame, found by their opcodes."""
+
+from __future__ import annotations
+
+from typing import Callable, Iterator, List, Optional, Tuple
+
+from stackcheck_tools.firmware.elf import Elf, Symbol
+
+IJMP, ICALL = 0x9409, 0x9509
+SPM, SEI = 0x95E8, 0x9478
+DEC_R29, INC_R29, SUBI_R29 = 0x95DA, 0x95D3, 0x50D0
+OUT_SPH_R29, OUT_SPL_R28 = 0xBFDE, 0xBFCD
+MOV_R30_R0, LDS_R30, LDS_R31 = 0x2DE0, 0x91E0, 0x91F0
+FRAME_LOW, FRAME_HIGH = 28, 29  # the frame pointer
+
+
+def length(opcode: int) -> int:
+    """How many words an instruction has: `lds`, `sts`, `jmp` and `call` have two."""
+    return 2 if opcode & 0xFC0F == 0x9000 or opcode & 0xFE0C == 0x940C else 1
+
+
+def is_indirect(opcode: int) -> bool:
+    return opcode in (IJMP, ICALL)
+
+
+def is_pointer_store(opcode: int) -> bool:
+    """`st` through X, Y or Z with or without a step, and `std`."""
+    if opcode & 0xD200 == 0x8200:
+        return True
+    return opcode & 0xFE00 == 0x9200 and opcode & 15 in (0x1, 0x2, 0x9, 0xA, 0xC, 0xD, 0xE)
+
+
+def destination(opcode: int) -> int:
+    """The register that an `add`, `adc` or another instruction of this form writes."""
+    return (opcode >> 4) & 31
+
+
+def is_add(opcode: int) -> bool:
+    return opcode & 0xFC00 == 0x0C00
+
+
+def is_adc(opcode: int) -> bool:
+    return opcode & 0xFC00 == 0x1C00
+
+
+def is_clr(opcode: int) -> bool:
+    """`eor` of a register with itself."""
+    return opcode & 0xFC00 == 0x2400 and destination(opcode) == opcode & 15 | opcode >> 5 & 16
+
+
+def is_frame_site(opcode: int) -> bool:
+    """`add`, `adc`, `sub`, `subi`, `inc` or `dec`, for which a `frame` line may say something."""
+    return is_add(opcode) or is_adc(opcode) or opcode & 0xFC00 == 0x1800 or opcode & 0xF000 == 0x5000 or opcode & 0xFE0F in (0x9403, 0x940A)
+
+
+def moves_high_byte(opcode: int) -> bool:
+    """`dec`, `inc` or `subi` of the frame pointer's high byte."""
+    return opcode in (DEC_R29, INC_R29) or opcode & 0xF0F0 == SUBI_R29
+
+
+def is_ldi(opcode: int) -> bool:
+    return opcode & 0xF000 == 0xE000
+
+
+def ldi(opcode: int) -> Tuple[int, int]:
+    """The register and the byte of an `ldi`."""
+    return 16 + (opcode >> 4 & 15), opcode & 15 | opcode >> 4 & 0xF0
+
+
+def ends(opcode: int) -> bool:
+    """`ret`, `reti`, `ijmp`, `jmp` or `rjmp`: what the next word follows only by a jump or a call."""
+    return opcode in (0x9508, 0x9518, IJMP) or opcode & 0xFE0E == 0x940C or opcode & 0xF000 == 0xC000
+
+
+def words_of(elf: Elf, symbol: Symbol) -> Iterator[Tuple[int, int]]:
+    """Yields (word address, opcode) of each instruction of a symbol's extent, read one behind the other."""
+    begin, end = elf.extent(symbol)
+    word = begin // 2
+    while 2 * word < end:
+        opcode = elf.word(word)
+        yield word, opcode
+        word += length(opcode)
+
+
+def sites(elf: Elf, symbol: Symbol, test: Callable[[int], bool]) -> List[int]:
+    return [word for word, opcode in words_of(elf, symbol) if test(opcode)]
+
+
+def target(elf: Elf, word: int, far: int, near: int) -> Optional[int]:
+    opcode = elf.word(word)
+    if opcode & 0xFE0E == far:
+        return elf.word(word + 1) % elf.chip.words
+    if opcode & 0xF000 == near:
+        step = opcode & 0xFFF
+        return (word + 1 + step - (0x1000 if step & 0x800 else 0)) % elf.chip.words
+    return None
+
+
+def jump_target(elf: Elf, word: int) -> Optional[int]:
+    """The word to which the `jmp` or `rjmp` at a word leads; None where another instruction stands there."""
+    return target(elf, word, 0x940C, 0xC000)
+
+
+def call_target(elf: Elf, word: int) -> Optional[int]:
+    """The word that the `call` or `rcall` at a word enters; None where another instruction stands there."""
+    return target(elf, word, 0x940E, 0xD000)
+
+
+def io_address(opcode: int) -> int:
+    """The data address that an `in` or `out` names."""
+    return (opcode & 15 | opcode >> 5 & 0x30) + 0x20
+
+
+def uses_stack(opcode: int) -> bool:
+    """`push`, a call, `ret`, `reti`, or `sei`, behind which an interrupt may push."""
+    return opcode & 0xFE0F == 0x920F or opcode & 0xFE0E == 0x940E or opcode & 0xF000 == 0xD000 or opcode in (ICALL, 0x9508, 0x9518, SEI)
+
+
+def is_skip(opcode: int) -> bool:
+    """`cpse`, `sbrc`, `sbrs`, `sbic` or `sbis`."""
+    return opcode & 0xFC00 == 0x1000 or opcode & 0xFC08 == 0xFC00 or opcode & 0xFD00 == 0x9900
+
+
+def following(elf: Elf, word: int) -> List[int]:
+    """The words at which a run may go on behind an instruction that is no call and no return; none behind `ijmp`."""
+    opcode = elf.word(word)
+    after = word + length(opcode)
+    if opcode == IJMP:
+        return []
+    if (to := jump_target(elf, word)) is not None:
+        return [to]
+    if opcode & 0xF800 == 0xF000:
+        step = opcode >> 3 & 0x7F
+        return [after, after + step - (0x80 if step & 0x40 else 0)]
+    return [after, after + length(elf.word(after))] if is_skip(opcode) else [after]
+
+
+def pair_loaded(elf: Elf, word: int) -> Optional[int]:
+    """The number that `subi r30`, `sbci r31` at a word add to the pair r31:r30; None where these aren't there."""
+    low, high = elf.word(word), elf.word(word + 1)
+    if low & 0xF0F0 == 0x50E0 and high & 0xF0F0 == 0x40F0:
+        byte = lambda opcode: opcode & 15 | (opcode >> 4) & 0xF0  # noqa: E731
+        return -(byte(low) | byte(high) << 8) % 0x10000
+    return None
+
+
+def is_elpm(opcode: int) -> bool:
+    return opcode == 0x95D8 or opcode & 0xFE0E == 0x9006
+
+
+def group(opcode: int) -> Optional[str]:
+    """The group of an instruction that not all devices have; None of one that all have."""
+    if opcode & 0xFC00 == 0x9C00 or opcode & 0xFE00 == 0x0200:  # with muls, mulsu, fmul, fmuls, fmulsu
+        return "mul"
+    if opcode & 0xFF00 == 0x0100 or opcode & 0xFE0E == 0x9004:  # `lpm` with a register
+        return "movw" if opcode & 0x8000 == 0 else "lpmx"
+    return "elpm" if is_elpm(opcode) else "break" if opcode == 0x9598 else None
+
+
+def is_lpm(opcode: int) -> bool:
+    """`lpm` or `elpm`."""
+    return opcode == 0x95C8 or opcode & 0xFE0E == 0x9004 or is_elpm(opcode)
+
+
+def is_lds(opcode: int, register: int) -> bool:
+    """Whether an instruction loads a register from a fixed address."""
+    return opcode == 0x9000 | register << 4
+
+
+def table_added(elf: Elf, word: int) -> Optional[int]:
+    """The number that a pair of `subi`, `sbci` (or `ldi`, `ldi`) at a word adds to a pair of registers, or loads; None where these aren't
+    there."""
+    low, high = elf.word(word), elf.word(word + 1)
+    byte = lambda opcode: opcode & 15 | opcode >> 4 & 0xF0  # noqa: E731
+    if (low >> 4 & 15) + 1 != high >> 4 & 15 or low >> 4 & 1:
+        return None
+    if low & 0xF000 == 0x5000 and high & 0xF000 == 0x4000:
+        return -(byte(low) | byte(high) << 8) % 0x10000
+    return byte(low) | byte(high) << 8 if is_ldi(low) and is_ldi(high) else None
+
+
+def displacement(opcode: int, register: int) -> Optional[int]:
+    """The displacement with which a register is loaded through Y or Z, 0 for `ld r, Z` and `ld r, Z+`; None of another instruction."""
+    if opcode >> 4 & 31 != register:
+        return None
+    if opcode & 0xD200 == 0x8000:
+        return opcode & 7 | opcode >> 7 & 0x18 | opcode >> 8 & 0x20
+    return 0 if opcode & 0xFE0F == 0x9001 else None
+
+
+def writes_pointer(opcode: int) -> bool:
+    """Whether a move writes r0, or r30 or r31."""
+    if opcode & 0xFF00 == 0x0100:  # movw
+        return opcode >> 4 & 15 in (0, 15)
+    return (16 + (opcode >> 4 & 15) if is_ldi(opcode) else opcode >> 4 & 31) in (0, 30, 31)
+
+
+def leaves_pointer(opcode: int) -> bool:
+    """Whether an instruction before a call leaves its pointer as it is: a move of an argument, a test for 0, a branch over the call, a
+    store."""
+    if opcode & 0xFC00 == 0x2C00 or opcode & 0xFF00 == 0x0100 or is_ldi(opcode):  # mov, movw, ldi
+        return not writes_pointer(opcode)
+    return opcode == 0x9730 or opcode & 0xFC07 in (0xF001, 0xF401) or opcode & 0xFE0F == 0x9200  # sbiw r30, 0; breq, brne; sts
+
+
+def slot_loaded(words: List[int]) -> Optional[int]:
+    """The slot of a table from which a transfer's pointer is loaded, by the instructions before it, the last one first; None where it isn't
+    so loaded."""
+    if len(words) >= 3 and words[0] == 0x2DE0:  # mov r30, r0
+        high, low = displacement(words[1], 31), displacement(words[2], 0)
+        steps = words[2] & 0xFE0F == 0x9001  # `ld r0, Z+`, behind which the high byte is at Z
+        if low is not None and high == (low if steps else low + 1):
+            return low // 2
+    return None

@@ -1,0 +1,90 @@
+"""The linker's own records in an ELF file (`-Wl,--emit-relocs`): which words of code a firmware names otherwise than by a call or a
+jump."""
+
+from __future__ import annotations
+
+import functools
+import struct
+from typing import Iterable, Iterator, List, NamedTuple, Optional, Set, Tuple
+
+from stackcheck_tools.firmware.elf import ABSOLUTE, ALLOCATED, BOUNDS, CODE_END, EXECUTED, Elf, text_at
+
+RECORDS = 4  # the type of sections of records
+UNDEFINED = 0
+BRANCHES = (2, 3, 18)  # R_AVR_7_PCREL, R_AVR_13_PCREL, R_AVR_CALL
+DIFFERENCES = (30, 31, 32)  # R_AVR_DIFF8 and so on
+IN_WORDS = (5, 12, 13, 14, 24, 25)  # those of a number of words, R_AVR_16_PM and so on; the negative ones begin tables
+
+
+class Record(NamedTuple):
+    """A record that is no branch: where it stands, its type, and the byte address of code that it names."""
+
+    place: int
+    kind: int
+    address: int
+
+
+def sections(elf: Elf) -> List[Tuple[int, ...]]:
+    """The headers of the records of sections that take memory."""
+    return [it for it in elf.headers if it[1] == RECORDS and it[7] < len(elf.headers) and elf.headers[it[7]][2] & ALLOCATED]
+
+
+def has_records(elf: Elf) -> bool:
+    """Whether the linker's records of the code are kept in the file."""
+    return any(elf.headers[it[7]][2] & EXECUTED for it in sections(elf))
+
+
+def constructor_lists(elf: Elf) -> Tuple[int, int]:
+    """The span of byte addresses of the lists of constructors and destructors."""
+    begin = elf.all.get("__ctors_start", 0)
+    return begin, max(elf.all.get("__dtors_end", begin), elf.all.get("__ctors_end", begin))
+
+
+def of_section(elf: Elf, header: Tuple[int, ...]) -> Iterator[Record]:
+    """Yields the records of a section that name a place of code. The linker's own marks are none, nor are symbols without a section."""
+    table = elf.headers[header[6]]
+    names = elf.headers[table[6]][4]
+    for at in range(header[4], header[4] + header[5] - 11, 12):
+        place, info, addend = struct.unpack_from("<IIi", elf.data, at)
+        kind = info & 0xFF
+        if kind in BRANCHES or kind in DIFFERENCES:
+            continue
+        name, value, _, _, _, section = struct.unpack_from("<IIIBBH", elf.data, table[4] + 16 * (info >> 8))
+        if section not in (UNDEFINED, ABSOLUTE) and not text_at(elf.data, names + name).startswith(BOUNDS) and (value + addend) % 2 == 0 \
+                and 0 <= value + addend < CODE_END:
+            yield Record(place, kind, value + addend)
+
+
+@functools.lru_cache(maxsize=None)
+def named(elf: Elf) -> Tuple[Record, ...]:
+    """The records that name a place of code, but for those in the lists of constructors and destructors."""
+    begin, end = constructor_lists(elf)
+    return tuple(it for header in sections(elf) for it in of_section(elf, header) if not begin <= it.place < end)
+
+
+def words(elf: Elf) -> Set[int]:
+    """The words of all places of code that records name."""
+    return {it.address // 2 for it in named(elf)}
+
+
+def lies_between(elf: Elf, address: int) -> bool:
+    """Whether a byte address is one of code that lies in no function with a size, in no object, and not in the lists of constructors."""
+    begin, end = constructor_lists(elf)
+    symbol = elf.symbol_at(address)
+    return not (begin <= address < end or symbol and symbol.size or any(at <= address < at + size for at, size in elf.objects.values())) \
+        and any(it[2] & EXECUTED and it[3] <= address < it[3] + it[5] for it in elf.headers)
+
+
+def taken(elf: Elf, but: Iterable[Tuple[int, int]] = ()) -> Optional[Set[int]]:
+    """The words of the functions whose address is taken: of each function or label that begins where a record names, and of what has no
+    name there; records within some spans of addresses are left out. None where the file has no records."""
+    if not has_records(elf):
+        return None
+    begins, spans = set(elf.addresses), list(but)
+    return {it.address // 2 for it in named(elf) if (it.address in begins or it.kind in IN_WORDS and lies_between(elf, it.address))
+            and not any(begin <= it.place < end for begin, end in spans)}
+
+
+def places(elf: Elf) -> Set[int]:
+    """Where records of this file stand: what is written there is an address of a function or an object, or a half of one."""
+    return {struct.unpack_from("<I", elf.data, at)[0] for it in sections(elf) for at in range(it[4], it[4] + it[5] - 11, 12)}

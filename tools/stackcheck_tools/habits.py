@@ -1,0 +1,104 @@
+"""What all tools do alike: their words, `--help` and `--version`, and how they end."""
+
+from __future__ import annotations
+
+import argparse
+import os
+import sys
+import traceback
+from argparse import Namespace
+from typing import Callable, NoReturn, Optional, Sequence, Union
+
+from stackcheck_tools.analysis.program import NoProgram
+from stackcheck_tools.firmware.devices import Misuse
+from stackcheck_tools.firmware.elf import NoElf
+
+FAULTS = (Misuse, NoElf, NoProgram, OSError, UnicodeDecodeError)  # what is told in words, with status 3
+HERE = os.path.dirname(os.path.realpath(__file__))
+DONE, MISUSE, INTERRUPTED, CLOSED_PIPE = 0, 3, 130, 141
+
+
+def version() -> str:
+    """The version of the repository: that of the file at its top, or beside the tools where they are installed."""
+    try:
+        with open(os.path.join(HERE, "..", "..", "VERSION"), encoding="ascii") as file:
+            return file.read().strip()
+    except OSError:
+        return "unknown"
+
+
+def in_words(fault: BaseException) -> str:
+    """A fault of a tool in words, without the system's numbers."""
+    if isinstance(fault, FileNotFoundError):
+        return f"no such file: {fault.filename}"
+    if isinstance(fault, UnicodeDecodeError):
+        return f"a text is not UTF-8: {fault.reason} at byte {fault.start}"
+    if isinstance(fault, OSError) and fault.strerror:
+        return f"{fault.filename}: {fault.strerror}" if fault.filename is not None else fault.strerror
+    return str(fault)
+
+
+def asked(name: str, document: str, words: Sequence[str]) -> bool:
+    """Whether the words ask for the help or the version of a tool, which is printed then."""
+    if any(it in ("-h", "--help") for it in words):
+        print(document.strip())
+        return True
+    if "--version" in words:
+        print(f"{name} (stackbound) {version()}")
+        return True
+    return False
+
+
+class Words(argparse.ArgumentParser):
+    """The words of a tool: others are answered by what is wrong and the tool's own text, with status 3."""
+
+    def __init__(self, name: str, document: str) -> None:
+        super().__init__(prog=name, add_help=False, allow_abbrev=False)
+        self.document = document
+
+    def parse_args(  # type: ignore[override]
+            self, args: Optional[Sequence[str]] = None, namespace: Optional[Namespace] = None) -> Namespace:
+        if asked(self.prog, self.document, sys.argv[1:] if args is None else args):
+            sys.exit(DONE)
+        return super().parse_args(args, namespace)
+
+    def error(self, message: str) -> NoReturn:
+        print(f"{self.prog}: {message}\n\n{self.document.strip()}", file=sys.stderr)
+        sys.exit(MISUSE)
+
+
+def nowhere() -> None:
+    """Lets what is still printed go nowhere, so that Python's own last write can't fail."""
+    os.dup2(os.open(os.devnull, os.O_WRONLY), sys.stdout.fileno())
+
+
+def of_itself(fault: BaseException) -> str:
+    """A fault of the tool itself, with its place."""
+    last = traceback.extract_tb(fault.__traceback__)[-1]
+    return f"a fault of this tool itself, and no answer: {type(fault).__name__}: {fault} ({os.path.basename(last.filename)}:{last.lineno})"
+
+
+def run(main: Callable[[], int]) -> None:
+    """Calls a tool's `main` and ends with its status; a closed pipe, an interrupt from the keyboard and a fault end without a trace of the
+    calls."""
+    try:
+        status: Union[int, str, None]
+        try:
+            status = main()
+        except SystemExit as end:
+            status = end.code
+        sys.stdout.flush()
+    except BrokenPipeError:
+        nowhere()
+        status = CLOSED_PIPE
+    except KeyboardInterrupt:
+        nowhere()
+        status = INTERRUPTED
+    except OSError as fault:
+        nowhere()
+        print(f"{os.path.basename(sys.argv[0])}: {in_words(fault)}", file=sys.stderr)
+        status = MISUSE
+    except Exception as fault:  # any other status would say something of the firmware
+        print(f"{os.path.basename(sys.argv[0])}: {of_itself(fault)}", file=sys.stderr)
+        status = MISUSE
+    sys.exit(status)

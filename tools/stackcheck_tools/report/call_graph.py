@@ -1,0 +1,148 @@
+"""The call graph of a certificate that was accepted: instances, what their own frames take, and where each enters others."""
+
+from __future__ import annotations
+
+from typing import Dict, Iterator, List, Optional, Set, Tuple
+
+from stackcheck_tools.analysis.outcome import Accepted
+from stackcheck_tools.firmware import opcodes
+from stackcheck_tools.firmware.elf import Elf
+
+RETURN = 2  # bytes of a return address
+
+
+class Entry:
+    """Where an instance enters another: the number of the other, and the greatest depth below its own entry at which it begins."""
+
+    def __init__(self, other: int, depth: int, is_interrupt: bool) -> None:
+        self.other, self.depth, self.is_interrupt = other, depth, is_interrupt
+
+
+class Instance:
+    """A function or handler under some enable bits: its name, rank and need, the most bytes of its own frame, and what it enters."""
+
+    def __init__(self, kind: str, entry: int, enables: str, flag: str, rank: int, need: int) -> None:
+        self.kind, self.entry, self.enables, self.flag, self.rank, self.need = kind, entry, enables, flag, rank, need
+        self.own, self.calls, self.name = 0, 0, ""
+        self.entries: Dict[int, Entry] = {}
+
+    def is_handler(self) -> bool:
+        return self.kind[0] == "v"
+
+    def enter(self, other: int, depth: int, is_interrupt: bool) -> None:
+        held = self.entries.get(other)
+        if held is None or held.depth < depth:
+            self.entries[other] = Entry(other, depth, is_interrupt)
+
+
+def called(elf: Elf, word: int, lines: Dict[int, Set[int]]) -> Optional[Set[int]]:
+    """The words that an instruction may enter by a call; None where it may be any."""
+    target = opcodes.call_target(elf, word)
+    if target is not None:
+        return {target}
+    if elf.word(word) != opcodes.ICALL:
+        return set()
+    return lines.get(word)
+
+
+class Graph:
+    """`instances` in the order of the certificate, the first of which is the start."""
+
+    def __init__(self, outcome: Accepted) -> None:
+        self.outcome = outcome
+        self.instances: List[Instance] = []
+        self.by_key: Dict[Tuple[str, int, str, str], int] = {}
+        self.lines: Dict[int, Set[int]] = {}
+        self.depths: Dict[int, int] = {}
+        for line in outcome.certificate.splitlines():
+            words = line.split()
+            if words[0] == "jump":
+                self.lines[int(words[1], 16)] = {int(it, 16) for it in words[2:]}
+            elif words[0] == "inst":
+                self.add(Instance(words[1], int(words[2], 16), words[3], words[4], int(words[6]), int(words[8])))
+            elif words[0] == "node":
+                self.node(words)
+            elif words[0] == "recur":
+                self.depths[int(words[1], 16)] = int(words[2])
+            elif words[0] == "witness":
+                break
+        self.enter_cut()
+        for it in sorted(self.instances, key=lambda it: it.rank):
+            self.settle(it)
+
+    def add(self, instance: Instance) -> None:
+        symbol = self.outcome.firmware.elf.symbol_at(2 * instance.entry)
+        name = symbol.name if symbol and symbol.address == 2 * instance.entry else None
+        instance.name = self.outcome.firmware.instance(instance.kind, instance.entry, name)
+        self.by_key[instance.kind, instance.entry, instance.enables, instance.flag] = len(self.instances)
+        self.instances.append(instance)
+
+    def enter_cut(self) -> None:
+        """What the spec's recursions enter counts as entered by the start, at their depths."""
+        for number, it in enumerate(self.instances):
+            if it.kind == "call" and it.entry in self.depths:
+                self.instances[0].enter(number, self.depths[it.entry] + RETURN, False)
+
+    def node(self, words: List[str]) -> None:
+        """What a node adds to its instance: its offset, and what may be entered there."""
+        instance, word, enables, flag = self.instances[int(words[1])], int(words[2], 16), words[3], words[4]
+        offset = int(words[6][1:].partition(",")[0])
+        instance.own = max(instance.own, offset)
+        if not words[6].startswith("c"):
+            return
+        self.calls(instance, word, enables, flag, offset)
+        if flag == "1" and words[5] == "0":
+            self.interrupts(instance, int(enables, 16), offset)
+
+    def calls(self, instance: Instance, word: int, enables: str, flag: str, offset: int) -> None:
+        targets = called(self.outcome.firmware.elf, word, self.lines)
+        if targets is None:  # a pointer that the analysis knows: whatever this place could enter
+            targets = {it.entry for it in self.instances if it.kind == "call" and it.rank < instance.rank}
+        for target in targets:
+            other = self.by_key.get(("call", target, enables, flag))
+            if other is not None and self.fits(instance, other, offset):
+                instance.enter(other, offset + RETURN, False)
+
+    def interrupts(self, instance: Instance, enables: int, offset: int) -> None:
+        device = self.outcome.firmware.device
+        for vector in device.vectors:
+            if enables >> vector - 2 & 1 or device.is_open(vector):
+                entry = device.vector_word(vector)
+                for number in self.handlers(vector, entry, enables):
+                    if self.fits(instance, number, offset):
+                        instance.enter(number, offset + RETURN, True)
+
+    def handlers(self, vector: int, entry: int, enables: int) -> Iterator[int]:
+        """The instances of a handler that may be entered under these enables: WDT clears its own bit, as it may have been set to."""
+        device = self.outcome.firmware.device
+        for held in {enables, enables & ~(1 << vector - 2) if vector == device.watchdog else enables}:
+            number = self.by_key.get((f"v{vector}", entry, device.enables_text(held), "0"))
+            if number is not None:
+                yield number
+
+    def fits(self, instance: Instance, other: int, offset: int) -> bool:
+        return self.instances[other].rank < instance.rank and offset + RETURN + self.instances[other].need <= instance.need
+
+    def settle(self, instance: Instance) -> None:
+        """The bytes of an instance with its calls and without interrupts; all that it enters by calls is settled before."""
+        instance.calls = max([instance.own, *(it.depth + self.instances[it.other].calls for it in instance.entries.values()
+                                              if not it.is_interrupt)])
+
+
+class Need:
+    """What a function takes below its entry, the greatest over all ways to it: its own frame, with calls, and with interrupts too."""
+
+    def __init__(self, name: str) -> None:
+        self.name, self.own, self.calls, self.all, self.is_handler = name, 0, 0, 0, False
+
+    def add(self, instance: Instance) -> None:
+        self.own, self.calls, self.all = max(self.own, instance.own), max(self.calls, instance.calls), max(self.all, instance.need)
+        self.is_handler = instance.is_handler()
+
+
+def needs(graph: Graph) -> List[Need]:
+    """The needs by name, the greatest first."""
+    found: Dict[str, Need] = {}
+    for it in graph.instances:
+        found.setdefault(it.name, Need(it.name)).add(it)
+    return sorted(found.values(), key=lambda it: (-it.all, it.name))
