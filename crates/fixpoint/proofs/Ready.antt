@@ -2,7 +2,7 @@
 use Rattle.std.proofs.Common.{◌≡◌, ◌≢◌, refl, sym, subst, ◌≤◌, List, Some, None, Result, Ok, Err, IfOk, IfErr, OnOk, Contains, length, arith}
 use Rattle.std.specs.Result.{IsErrAnd, result_and}
 use Rattle.avr_model.specs.Assumptions.{has_pairs}
-use Rattle.avr_model.specs.Devices.{device_of, size_of}
+use Rattle.avr_model.specs.Devices.{device_of}
 use Rattle.avr_model.specs.State.{SIZE}
 use Rattle.avr_model.proofs.AllLaws.{devices_are_alike}
 use Rattle.mask_states.specs.declared.keys.NodeKey.{NodeKey}
