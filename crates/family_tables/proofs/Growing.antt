@@ -29,7 +29,7 @@ root_node device k word masks closed unpicked = record {
   word = word;
   small = subst (λ p. offset_of p ≤ depth_of device) (sym closed) (omega arith);
   masks = masks;
-  fits = subst (FormFitsKind k.inst.kind) (sym closed) tt;
+  fits = subst (FormFitsKind device k.inst.kind) (sym closed) tt;
   pick = subst PickFits (sym unpicked) tt;
   formed = subst (λ p. IsFormed root (offset_of p)) (sym closed) reset_stands.formed;
   tags = record { registers = λ r lt. unknown_fits 32 r; slots = λ d lt. absurd (omega arith) };
