@@ -1,3 +1,4 @@
+pub mod Order
 pub mod Marks
 pub mod Io
 pub mod Scans

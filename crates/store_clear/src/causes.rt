@@ -17,6 +17,7 @@ ghost use Rattle.store_clear.specs.Stores.{task_in, store_of};
 
 use crate::by_word::{ByWord, by_word};
 use crate::moving::may_move;
+use crate::need::is_unfixed;
 use crate::store::Store;
 use crate::telling::ToldNodes;
 use crate::words::places;
@@ -45,8 +46,9 @@ fn mark_addresses(store: &Store<'_>, marks: &mut [bool])
     requires { length marks.old ≡ io_end (device_of store.now.flash.now) + 1 }
     ensures { AreMarkedBeside (IsProtectedWrite (task_in store.now) (store_of store.now)) marks.old marks.new }
 {
+    let unfixed = is_unfixed(store);
     for address in 0..store.flash.device().io_end() + 1 {
-        if may_write_protected(store, address) {
+        if may_write_protected(store, unfixed, address) {
             marks[usize::from(address)] = true;
         }
     }

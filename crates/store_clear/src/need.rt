@@ -59,8 +59,16 @@ pub(crate) fn stored_bits(state: &AbsState, instr: &Instr) -> TriByte
     }
 }
 
+// Whether the instruction is `st` or `std` at a site that isn't fixed.
+pub(crate) fn is_unfixed(store: &Store<'_>) -> bool
+    ensures { result ≡ (steps.is_pointer_store store.now.instr.now && not (assumed.is_fixed_site store.now.flash.now store.now.assumptions.now store.now.pc)) }
+{
+    matches!(store.instr, Instr::Std(..) | Instr::St(..))
+        && !store.flash.is_fixed_site(store.assumptions, store.pc)
+}
+
 // Whether writing the store's byte to this protected address is flagged, at a site that isn't fixed.
-fn is_guarded(store: &Store<'_>, address: u16) -> bool
+pub(crate) fn is_guarded(store: &Store<'_>, address: u16) -> bool
     ensures { result ≡ is_guarded (device_of store.now.flash.now) store.now.assumptions.now store.now.pc (stored_bits store.now.state.now store.now.instr.now) address }
 {
     let assumptions = store.assumptions;
@@ -77,10 +85,7 @@ fn is_guarded(store: &Store<'_>, address: u16) -> bool
 pub(crate) fn is_flagged_address(store: &Store<'_>, address: u16) -> bool
     ensures { result ≡ is_flagged_address (task_in store.now) (store_of store.now) address }
 {
-    let is_store = matches!(store.instr, Instr::Std(..) | Instr::St(..));
-    let fixed = store.flash.is_fixed_site(store.assumptions, store.pc);
-    let guarded = is_guarded(store, address);
-    is_store && !fixed && guarded
+    is_unfixed(store) && is_guarded(store, address)
 }
 
 // Whether the address is no pushed byte's and a write of it isn't flagged, if the stack takes at most this many bytes.

@@ -1,7 +1,9 @@
 //! The possible causes of a flagged step.
 
-ghost use Rattle.std.specs.Prelude.{◌≡◌, ◌≤◌};
+ghost use Rattle.std.specs.Prelude.{◌≡◌, ◌≤◌, ◌&&◌, not};
+ghost use Rattle.avr_model.specs.Assumptions as assumed;
 ghost use Rattle.avr_model.specs.Devices.{device_of, size_of};
+ghost use Rattle.avr_model.specs.Step as steps;
 ghost use Rattle.clear_laws.specs.Aims.{may_write};
 ghost use Rattle.call_graph.specs.Tasks.{task_of};
 ghost use Rattle.clear_laws.specs.Causes.{may_write_protected, may_write_some_protected, may_write_stack, may_leave, may_write_live};
@@ -9,7 +11,7 @@ ghost use Rattle.store_clear.specs.Stores.{task_in, store_of};
 
 use crate::calls::calls_cut;
 use crate::moving::may_move;
-use crate::need::{is_flagged_address, is_indirect};
+use crate::need::{is_guarded, is_indirect, is_unfixed};
 use crate::store::Store;
 use abs_state::AbsState;
 use avr_model::instruction::Instr;
@@ -38,11 +40,14 @@ pub(crate) fn may_write(state: &AbsState, instr: &Instr, address: u16) -> bool
     }
 }
 
-// Whether the byte of a store at this word may go to this data address, and the write is flagged as one of a protected address.
-pub(crate) fn may_write_protected(store: &Store<'_>, address: u16) -> bool
+// Whether the byte of a store at this word may go to this data address, and the write is flagged as one of a protected address. `unfixed`
+// says whether it is a pointer store at a site that isn't fixed.
+#[tactic(auto, using(crate::proofs::Order::other_order))]
+pub(crate) fn may_write_protected(store: &Store<'_>, unfixed: bool, address: u16) -> bool
+    requires { unfixed ≡ (steps.is_pointer_store store.now.instr.now && not (assumed.is_fixed_site store.now.flash.now store.now.assumptions.now store.now.pc)) }
     ensures { result ≡ may_write_protected (task_in store.now) (store_of store.now) address }
 {
-    is_flagged_address(store, address) && may_write(store.state, store.instr, address)
+    unfixed && (may_write(store.state, store.instr, address) && is_guarded(store, address))
 }
 
 // Whether some data address is so.
@@ -50,8 +55,9 @@ pub(crate) fn may_write_protected(store: &Store<'_>, address: u16) -> bool
 fn may_write_some_protected(store: &Store<'_>) -> bool
     ensures { result ≡ may_write_some_protected (task_in store.now) (store_of store.now) }
 {
+    let unfixed = is_unfixed(store);
     for address in 0..store.flash.device().io_end() + 1 {
-        if may_write_protected(store, address) {
+        if may_write_protected(store, unfixed, address) {
             return true;
         }
     }
