@@ -63,6 +63,14 @@ pub static ROWS: [(&str, &[Row]); 1] = [(
             ("demo", Device::M328, None, None, Some(1), false),
         ),
         Row(
+            &["--help"],
+            ("about", Device::M328, None, None, None, false),
+        ),
+        Row(
+            &["--version"],
+            ("about", Device::M328, None, None, None, false),
+        ),
+        Row(
             &["demo", "2000"],
             ("demo", Device::M328, None, None, Some(2000), false),
         ),
@@ -105,6 +113,8 @@ pub static REFUSED: [(&str, &[Refused]); 1] = [(
         ]),
         Refused(&[]),
         Refused(&["help"]),
+        Refused(&["--help", "check"]),
+        Refused(&["check", "--version"]),
         Refused(&["check", "a"]),
         Refused(&["check", "a", "b", "c"]),
         Refused(&["check", "a", "--assume", "c", "--assume", "c", "b"]),
@@ -143,14 +153,15 @@ fn told_of(command: &Command<'_>) -> (&'static str, Option<u64>, bool) {
             (name, number, json)
         }
         Command::Demo { size } => ("demo", Some(u64::from(size.get())), false),
+        Command::About(_) => ("about", None, false),
     }
 }
 
-// Whether all but `demo` have the firmware `a`.
+// Whether all but those without files have the firmware `a`.
 fn has_firmware(command: &Command<'_>, name: &str) -> bool {
     match command.firmware() {
         Some(firmware) => firmware == "a",
-        None => name == "demo",
+        None => matches!(name, "demo" | "about"),
     }
 }
 
