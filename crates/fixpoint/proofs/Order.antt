@@ -248,12 +248,12 @@ module _ (task : Task) where
       (with_state n l.at, l.is, refl)
 
   -- a visit removes an item of the worklist, and each item that is added raised the weight
-  pub falls_again : (f g : Family) (c h less now : ℕ) → AreFormed (device_of task.flash) (has_pairs task.assumptions) g → FitsLimits g → weight f + c ≤ weight g → less + 1 ≤ h → now ≡ less + c
-      → 2 * (9416690630657 - weight g) + now < 2 * (9416690630657 - weight f) + h
-  falls_again f g c h less now formed fits more one is =
+  pub falls_again : (f g : Family) (c h now : ℕ) → AreFormed (device_of task.flash) (has_pairs task.assumptions) g → FitsLimits g → weight f + c ≤ weight g → now ≡ h + c
+      → 2 * (9416690630657 - weight g) + now ≤ 2 * (9416690630657 - weight f) + h
+  falls_again f g c h now formed fits more is =
       let top = rounds_are_joins.high g formed in
       let few = fits.few_cells in
-      omega (arith, top, few, more, one, is)
+      omega (arith, top, few, more, is)
 
 pub orders_end : OrdersEnd
 orders_end = record {

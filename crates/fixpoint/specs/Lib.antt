@@ -5,3 +5,4 @@ pub mod OrderLaws
 pub mod Confirm
 pub mod Leads
 pub mod Insts
+pub mod Turns

@@ -72,7 +72,7 @@ fn check_all_edges(
         let lands = nodes.is_empty();
         drop(nodes);
         if !lands {
-            return Err(Unfound::Stopped);
+            return Err(Unfound);
         }
     }
     Ok(())

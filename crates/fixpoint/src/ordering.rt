@@ -1,6 +1,6 @@
 //! Worklist iteration to the least family, one node at a time. Any order is sound: the result is checked afterwards.
 
-ghost use Rattle.std.specs.Prelude.{◌+◌, ◌≡◌, ◌<◌, ◌≤◌, length, None, IfOk, IfErr, OnOk, OnSome, true};
+ghost use Rattle.std.specs.Prelude.{◌+◌, ◌*◌, ◌≡◌, ◌<◌, ◌≤◌, length, None, IfOk, IfErr, OnOk, OnSome, true, false};
 ghost use Rattle.std.specs.FinMap.{empty};
 ghost use Rattle.std.specs.BinaryHeap.{heap_len};
 ghost use Rattle.round_nesting.specs.Nestings.{AreOnce};
@@ -12,11 +12,12 @@ ghost use Rattle.round_steps.specs.Notings.{blank};
 ghost use Rattle.fixpoint.specs.Progress.{AreRoundsFound};
 ghost use Rattle.fixpoint.specs.Order.{IsUnderWay};
 ghost use Rattle.fixpoint.specs.OrderLaws.{OrdersEnd};
+ghost use Rattle.fixpoint.specs.Turns.{AreUnderWay, IsOnItsWay, room};
 ghost use Rattle.call_graph.specs.Tasks.{task_of};
 
 use crate::checking::{check_nesting, check_size, note_seen};
 use crate::confirming::confirm;
-use crate::rounds::{least_family, start};
+use crate::rounds::{Rounds, begin, family_of, go_on, start};
 use crate::unfound::Unfound;
 use call_graph::Task;
 use certificate::MOST_INSTANCES;
@@ -59,8 +60,8 @@ fn look_on(
     Ok(changed)
 }
 
-// An item of the worklist: a node's offset in the frame, its word, and its key. The least offset and word is the greatest item.
-type Due = (Reverse<u16>, Reverse<u16>, NodeKey);
+/// An item of the worklist: a node's offset in the frame, its word, and its key. The least offset and word is the greatest item.
+pub type Due = (Reverse<u16>, Reverse<u16>, NodeKey);
 
 // Adds the keys to the worklist.
 fn await_all(waiting: &mut BinaryHeap<Due>, keys: Vec<NodeKey>) -> Result<(), AllocError>
@@ -109,44 +110,94 @@ fn ask_nesting(
         return Ok(());
     }
     if nesting.count() as u64 > MOST_INSTANCES {
-        return Err(Unfound::Stopped);
+        return Err(Unfound);
     }
     *due = nodes.saturating_add(64);
     check_nesting(flash, nesting)?;
     Ok(())
 }
 
-// Visits nodes, the least offset and word first, until the worklist is empty, or so often at most. The nesting is checked on the way, since
-// a cycle ends the rounds early.
-fn walk(
-    task: &Task<'_>,
-    table: &mut Table,
-    counted: &mut u64,
-    notes: &mut Notes,
-    waiting: &mut BinaryHeap<Due>,
-    most: usize,
-) -> Result<(), Unfound>
-    requires no_nodes { table.old ≡ empty }
-    requires no_notes { notes.old ≡ blank }
-    ensures { OnOk result (IsUnderWay (task_of task.now) table.new counted.new notes.new) }
+/// Worklist iteration so far. It goes on from here.
+#[derive(Drop)]
+pub struct Walk {
+    /// The family.
+    pub table: Table,
+    /// The notes of its visits.
+    pub notes: Notes,
+    /// The worklist.
+    pub waiting: BinaryHeap<Due>,
+    /// The family's cells.
+    pub counted: u64,
+    /// The number of nodes at which the nesting is checked next.
+    pub due: usize,
+    /// How many visits there were.
+    pub looks: usize,
+}
+
+// Worklist iteration before the first visit.
+fn set_out(task: &Task<'_>) -> Result<Walk, AllocError>
+    ensures { IfOk result (λ w. IsOnItsWay (task_of task.now) w) }
 {
-    let first = start(task, table, counted)?;
-    await_all(waiting, first)?;
-    let mut due = 64;
-    let mut left = most;
-    'looks: loop {
-        let Some(key) = take_first(waiting) else {
-            return Ok(());
+    let mut table = Table::new(task.alloc);
+    let mut waiting = BinaryHeap::new(task.alloc);
+    let mut counted = 0;
+    let first = start(task, &mut table, &mut counted)?;
+    await_all(&mut waiting, first)?;
+    Ok(Walk {
+        table,
+        notes: Notes::new(task.alloc),
+        waiting,
+        counted,
+        due: 64,
+        looks: 0,
+    })
+}
+
+// The family.
+fn walked(walk: Walk) -> Table
+    ensures { result ≡ walk.table }
+{
+    let Walk { table, .. } = walk;
+    table
+}
+
+// Visits the node, and adds those that changed to the worklist. The nesting is checked on the way, since a cycle ends the rounds early.
+fn step(task: &Task<'_>, walk: &mut Walk, key: NodeKey) -> Result<(), Unfound>
+    requires { IsOnItsWay (task_of task.now) walk.old }
+    ensures way { OnOk result (IsOnItsWay (task_of task.now) walk.new) }
+    ensures falls { OnOk result (2 * room walk.new.table + heap_len walk.new.waiting ≤ 2 * room walk.old.table + heap_len walk.old.waiting) }
+{
+    walk.looks = walk.looks.saturating_add(1);
+    let changed = look_on(
+        task,
+        &mut walk.table,
+        &mut walk.counted,
+        &mut walk.notes,
+        key,
+    )?;
+    await_all(&mut walk.waiting, changed)?;
+    check_size(&walk.table, walk.counted)?;
+    ask_nesting(
+        task.flash,
+        &mut walk.notes.nesting,
+        walk.table.len(),
+        &mut walk.due,
+    )?;
+    Ok(())
+}
+
+// Visits nodes, the least offset and word first, until the worklist is empty, or so often in all at most. Returns whether it is empty.
+fn walk_on(task: &Task<'_>, walk: &mut Walk, most: usize) -> Result<bool, Unfound>
+    requires { IsOnItsWay (task_of task.now) walk.old }
+    ensures { OnOk result (IsOnItsWay (task_of task.now) walk.new) }
+{
+    'looks: while walk.looks < most {
+        let Some(key) = take_first(&mut walk.waiting) else {
+            return Ok(true);
         };
-        if left == 0 {
-            return Err(Unfound::Late);
-        }
-        left -= 1;
-        let changed = look_on(task, table, counted, notes, key)?;
-        await_all(waiting, changed)?;
-        check_size(table, *counted)?;
-        ask_nesting(task.flash, &mut notes.nesting, table.len(), &mut due)?;
+        step(task, walk, key)?;
     }
+    Ok(false)
 }
 
 // Checks with new notes whether the rounds end at the family. `drop` releases the notes: a call is one step of the proof, whatever they
@@ -164,80 +215,98 @@ fn is_end(task: &Task<'_>, table: &Table, counted: u64) -> Result<(), Unfound>
     told
 }
 
-// Worklist iteration from an empty family and with new notes. Returns the number of the family's cells.
-fn walked(task: &Task<'_>, table: &mut Table, most: usize) -> Result<u64, Unfound>
-    requires { table.old ≡ empty }
-    ensures made { OnOk result (IsMade (task_of task.now) table.new) }
-    ensures count { IfOk result (λ counted. counted ≡ cells table.new) }
+// Worklist iteration to a family at which the rounds end, or so many visits in all at most. Returns whether it has come there.
+fn walk_to_end(task: &Task<'_>, walk: &mut Walk, most: usize) -> Result<bool, Unfound>
+    requires { IsOnItsWay (task_of task.now) walk.old }
+    ensures way { OnOk result (IsOnItsWay (task_of task.now) walk.new) }
+    ensures found { IfOk result (λ ended. ended ≡ true → AreRoundsFound (task_of task.now) None walk.new.table) }
 {
-    let mut notes = Notes::new(task.alloc);
-    let mut waiting = BinaryHeap::new(task.alloc);
-    let mut counted = 0;
-    let told = walk(task, table, &mut counted, &mut notes, &mut waiting, most);
-    drop(waiting);
-    drop(notes);
-    match told {
-        Ok(()) => Ok(counted),
-        Err(unfound) => Err(unfound),
+    let ended = walk_on(task, walk, most)?;
+    if ended {
+        is_end(task, &walk.table, walk.counted)?;
+    }
+    Ok(ended)
+}
+
+// The visits of the other order's first turn. Each further turn doubles them.
+const FIRST_TURN: usize = 8_192;
+
+// The rounds and the other order in turns. Each goes on where it was, so no visit is made twice. The other order has its first turn once the
+// rounds repeat, and each further one once the rounds have visited nodes as often as it may then: so it costs no more than the rounds and
+// its first turn. Returns whether the rounds come to their end first. If the other order stops, the rounds go to their end.
+fn take_turns(task: &Task<'_>, rounds: &mut Rounds, walk: &mut Walk) -> Result<bool, Refusal>
+    requires rounds { AreUnderWay (task_of task.now) None rounds.old }
+    requires walk { IsOnItsWay (task_of task.now) walk.old }
+    ensures found { IfOk result (λ first. first ≡ true → AreRoundsFound (task_of task.now) None rounds.new.table) }
+    ensures ordered { IfOk result (λ first. first ≡ false → AreRoundsFound (task_of task.now) None walk.new.table) }
+    ensures why_not { IfErr result (λ r. AreRoundsWithout (task_of task.now) None r) }
+{
+    let mut hurry = 0;
+    let mut most = FIRST_TURN;
+    'turns: for _turn in 0..32 {
+        if go_on(task, None, Some(hurry), rounds)? {
+            return Ok(true);
+        }
+        match walk_to_end(task, walk, most) {
+            Ok(true) => return Ok(false),
+            Ok(false) => {
+                most = most.saturating_mul(2);
+                hurry = most;
+            }
+            Err(Unfound) => break,
+        }
+    }
+    go_on(task, None, None, rounds)
+}
+
+// The family at which the rounds end, or why they end at none, by the rounds and the other order in turns.
+fn sooner_family(task: &Task<'_>) -> Result<Table, Refusal>
+    ensures found { IfOk result (λ f. AreRoundsFound (task_of task.now) None f) }
+    ensures why_not { IfErr result (λ r. AreRoundsWithout (task_of task.now) None r) }
+{
+    let mut walk = set_out(task)?;
+    let mut rounds = begin(task, None)?;
+    match take_turns(task, &mut rounds, &mut walk) {
+        Ok(true) => {
+            drop(walk);
+            Ok(family_of(rounds))
+        }
+        Ok(false) => {
+            drop(rounds);
+            Ok(walked(walk))
+        }
+        Err(refusal) => {
+            drop(walk);
+            drop(rounds);
+            Err(refusal)
+        }
     }
 }
 
-// Worklist iteration from an empty family to one at which the rounds end.
-fn walk_to_end(task: &Task<'_>, table: &mut Table, most: usize) -> Result<(), Unfound>
-    requires { table.old ≡ empty }
-    ensures { OnOk result (AreRoundsFound (task_of task.now) None table.new) }
-{
-    let counted = walked(task, table, most)?;
-    is_end(task, table, counted)?;
-    Ok(())
-}
-
-/// The family at which the rounds end, found in another order with so many looks at most. An error says nothing of it.
-pub fn ordered_family(task: &Task<'_>, most: usize) -> Result<Table, Unfound>
-    ensures { IfOk result (λ f. AreRoundsFound (task_of task.now) None f) }
-{
-    let mut table = Table::new(task.alloc);
-    walk_to_end(task, &mut table, most).and(Ok(table))
-}
-
-// The family at which the rounds end, or why they end at none within the budget, with no hurry.
-fn unhurried_family(task: &Task<'_>, steps: Option<u64>) -> Result<Table, Refusal>
+// The family at which the rounds end, or why they end at none within the budget, by the rounds alone.
+fn round_family(task: &Task<'_>, steps: Option<u64>) -> Result<Table, Refusal>
     ensures found { IfOk result (λ f. AreRoundsFound (task_of task.now) steps f) }
     ensures why_not { IfErr result (λ r. AreRoundsWithout (task_of task.now) steps r) }
 {
-    match least_family(task, steps, None) {
-        Ok(Some(table)) => Ok(table),
-        Ok(None) => unreachable!(),
-        Err(refusal) => Err(refusal),
+    let mut rounds = begin(task, steps)?;
+    match go_on(task, steps, None, &mut rounds) {
+        Ok(true) => Ok(family_of(rounds)),
+        Ok(false) => unreachable!(),
+        Err(refusal) => {
+            drop(rounds);
+            Err(refusal)
+        }
     }
 }
 
-// How often the other order may look at nodes, in turn, and after it the rounds: first as often as a certificate may have nodes, then each
-// turn eight times as often.
-const TURNS: [usize; 4] = [65_536, 524_288, 4_194_304, 33_554_432];
-
-/// The family at which the rounds end, or why they end at none within the budget. With a budget the rounds alone tell this. Without one they
-/// begin in a hurry; if they are late, the other order is tried, and if that is late too, the rounds again, each turn with more looks: so
-/// neither costs much more than the other. If the other order stops, the rounds go to their end.
+/// The family at which the rounds end, or why they end at none within the budget. With a budget the rounds alone tell this. Without one the
+/// other order has turns as soon as the rounds repeat.
 pub fn found_family(task: &Task<'_>, steps: Option<u64>) -> Result<Table, Refusal>
     ensures found { IfOk result (λ f. AreRoundsFound (task_of task.now) steps f) }
     ensures why_not { IfErr result (λ r. AreRoundsWithout (task_of task.now) steps r) }
 {
-    if steps.is_some() {
-        return unhurried_family(task, steps);
+    match steps {
+        Some(_) => round_family(task, steps),
+        None => sooner_family(task),
     }
-    let mut looks = 0;
-    for most in TURNS {
-        match least_family(task, steps, Some(looks)) {
-            Ok(Some(table)) => return Ok(table),
-            Ok(None) => {}
-            Err(refusal) => return Err(refusal),
-        }
-        match ordered_family(task, most) {
-            Ok(table) => return Ok(table),
-            Err(Unfound::Late) => looks = most,
-            Err(Unfound::Stopped) => break,
-        }
-    }
-    unhurried_family(task, steps)
 }

@@ -1,6 +1,6 @@
 //! The rounds, from the root's node after reset to the fixpoint or a refusal.
 
-ghost use Rattle.std.specs.Prelude.{ℕ, ◌+◌, ◌≡◌, ◌≢◌, true, false, None, Some, IsSome, IfSome, IfOk, IfErr, OnOk};
+ghost use Rattle.std.specs.Prelude.{ℕ, ◌+◌, ◌≡◌, ◌≢◌, ◌<◌, true, false, Some, IsSome, IfOk, IfErr, OnOk};
 ghost use Rattle.std.specs.FinMap.{empty};
 ghost use Rattle.avr_model.specs.Devices.{device_of};
 ghost use Rattle.avr_model.specs.Assumptions.{has_pairs};
@@ -12,6 +12,7 @@ ghost use Rattle.round_rules.specs.Solutions.{AreRoundsWithout};
 ghost use Rattle.round_steps.specs.Joins.{KeptBut};
 ghost use Rattle.round_steps.specs.Notings.{blank};
 ghost use Rattle.fixpoint.specs.Progress.{Turn, IsBudgetLeft, IsSpent, AreRoundsFound};
+ghost use Rattle.fixpoint.specs.Turns.{AreUnderWay, room};
 ghost use Rattle.fixpoint.specs.Checks.{AreRoundsStopped, IsReady};
 ghost use Rattle.call_graph.specs.Tasks.{task_of};
 
@@ -88,75 +89,104 @@ fn spend(steps: Option<u64>, left: Option<u64>) -> Result<Option<u64>, Refusal>
     }
 }
 
+/// The rounds so far. They go on from here.
+#[derive(Drop)]
+pub struct Rounds {
+    /// The family.
+    pub table: Table,
+    /// The notes of its visits.
+    pub notes: Notes,
+    /// The nodes that the next round visits.
+    pub work: Vec<NodeKey>,
+    /// The family's cells.
+    pub counted: u64,
+    /// What is left of the budget.
+    pub left: Option<u64>,
+    /// How many visits there were.
+    pub looks: usize,
+}
+
+/// The rounds before the first one.
+pub fn begin(task: &Task<'_>, steps: Option<u64>) -> Result<Rounds, AllocError>
+    ensures { IfOk result (λ r. AreUnderWay (task_of task.now) steps r) }
+{
+    let mut table = Table::new(task.alloc);
+    let mut counted = 0;
+    let work = start(task, &mut table, &mut counted)?;
+    Ok(Rounds {
+        table,
+        notes: Notes::new(task.alloc),
+        work,
+        counted,
+        left: steps,
+        looks: 0,
+    })
+}
+
+/// The family.
+pub fn family_of(rounds: Rounds) -> Table
+    ensures { result ≡ rounds.table }
+{
+    let Rounds { table, .. } = rounds;
+    table
+}
+
+// One round. Returns whether the rounds end at the family.
+fn play(task: &Task<'_>, steps: Option<u64>, rounds: &mut Rounds) -> Result<bool, Refusal>
+    requires { AreUnderWay (task_of task.now) steps rounds.old }
+    ensures found { IfOk result (λ ended. ended ≡ true → AreRoundsFound (task_of task.now) steps rounds.new.table) }
+    ensures more { IfOk result (λ ended. ended ≡ false → AreUnderWay (task_of task.now) steps rounds.new) }
+    ensures falls { IfOk result (λ ended. ended ≡ false → room rounds.new.table < room rounds.old.table) }
+    ensures why_not { IfErr result (λ r. AreRoundsWithout (task_of task.now) steps r) }
+{
+    rounds.looks = rounds.looks.saturating_add(rounds.work.len());
+    let nodes = next_nodes(
+        task,
+        &rounds.table,
+        rounds.counted,
+        &rounds.work,
+        &mut rounds.notes,
+    )?;
+    rounds.work = join_all(task.alloc, &mut rounds.table, &mut rounds.counted, nodes)?;
+    if rounds.work.is_empty() {
+        return Ok(true);
+    }
+    rounds.left = spend(steps, rounds.left)?;
+    Ok(false)
+}
+
 // Whether the rounds are late, which they are in a hurry alone: they have looked at nodes more often than this, and at many nodes again.
-fn is_late(hurry: Option<usize>, looks: usize, table: &Table) -> bool
+fn is_late(hurry: Option<usize>, rounds: &Rounds) -> bool
     ensures { result ≡ true → IsSome hurry }
 {
     match hurry {
-        Some(most) => looks > most && looks.saturating_sub(256) > table.len(),
+        Some(most) => {
+            rounds.looks > most && rounds.looks.saturating_sub(256) > rounds.table.len()
+        }
         None => false,
     }
 }
 
-// The rounds, on a table and notes that are empty: whether they come to their end, with the family there, or why they end at none within the
-// budget. They don't come to it only in a hurry, if they are late. Their caller owns both, so that each early end here lets go of the work at
-// most.
-fn go_on(
+/// Goes on with the rounds. Returns whether they come to their end, or why they end at no family within the budget. They don't come to it
+/// only in a hurry, if they are late: they have looked at nodes more often than `hurry` says, and at many nodes again.
+pub fn go_on(
     task: &Task<'_>,
     steps: Option<u64>,
     hurry: Option<usize>,
-    table: &mut Table,
-    notes: &mut Notes,
+    rounds: &mut Rounds,
 ) -> Result<bool, Refusal>
-    requires no_nodes { table.old ≡ empty }
-    requires no_notes { notes.old ≡ blank }
-    ensures found { IfOk result (λ ended. ended ≡ true → AreRoundsFound (task_of task.now) steps table.new) }
+    requires { AreUnderWay (task_of task.now) steps rounds.old }
+    ensures found { IfOk result (λ ended. ended ≡ true → AreRoundsFound (task_of task.now) steps rounds.new.table) }
+    ensures more { IfOk result (λ ended. ended ≡ false → AreUnderWay (task_of task.now) steps rounds.new) }
     ensures late { IfOk result (λ ended. ended ≡ false → IsSome hurry) }
     ensures why_not { IfErr result (λ r. AreRoundsWithout (task_of task.now) steps r) }
 {
-    let mut counted = 0;
-    let mut work = start(task, table, &mut counted)?;
-    let mut left = steps;
-    let mut looks = 0;
-    'rounds: loop {
-        if is_late(hurry, looks, table) {
+    'each: loop {
+        if is_late(hurry, rounds) {
             return Ok(false);
         }
-        looks = looks.saturating_add(work.len());
-        let told = next_nodes(task, table, counted, &work, notes);
-        drop(work);
-        work = join_all(task.alloc, table, &mut counted, told?)?;
-        if work.is_empty() {
+        if play(task, steps, rounds)? {
             return Ok(true);
-        }
-        left = spend(steps, left)?;
-    }
-}
-
-/// The family at which the rounds end, or why they end at none within the budget. None says that they were late and were left. They are left
-/// only in a hurry: once they have looked at nodes more often than `hurry` says, and at many nodes again.
-pub fn least_family(
-    task: &Task<'_>,
-    steps: Option<u64>,
-    hurry: Option<usize>,
-) -> Result<Option<Table>, Refusal>
-    ensures found { IfOk result (λ told. IfSome told (λ f. AreRoundsFound (task_of task.now) steps f)) }
-    ensures late { IfOk result (λ told. told ≡ None → IsSome hurry) }
-    ensures why_not { IfErr result (λ r. AreRoundsWithout (task_of task.now) steps r) }
-{
-    let mut table = Table::new(task.alloc);
-    let mut notes = Notes::new(task.alloc);
-    let told = go_on(task, steps, hurry, &mut table, &mut notes);
-    drop(notes);
-    match told {
-        Ok(true) => Ok(Some(table)),
-        Ok(false) => {
-            drop(table);
-            Ok(None)
-        }
-        Err(refusal) => {
-            drop(table);
-            Err(refusal)
         }
     }
 }

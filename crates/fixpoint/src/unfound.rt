@@ -1,16 +1,12 @@
-//! Why the other order of work finds no family.
+//! That the other order of work finds no family.
 
 use round_rules::Refusal;
 use std::alloc::AllocError;
 
-/// Why the other order of work finds no family. It says nothing of the firmware: if it has no certificate, the rounds tell why. Source: own.
+/// The other order of work finds no family: a test of the rounds holds on the way, an edge leads out of the family, there are too many
+/// instances to ask about, or memory ran out. It says nothing of the firmware: if it has no certificate, the rounds tell why. Source: own.
 #[derive(Clone, Copy, Drop)]
-pub enum Unfound {
-    /// It has looked at nodes as often as it may.
-    Late,
-    /// A test of the rounds holds on the way, an edge leads out of the family, there are too many instances to ask about, or memory ran out.
-    Stopped,
-}
+pub struct Unfound;
 
 impl From<AllocError> for Unfound {
     ghost use Rattle.std.specs.Prelude.{⊤};
@@ -18,7 +14,7 @@ impl From<AllocError> for Unfound {
     ghost from_gives = { λ _ _. ⊤ };
 
     fn from(_: AllocError) -> Unfound {
-        Unfound::Stopped
+        Unfound
     }
 }
 
@@ -28,6 +24,6 @@ impl From<Refusal> for Unfound {
     ghost from_gives = { λ _ _. ⊤ };
 
     fn from(_: Refusal) -> Unfound {
-        Unfound::Stopped
+        Unfound
     }
 }
