@@ -229,7 +229,7 @@ fn walk_to_end(task: &Task<'_>, walk: &mut Walk, most: usize) -> Result<bool, Un
 }
 
 // The visits of the other order's first turn. Each further turn doubles them.
-const FIRST_TURN: usize = 8_192;
+const FIRST_TURN: usize = 12_288;
 
 // The rounds and the other order in turns. Each goes on where it was, so no visit is made twice. The other order has its first turn once the
 // rounds repeat, and each further one once the rounds have visited nodes as often as it may then: so it costs no more than the rounds and

@@ -1,4 +1,4 @@
-use Rattle.std.proofs.Common.{◌×◌, None}
+use Rattle.std.proofs.Common.{None}
 use Rattle.fixpoint.specs.Turns.{AreUnderWay, IsOnItsWay}
 use Rattle.fixpoint.proofs.ordering.take_turns.Given as goal
 use Rattle.call_graph.specs.Tasks.{task_of}
