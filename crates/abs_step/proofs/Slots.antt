@@ -7,7 +7,7 @@ use Rattle.avr_model.specs.declared.instruction.Instr.TheVariants as i
 use Rattle.avr_model.specs.declared.instruction.BinaryOp.{BinaryOp}
 use Rattle.avr_model.specs.declared.instruction.BinaryOp.TheVariants as binary
 use Rattle.avr_model.specs.Written.{written}
-use Rattle.avr_model.specs.Devices.{Program}
+use Rattle.avr_model.specs.Devices.{Image}
 use Rattle.bit_domain.specs.Tri.{permits}
 use Rattle.bit_domain.specs.TriByte.{byte_constant}
 use Rattle.bit_domain.specs.Logic.{byte_equal}
@@ -42,8 +42,8 @@ use Rattle.pair_cuts.specs.declared.outcomes.Outcome.{Outcome}
 use Rattle.pair_cuts.specs.Places.{after, narrow_at, narrow_to, on_byte, known_or_nothing, range_of, interval_of, range_at}
 use Rattle.pair_cuts.specs.Cuts.{side_place, side_range, pair_place, pair_range, with_bit, equal_part, less_by, less_cut, below_part, zero_by, zero_cut, narrow_both, compare_by, compare_told, compare_cut, flags_known, bit_known, flag_by, equal_by, with_index, pick_cut}
 use Rattle.pair_cuts.specs.Outcomes.{outcome_of, left_part, right_part}
-use Rattle.abs_step.specs.declared.pairs.Test.{Test}
-use Rattle.abs_step.specs.declared.pairs.Test.TheVariants.{Flag, Bit, Equal}
+use Rattle.abs_step.specs.declared.pairs.PairTest.{PairTest}
+use Rattle.abs_step.specs.declared.pairs.PairTest.TheVariants.{Flag, Bit, Equal}
 use Rattle.abs_step.specs.Conditions.{cut_by}
 
 -- if anything is left, it has these slots
@@ -77,9 +77,9 @@ read_keeps : (t : AbsState) (d : ℕ) (o : Option AbsByte) → KeepsSlots t.slot
 read_keeps t d None = tt
 read_keeps t d (Some v) = refl
 
-flash_keeps : (words : Program) (t : AbsState) (d : ℕ) (permits : ℕ → Bool) → KeepsSlots t.slots (flash_read words t d permits)
-flash_keeps words t d permits =
-    kept_where (few_in_flash words permits) t.slots (with_joined t d (flash_joined words permits)) (Some t) (read_keeps t d (flash_joined words permits)) refl
+flash_keeps : (image : Image) (t : AbsState) (d : ℕ) (permits : ℕ → Bool) → KeepsSlots t.slots (flash_read image t d permits)
+flash_keeps image t d permits =
+    kept_where (few_in_flash image permits) t.slots (with_joined t d (flash_joined image permits)) (Some t) (read_keeps t d (flash_joined image permits)) refl
 
 doubled_keeps : (b : Bool) (s : AbsState) (op : BinaryOp) (d : ℕ) (t : AbsState) → (if b then doubled_by s op d t else t).slots ≡ t.slots
 doubled_keeps true s binary.Add d t = refl
@@ -87,12 +87,12 @@ doubled_keeps true s binary.Adc d t = refl
 doubled_keeps true s _ d t = refl
 doubled_keeps false s op d t = refl
 
-retold_keeps : (words : Program) (s : AbsState) (f : PairFacts) (instr : Instr) (t : AbsState) → KeepsSlots t.slots (retold words s f instr t)
-retold_keeps words s f (i.Binary op d r) t = doubled_keeps (d == r) s op d t
-retold_keeps words s f (i.LpmZ d) t = flash_keeps words t d (pair_permits (z_of s f))
-retold_keeps words s f (i.LpmZPlus d) t = flash_keeps words t d (pair_permits (z_of s f))
-retold_keeps words s f i.Lpm t = flash_keeps words t 0 (pair_permits (z_of s f))
-retold_keeps words s f _ t = refl
+retold_keeps : (image : Image) (s : AbsState) (f : PairFacts) (instr : Instr) (t : AbsState) → KeepsSlots t.slots (retold image s f instr t)
+retold_keeps image s f (i.Binary op d r) t = doubled_keeps (d == r) s op d t
+retold_keeps image s f (i.LpmZ d) t = flash_keeps image t d (pair_permits (z_of s f))
+retold_keeps image s f (i.LpmZPlus d) t = flash_keeps image t d (pair_permits (z_of s f))
+retold_keeps image s f i.Lpm t = flash_keeps image t 0 (pair_permits (z_of s f))
+retold_keeps image s f _ t = refl
 
 told_keeps : (ms : List ℕ) (x : Told) (t : AbsState) → KeepsSlots t.slots (cut_told ms x t)
 told_keeps ms told.Nothing t = refl
@@ -111,9 +111,9 @@ then_keeps slots ms s f instr (Some t) h =
     (subst (λ (x : List (Slot AbsByte)). KeepsSlots x (cut_told ms (told_by s.registers f instr) (with_hulls (written instr) t))) h
     (told_keeps ms (told_by s.registers f instr) (with_hulls (written instr) t)))
 
-refined_keeps : (ms : List ℕ) (words : Program) (instr : Instr) (s t : AbsState) (x : Option PairFacts) → KeepsSlots t.slots (refined_known ms words instr s t x)
-refined_keeps ms words instr s t None = refl
-refined_keeps ms words instr s t (Some f) = then_keeps t.slots ms s f instr (retold words s f instr t) (retold_keeps words s f instr t)
+refined_keeps : (ms : List ℕ) (image : Image) (instr : Instr) (s t : AbsState) (x : Option PairFacts) → KeepsSlots t.slots (refined_known ms image instr s t x)
+refined_keeps ms image instr s t None = refl
+refined_keeps ms image instr s t (Some f) = then_keeps t.slots ms s f instr (retold image s f instr t) (retold_keeps image s f instr t)
 
 -- ---- what tests tell
 
@@ -171,7 +171,7 @@ equal_keeps d r b (Some k) y s = to_keeps (place.Byte d) (equal_part b k (range_
 equal_keeps d r b None (Some k) s = to_keeps (place.Byte r) (equal_part b k (range_at s (place.Byte r))) s
 equal_keeps d r b None None s = refl
 
-test_keeps : (test : Test) (on : Bool) (s : AbsState) → KeepsSlots s.slots (cut_by test on s)
+test_keeps : (test : PairTest) (on : Bool) (s : AbsState) → KeepsSlots s.slots (cut_by test on s)
 test_keeps (Flag n) on s = flag_keeps n on (bit_known s.flags.bits n on) s
 test_keeps (Bit r b) on s = cut_keeps (on_byte r (with_bit b on)) s (r / 2)
 test_keeps (Equal d r) on s =
@@ -185,10 +185,10 @@ left_keeps_in : (b : Bool) (slots : List (Slot AbsByte)) (t : AbsState) → b �
 left_keeps_in true slots t e h = h
 left_keeps_in false slots t e h = cc
 
-pub told_slots : (b : Bool) (ms : List ℕ) (words : Program) (instr : Instr) (s u t : AbsState) → left_in b t ≡ refined ms words instr s u → b ≡ true → t.slots ≡ u.slots
-told_slots b ms words instr s u t e is = left_keeps_in b u.slots t is (subst (KeepsSlots u.slots) (sym e) (refined_keeps ms words instr s u s.facts))
+pub told_slots : (b : Bool) (ms : List ℕ) (image : Image) (instr : Instr) (s u t : AbsState) → left_in b t ≡ refined ms image instr s u → b ≡ true → t.slots ≡ u.slots
+told_slots b ms image instr s u t e is = left_keeps_in b u.slots t is (subst (KeepsSlots u.slots) (sym e) (refined_keeps ms image instr s u s.facts))
 
-pub cut_slots : (b : Bool) (test : Test) (on : Bool) (s t : AbsState) → left_in b t ≡ cut_by test on s → b ≡ true → t.slots ≡ s.slots
+pub cut_slots : (b : Bool) (test : PairTest) (on : Bool) (s t : AbsState) → left_in b t ≡ cut_by test on s → b ≡ true → t.slots ≡ s.slots
 cut_slots b test on s t e is = left_keeps_in b s.slots t is (subst (KeepsSlots s.slots) (sym e) (test_keeps test on s))
 
 pub pick_slots : (b : Bool) (byte : ℕ) (s t : AbsState) → left_in b t ≡ pick_cut byte s → b ≡ true → t.slots ≡ s.slots

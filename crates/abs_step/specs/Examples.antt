@@ -1,13 +1,13 @@
 -- Worked nodes, each computed: targets and tags. The rows of `node_table` cover bits.
 use Rattle.std.specs.Prelude.{ℕ, ◌+◌, ◌≡◌, Bool, true, false, List, [], ◌∷◌, map, replicate, refl, slice_set, Option, Some, None}
 use Rattle.avr_model.specs.declared.assumption.Entry.TheVariants.{Jump, Store}
-use Rattle.avr_model.specs.Devices.{device_row, Program, M328, image}
+use Rattle.avr_model.specs.Devices.{device_row, Image, M328, image_of}
 use Rattle.avr_model.specs.Bits.{any_below, all_below}
 use Rattle.avr_model.specs.Sites.{is_scratch, is_fixed, path_behind, is_loaded_behind, table_site, ijmp_from}
 use Rattle.avr_model.specs.Assumptions.{jump_line, store_line, is_proved, is_freed, is_never, is_frame, is_fixed_site, has_masks}
 use Rattle.avr_model.specs.Masks.{reads_masks, admits_enables}
 use Rattle.avr_model.specs.Table.{decoded}
-use Rattle.avr_model.specs.Vectors.{is_enabled, has_place, place_at, places}
+use Rattle.avr_model.specs.Vectors.{is_enabled, has_enable_place, enable_place_at, enable_places}
 use Rattle.bit_domain.specs.Packed.{packed}
 use Rattle.bit_domain.specs.TriByte.{byte_known, permits_below}
 use Rattle.bit_domain.specs.Numbers.{numbers_of}
@@ -19,12 +19,12 @@ use Rattle.sp_domain.specs.declared.slots.Slot.TheVariants.{Guarded}
 use Rattle.abs_state.specs.declared.values.AbsByte.{AbsByte}
 use Rattle.abs_state.specs.declared.state.AbsState.{AbsState}
 use Rattle.abs_state.specs.Values.{root, value_at, unknown, known}
-use Rattle.mask_states.specs.declared.keys.NodeKey.{NodeKey}
-use Rattle.mask_states.specs.declared.keys.Kind.TheVariants.{Call}
-use Rattle.mask_states.specs.declared.keys.SpForm.{SpForm}
-use Rattle.mask_states.specs.declared.keys.SpForm.TheVariants.{Closed, Open}
-use Rattle.mask_states.specs.declared.keys.High.TheVariants.{Tag as Tagged}
-use Rattle.mask_states.specs.Splits.{common_tri, enable_tri}
+use Rattle.node_keys.specs.declared.keys.NodeKey.{NodeKey}
+use Rattle.node_keys.specs.declared.keys.Kind.TheVariants.{Call}
+use Rattle.node_keys.specs.declared.keys.SpForm.{SpForm}
+use Rattle.node_keys.specs.declared.keys.SpForm.TheVariants.{Closed, Open}
+use Rattle.node_keys.specs.declared.keys.High.TheVariants.{Tag as Tagged}
+use Rattle.node_keys.specs.Splits.{common_tri, enable_tri}
 use Rattle.local_rules.specs.declared.local.CallSite.{CallSite}
 use Rattle.local_rules.specs.declared.local.Exit.{Exit}
 use Rattle.local_rules.specs.declared.local.NodeFault.{NodeFault}
@@ -39,8 +39,8 @@ use Rattle.local_rules.specs.Local.{raw, may_come}
 use Rattle.local_rules.specs.Site.{task_with}
 
 -- a firmware of one or two words, and erased words behind them
-abbrev firmware : ℕ → ℕ → Program
-firmware w0 w1 = image M328 (w0 ∷ w1 ∷ replicate 16382 0xFFFF)
+abbrev firmware : ℕ → ℕ → Image
+firmware w0 w1 = image_of M328 (w0 ∷ w1 ∷ replicate 16382 0xFFFF)
 
 -- a node at word 0 of a call's frame, with the flag I
 abbrev in_call : SpForm → NodeKey
@@ -105,7 +105,7 @@ reads_a_slot = refl
 
 -- `st X, r16` of an unknown byte, with X = 0x003D, and 0x003D and 0x005D listed: nothing changes, or the two enable bits do
 stores_at_listed : enables (raw (task_with (firmware 0x930C 0xFFFF) (Store 0 (0x3D ∷ 0x5D ∷ []) ∷ [])) (in_call (Closed 0)) (with_pair 26 (known 0x3D) (known 0))) ≡ 0 ∷ 0 ∷ 1 ∷ 2 ∷ 3 ∷ []
-unfolding raw table_site ijmp_from is_scratch is_fixed path_behind is_loaded_behind is_proved is_freed is_fixed_site store_line any_below all_below decoded device_row written_at numbers_of enable_tri place_at places common_tri packed permits_below may_wake admits_enables reads_masks has_masks
+unfolding raw table_site ijmp_from is_scratch is_fixed path_behind is_loaded_behind is_proved is_freed is_fixed_site store_line any_below all_below decoded device_row written_at numbers_of enable_tri enable_place_at enable_places common_tri packed permits_below may_wake admits_enables reads_masks has_masks
 stores_at_listed = refl
 
 -- `ijmp` with Z = 5 goes to the one listed word that Z permits
@@ -128,7 +128,7 @@ returns_from_interrupt = refl
 
 -- an interrupt may come while the stack pointer is half written
 hangs : faults (raw (task_with (firmware 0x0000 0xFFFF) []) (record (in_call (Open 0 (Tagged 2))) { masks = 32768 }) root) ≡ UntrackedSp 0 ∷ []
-unfolding raw table_site ijmp_from is_scratch any_below all_below decoded device_row may_come is_never is_enabled has_place places
+unfolding raw table_site ijmp_from is_scratch any_below all_below decoded device_row may_come is_never is_enabled has_enable_place enable_places
 hangs = refl
 
 -- of two depths the smaller one is the fault

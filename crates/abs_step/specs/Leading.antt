@@ -1,7 +1,7 @@
 -- What the code does for a whole `Raw`: it inserts nodes into a list and returns the calls and the return, or the fault that counts.
 use Rattle.std.specs.Prelude.{ℕ, ◌≡◌, ◌≢◌, List, [], Option, Some, None, Result, Ok, Err}
 use Rattle.std.specs.Global.{Vec}
-use Rattle.sb_base.specs.Answers.{Answers}
+use Rattle.text_base.specs.Answers.{Answers}
 use Rattle.local_rules.specs.declared.local.Local.{Local}
 use Rattle.local_rules.specs.declared.local.Node.{Node}
 use Rattle.local_rules.specs.declared.local.NodeFault.{NodeFault}
@@ -28,8 +28,8 @@ LeadsOn old new (Ok o) r = IsLed old new o r
 LeadsOn old new (Err f) r = f ≢ Memory → first_fault r.faults ≡ Some f
 
 -- into a list of which no state is refined
-abbrev pub Leads : List Node → List Node → Result Outgoing NodeFault → Raw → Type 0
-Leads old new result r = LeadsOn (plain old) (plain new) result r
+abbrev pub LeadsAs : List Node → List Node → Result Outgoing NodeFault → Raw → Type 0
+LeadsAs old new result r = LeadsOn (plain old) (plain new) result r
 
 -- the one answer that is due for a `Raw`, unless memory runs out
 abbrev pub Settles : Result Local NodeFault → Raw → Type 0

@@ -8,8 +8,8 @@ use Rattle.pair_cuts.specs.Cuts.{pick_cut}
 use Rattle.local_rules.specs.Raw.{Raw}
 use Rattle.local_rules.specs.Site.{Task, Site}
 use Rattle.local_rules.specs.HighBytes.{view_of}
-use Rattle.local_rules.specs.Registers.{bits}
-use Rattle.local_rules.specs.Flow.{words_on}
+use Rattle.bit_domain.specs.declared.bytes.TriByte.{TriByte}
+use Rattle.local_rules.specs.Flow.{words_on, z_with}
 use Rattle.local_rules.specs.Writes.{ByteWrite, reaches, may_wake, waking, woken, unfixed_write, pointer_write}
 use Rattle.local_rules.specs.Local.{node_of, paired_branch, picked_row, picking, plain_row, pointer_load, row_in, storing, register_write}
 use Rattle.abs_step.specs.Adding.{refined_if}
@@ -29,9 +29,9 @@ site_of site = record { device = site.device; key = site.key.now; state = site.s
 abbrev pub write_of : Write → ByteWrite
 write_of w = record { device = w.device; pc = w.pc; key = w.key; state = w.state.now; value = w.value }
 
--- the words that the bits of Z permit
-abbrev pub z_words : Device → AbsState → List ℕ
-z_words device s = words_on device (bits s 30) (bits s 31)
+-- the words that the bits of Z with this third byte permit
+abbrev pub z_words : Device → AbsState → TriByte → List ℕ
+z_words device s bank = words_on device (z_with s bank)
 
 -- ---- through a pointer
 

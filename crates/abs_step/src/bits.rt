@@ -16,7 +16,7 @@ use local_reads::flow::port;
 use local_reads::reads::kept_bits;
 use local_rows::bits::{flag, tri_of};
 use local_rules::local::NodeFault;
-use mask_states::NodeKey;
+use node_keys::NodeKey;
 
 /// Sets or clears one bit of an I/O address.
 pub fn bit_row(

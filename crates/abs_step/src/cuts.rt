@@ -17,7 +17,7 @@ fn going_where(
     nodes: &mut Moves<'_>,
     site: &Site<'_>,
     carry: bool,
-    pc: u16,
+    pc: u32,
 ) -> Result<(), NodeFault>
     ensures added { Adds nodes.old nodes.new result (flow.carry_to site.now.key.now site.now.state.now carry pc) }
     ensures err { IfErr result (λ e. e ≡ Memory) }
@@ -36,8 +36,8 @@ pub fn carry_branch(
     nodes: &mut Moves<'_>,
     site: &Site<'_>,
     carry: Tri,
-    set: u16,
-    clear: u16,
+    set: u32,
+    clear: u32,
 ) -> Result<(), NodeFault>
     ensures { Adds nodes.old nodes.new result (flow.carry_branch carry site.now.key.now site.now.state.now set clear) }
 {

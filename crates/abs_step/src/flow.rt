@@ -5,7 +5,6 @@ ghost use Rattle.avr_model.specs.Assumptions.{lists};
 ghost use Rattle.avr_model.specs.Effects.{port};
 ghost use Rattle.local_rules.specs.declared.local.NodeFault.TheVariants.{Memory};
 ghost use Rattle.local_rules.specs.Raw.{Raw, further};
-ghost use Rattle.local_rules.specs.Registers.{bits};
 ghost use Rattle.local_rules.specs.Flow.{icall_row};
 ghost use Rattle.local_rules.specs.Flow as flow;
 ghost use Rattle.local_rules.specs.Local.{bit_skip, node_of};
@@ -19,18 +18,18 @@ use crate::site::Site;
 use crate::stack::room_row;
 use crate::successors::{add_copy, branch, branch_by, off_table};
 use abs_state::AbsState;
+use assumption_files::targets_on;
 use avr_model::device::Device;
 use avr_model::instruction::{Base, Bit, LowPort};
 use avr_model::listed::Listed;
-use bit_domain::Tri;
-use indirect_targets::targets_on;
+use bit_domain::{Tri, TriByte};
 use local_reads::flow::{further, is_target, port_bit, reading_zero};
 use local_rows::arithmetic::carry_bit;
 use local_rows::registers::pair;
 use local_rows::status::flag_at;
 use local_rows::transfer::base_register;
 use local_rules::local::{CallSite, Exit, NodeFault};
-use mask_states::{Kind, NodeKey, SpForm};
+use node_keys::{Kind, NodeKey, SpForm};
 use std::alloc::Global;
 
 // `brbs` of flag `n` if `on`, else `brbc`: to the first word if it is taken, else to the other. A branch on C cuts the register of the
@@ -40,7 +39,7 @@ pub(crate) fn flag_branch(
     site: &Site<'_>,
     n: Bit,
     on: bool,
-    words: (u16, u16),
+    words: (u32, u32),
 ) -> Result<(), NodeFault>
     ensures { Adds nodes.old nodes.new result (flow.flag_turn on n (node_of (site_of site.now)) words.0 words.1) }
 {
@@ -55,7 +54,7 @@ pub(crate) fn flag_branch(
 }
 
 // The word after the next instruction, and that of the next instruction.
-pub(crate) fn skip_words(site: &Site<'_>) -> (u16, u16)
+pub(crate) fn skip_words(site: &Site<'_>) -> (u32, u32)
     ensures past { result.0 ≡ flow.past site.now.flash.now (site_of site.now) }
     ensures next { result.1 ≡ further site.now.device site.now.key.now 1 }
 {
@@ -100,19 +99,20 @@ pub(crate) fn port_skip(
     }
 }
 
-// The listed words that the bits permit.
+// The listed words that the bits of Z with this third byte permit.
 fn listed_targets(
     alloc: Global,
     device: Device,
     state: &AbsState,
-    listed: &[u16],
-) -> Result<Vec<u16>, NodeFault>
-    ensures ok { IfOk result (λ v. v.items ≡ filter (lists (z_words device state.now)) listed.now) }
+    bank: TriByte,
+    listed: &[u32],
+) -> Result<Vec<u32>, NodeFault>
+    ensures ok { IfOk result (λ v. v.items ≡ filter (lists (z_words device state.now bank)) listed.now) }
     ensures err { IfErr result (λ e. e ≡ Memory) }
 {
     let mut words = Vec::new(alloc);
     for at in 0..listed.len() {
-        if is_target(device, state, listed[at]) {
+        if is_target(device, state, bank, listed[at]) {
             if words.push(listed[at]).is_err() {
                 return Err(NodeFault::Memory);
             }
@@ -121,34 +121,36 @@ fn listed_targets(
     Ok(words)
 }
 
-// All words that the bits permit; a fault if there are too many.
+// All words that the bits of Z with this third byte permit; a fault if there are too many.
 fn unlisted_targets(
     alloc: Global,
     device: Device,
     state: &AbsState,
-    pc: u16,
-) -> Result<Vec<u16>, NodeFault>
-    ensures { FindsWords result (flow.targets_by device None (bits state.now 30) (bits state.now 31)) pc }
+    bank: TriByte,
+    pc: u32,
+) -> Result<Vec<u32>, NodeFault>
+    ensures { FindsWords result (flow.targets_by device None (flow.z_with state.now bank)) pc }
 {
     let (low, high) = pair(state, base_register(Base::Z));
-    match targets_on(device, &low.bits, &high.bits) {
+    match targets_on(device, &low.bits, &high.bits, &bank) {
         Ok(all) => Ok(all.as_slice().to_vec(alloc)?),
         Err(_) => Err(NodeFault::UnresolvedJump(pc)),
     }
 }
 
 // The possible targets of an indirect transfer.
-pub(crate) fn targets_at(site: &Site<'_>) -> Result<Vec<u16>, NodeFault>
+pub(crate) fn targets_at(site: &Site<'_>) -> Result<Vec<u32>, NodeFault>
     ensures { FindsWords result (flow.targets_at site.now.assumptions.now (site_of site.now)) site.now.key.now.pc }
 {
+    let bank = TriByte::of(0);
     match site.assumptions.jumps(site.key.pc) {
-        Some(listed) => listed_targets(site.alloc, site.device, site.state, listed),
-        None => unlisted_targets(site.alloc, site.device, site.state, site.key.pc),
+        Some(listed) => listed_targets(site.alloc, site.device, site.state, bank, listed),
+        None => unlisted_targets(site.alloc, site.device, site.state, bank, site.key.pc),
     }
 }
 
 // Continues at each of these words.
-fn add_words(nodes: &mut Moves<'_>, site: &Site<'_>, words: &[u16]) -> Result<(), NodeFault>
+fn add_words(nodes: &mut Moves<'_>, site: &Site<'_>, words: &[u32]) -> Result<(), NodeFault>
     ensures { Adds nodes.old nodes.new result (flow.jumping (Some words.now) site.now.key.now site.now.state.now) }
 {
     for at in 0..words.len() {
@@ -195,7 +197,7 @@ pub(crate) fn staying(alloc: Global, added: Result<(), NodeFault>) -> Result<Out
 }
 
 // Calls of these words that return to the word `back`.
-fn sites(alloc: Global, entries: &[u16], back: u16) -> Result<Listed<CallSite>, NodeFault>
+fn sites(alloc: Global, entries: &[u32], back: u32) -> Result<Listed<CallSite>, NodeFault>
     ensures ok { IfOk result (λ sites. sites ≡ map (λ t. flow.site t back) entries.now) }
     ensures err { IfErr result (λ e. e ≡ Memory) }
 {
@@ -211,8 +213,8 @@ fn sites(alloc: Global, entries: &[u16], back: u16) -> Result<Listed<CallSite>, 
 pub(crate) fn calling(
     alloc: Global,
     key: &NodeKey,
-    back: u16,
-    entries: &[u16],
+    back: u32,
+    entries: &[u32],
 ) -> Result<Outgoing, NodeFault>
     ensures { (nodes : Moving) → LeadsOn nodes nodes result (flow.calling key.now back entries.now) }
 {
@@ -258,7 +260,7 @@ pub(crate) fn relative_call(
     nodes: &mut Moves<'_>,
     site: &Site<'_>,
     scratch: bool,
-    target: u16,
+    target: u32,
 ) -> Result<Outgoing, NodeFault>
     ensures { LeadsOn nodes.old nodes.new result (flow.relative_call scratch (site_of site.now) target) }
 {

@@ -6,7 +6,7 @@ ghost use Rattle.avr_model.specs.Written.{written};
 ghost use Rattle.sp_domain.specs.declared.tags.CarryTag.TheVariants as tag;
 ghost use Rattle.local_rules.specs.Registers as registers;
 ghost use Rattle.local_rules.specs.Local.{plain_row, fetched_row};
-ghost use Rattle.abs_step.specs.Leading.{LeadsOn, Leads};
+ghost use Rattle.abs_step.specs.Leading.{LeadsOn, LeadsAs};
 ghost use Rattle.abs_step.specs.Sites.{task_of, site_of};
 
 use crate::flow::Outgoing;
@@ -19,7 +19,7 @@ use abs_state::{AbsFlags, AbsState, end_facts};
 use avr_decode::{sets, writes};
 use avr_model::instruction::Instr;
 use local_rules::local::{NodeFault, Nodes};
-use pair_told::{sets_carry, sets_flags};
+use pair_rows::{sets_carry, sets_flags};
 use sp_domain::CarryTag;
 use std::alloc::Global;
 
@@ -94,10 +94,10 @@ pub(crate) fn row_forgetting(
 
 // The successors by the node's instruction; its word may lie behind the device's flash.
 pub(crate) fn at_instruction(nodes: &mut Nodes, site: &Site<'_>) -> Result<Outgoing, NodeFault>
-    ensures { Leads nodes.old nodes.new result (fetched_row (task_of site.now) (site_of site.now)) }
+    ensures { LeadsAs nodes.old nodes.new result (fetched_row (task_of site.now) (site_of site.now)) }
 {
     let pc = site.key.pc;
-    if u32::from(pc) >= site.device.words() {
+    if pc >= site.device.words() {
         return Err(NodeFault::Unsupported(pc));
     }
     let scratch = site.flash.is_scratch(pc);

@@ -1,12 +1,12 @@
 //! The local part of a node: the successors in its instance, its calls and its return, or its fault.
 
 ghost use Rattle.std.specs.Prelude.{◌≡◌, ◌<◌, ◌∷◌, length, Err};
-ghost use Rattle.mask_states.specs.Keys.{offset_of};
+ghost use Rattle.node_keys.specs.Keys.{offset_of};
 ghost use Rattle.local_rules.specs.declared.local.NodeFault.TheVariants.{Memory};
 ghost use Rattle.local_rules.specs.Raw.{Raw};
 ghost use Rattle.local_rules.specs.Site.{task_with};
 ghost use Rattle.local_rules.specs.Local as rows;
-ghost use Rattle.sb_base.specs.Answers.{Answers};
+ghost use Rattle.text_base.specs.Answers.{Answers};
 ghost use Rattle.abs_step.specs.Leading.{Settles};
 ghost use Rattle.abs_step.specs.Sites.{task_of, site_of};
 
@@ -16,7 +16,7 @@ use abs_state::AbsState;
 use flash_image::Flash;
 use local_reads::stack_pointer::is_hung;
 use local_rules::local::{Local, NodeFault, Nodes};
-use mask_states::NodeKey;
+use node_keys::NodeKey;
 use std::alloc::Global;
 use vector_table::Assumptions;
 

@@ -1,7 +1,7 @@
 //! The list into which an instruction's successors are put.
 
 ghost use Rattle.std.specs.Prelude.{◌≡◌, true, length};
-ghost use Rattle.mask_states.specs.Keys.{offset_of};
+ghost use Rattle.node_keys.specs.Keys.{offset_of};
 ghost use Rattle.abs_state.specs.PairBytes.{left_in};
 ghost use Rattle.local_rules.specs.Raw.{one, moves_to};
 ghost use Rattle.local_rules.specs.Local.{node_where};
@@ -12,7 +12,7 @@ use abs_state::AbsState;
 use avr_model::instruction::Instr;
 use flash_image::Flash;
 use local_rules::local::{Node, NodeFault, Nodes};
-use mask_states::NodeKey;
+use node_keys::NodeKey;
 use pair_steps::refine;
 use std::marker::Model;
 

@@ -1,13 +1,13 @@
 //! Instructions if pairs are followed: branches and skips cut the state by their outcome, and other successors are refined.
 
 ghost use Rattle.std.specs.Prelude.{◌≡◌, ◌<◌, true, length};
-ghost use Rattle.mask_states.specs.Keys.{offset_of};
+ghost use Rattle.node_keys.specs.Keys.{offset_of};
 ghost use Rattle.abs_state.specs.PairBytes.{left_in};
 ghost use Rattle.local_rules.specs.Flow.{going_where};
 ghost use Rattle.local_rules.specs.Local.{paired_row};
 ghost use Rattle.local_rules.specs.Local as rows;
 ghost use Rattle.abs_step.specs.Adding.{Inserts};
-ghost use Rattle.abs_step.specs.Leading.{Leads};
+ghost use Rattle.abs_step.specs.Leading.{LeadsAs};
 ghost use Rattle.abs_step.specs.Conditions.{IsTest, cut_by, both_by, skip_by};
 ghost use Rattle.abs_step.specs.Sites.{task_of, site_of, row_through, stored, branched};
 
@@ -30,7 +30,7 @@ use std::mem;
 
 // A test that cuts the state by its outcome.
 #[derive(Clone, Copy)]
-pub(crate) enum Test {
+pub(crate) enum PairTest {
     // Whether this flag is 1.
     Flag(u8),
     // Whether a register's bit is 1.
@@ -43,9 +43,9 @@ pub(crate) enum Test {
 #[derive(Clone, Copy)]
 pub(crate) struct Ways {
     // The word if the test has the outcome.
-    pub pc: u16,
+    pub pc: u32,
     // The word if it has the other.
-    pub other: u16,
+    pub other: u32,
 }
 
 // A branch on a flag.
@@ -54,9 +54,9 @@ pub(crate) struct FlagBranch {
     // The flag.
     pub n: Bit,
     // The word if it is 0.
-    pub clear: u16,
+    pub clear: u32,
     // The word if it is 1.
-    pub set: u16,
+    pub set: u32,
 }
 
 // An `st` with its operands.
@@ -72,15 +72,15 @@ pub(crate) struct StoreInstr<'a> {
 
 // Cuts the state to the outcome of the test. Returns whether anything is left.
 #[tactic(auto, using(crate::proofs::Slots::cut_slots))]
-fn cut(test: Test, on: bool, state: &mut AbsState) -> bool
+fn cut(test: PairTest, on: bool, state: &mut AbsState) -> bool
     requires { IsTest test }
     ensures left { left_in result state.new ≡ cut_by test on state.old }
     ensures slots { result ≡ true → state.new.slots ≡ state.old.slots }
 {
     match test {
-        Test::Flag(n) => flag_cut(state, n, on),
-        Test::Bit(r, bit) => bit_cut(state, r, bit, on),
-        Test::Equal(d, r) => equal_cut(state, d, r, on),
+        PairTest::Flag(n) => flag_cut(state, n, on),
+        PairTest::Bit(r, bit) => bit_cut(state, r, bit, on),
+        PairTest::Equal(d, r) => equal_cut(state, d, r, on),
     }
 }
 
@@ -88,9 +88,9 @@ fn cut(test: Test, on: bool, state: &mut AbsState) -> bool
 fn going_where(
     nodes: &mut Nodes,
     site: &Site<'_>,
-    test: Test,
+    test: PairTest,
     on: bool,
-    pc: u16,
+    pc: u32,
 ) -> Result<(), NodeFault>
     requires { IsTest test }
     ensures { Inserts nodes.old nodes.new result (going_where site.now.key.now (cut_by test on site.now.state.now) pc) }
@@ -104,7 +104,7 @@ fn going_where(
 fn both_ways(
     nodes: &mut Nodes,
     site: &Site<'_>,
-    test: Test,
+    test: PairTest,
     on: bool,
     ways: Ways,
 ) -> Result<(), NodeFault>
@@ -116,7 +116,12 @@ fn both_ways(
 }
 
 // To the next instruction if the test has the outcome, else past it.
-fn skip_unless(nodes: &mut Nodes, site: &Site<'_>, test: Test, on: bool) -> Result<(), NodeFault>
+fn skip_unless(
+    nodes: &mut Nodes,
+    site: &Site<'_>,
+    test: PairTest,
+    on: bool,
+) -> Result<(), NodeFault>
     requires test { IsTest test }
     ensures { Inserts nodes.old nodes.new result (skip_by site.now.flash.now (site_of site.now) test on) }
 {
@@ -185,7 +190,7 @@ pub(crate) fn row_through(
     instr: &Instr,
     refines: bool,
 ) -> Result<Outgoing, NodeFault>
-    ensures { Leads nodes.old nodes.new result (row_through site.now scratch instr.now refines) }
+    ensures { LeadsAs nodes.old nodes.new result (row_through site.now scratch instr.now refines) }
 {
     let so_far = mem::replace(nodes, Nodes::new(site.alloc));
     let mut moves = Moves::new(so_far, site, instr, refines);
@@ -202,12 +207,12 @@ fn paired_branch(
     instr: &Instr,
     branch: FlagBranch,
 ) -> Result<Outgoing, NodeFault>
-    ensures { Leads nodes.old nodes.new result (branched site.now scratch instr.now branch) }
+    ensures { LeadsAs nodes.old nodes.new result (branched site.now scratch instr.now branch) }
 {
     if branch.n.get() >= 7 {
         return row_through(nodes, site, scratch, instr, false);
     }
-    let test = Test::Flag(branch.n.get() as u8);
+    let test = PairTest::Flag(branch.n.get() as u8);
     let ways = Ways {
         pc: branch.clear,
         other: branch.set,
@@ -223,7 +228,7 @@ pub(crate) fn paired_row(
     scratch: bool,
     instr: &Instr,
 ) -> Result<Outgoing, NodeFault>
-    ensures { Leads nodes.old nodes.new result (paired_row (task_of site.now) scratch (site_of site.now) instr.now) }
+    ensures { LeadsAs nodes.old nodes.new result (paired_row (task_of site.now) scratch (site_of site.now) instr.now) }
 {
     let (a, device, key) = (site.alloc, site.device, site.key);
     match instr {
@@ -231,29 +236,29 @@ pub(crate) fn paired_row(
             let branch = FlagBranch {
                 n: *n,
                 clear: further(device, key, 1),
-                set: device.wrap(u32::from(near(key.pc, t.get()))),
+                set: device.wrap(near(key.pc, t.get())),
             };
             paired_branch(nodes, site, scratch, instr, branch)
         }
         Instr::Brbc(n, t) => {
             let branch = FlagBranch {
                 n: *n,
-                clear: device.wrap(u32::from(near(key.pc, t.get()))),
+                clear: device.wrap(near(key.pc, t.get())),
                 set: further(device, key, 1),
             };
             paired_branch(nodes, site, scratch, instr, branch)
         }
         Instr::Sbrc(r, bit) => {
-            let test = Test::Bit(r.get() as u8, bit.get() as u8);
+            let test = PairTest::Bit(r.get() as u8, bit.get() as u8);
             staying(a, skip_unless(nodes, site, test, true))
         }
         Instr::Sbrs(r, bit) => {
-            let test = Test::Bit(r.get() as u8, bit.get() as u8);
+            let test = PairTest::Bit(r.get() as u8, bit.get() as u8);
             staying(a, skip_unless(nodes, site, test, false))
         }
         Instr::Binary(op, d, r) => match op {
             BinaryOp::Cpse => {
-                let test = Test::Equal(d.get() as u8, r.get() as u8);
+                let test = PairTest::Equal(d.get() as u8, r.get() as u8);
                 staying(a, skip_unless(nodes, site, test, false))
             }
             _ => row_through(nodes, site, scratch, instr, true),

@@ -1,7 +1,7 @@
 //! Stores through a pointer.
 
 ghost use Rattle.std.specs.Prelude.{◌≡◌, false, length, IfOk, IfErr};
-ghost use Rattle.mask_states.specs.Keys.{offset_of};
+ghost use Rattle.node_keys.specs.Keys.{offset_of};
 ghost use Rattle.local_rules.specs.declared.local.NodeFault.TheVariants.{Memory};
 ghost use Rattle.local_rules.specs.Raw.{nowhere};
 ghost use Rattle.local_rules.specs.Writes.{listed_writes, written_at};
@@ -20,7 +20,7 @@ use local_reads::wakes::{PointerByte, may_enable_other};
 use local_rows::registers::value;
 use local_rules::SpView;
 use local_rules::local::NodeFault;
-use mask_states::{NodeKey, widened};
+use node_keys::{NodeKey, widened};
 use std::alloc::Global;
 
 /// An address in registers `r` and `r + 1`, plus a number.

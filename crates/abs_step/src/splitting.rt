@@ -5,7 +5,7 @@ ghost use Rattle.local_rules.specs.declared.local.NodeFault.TheVariants.{Memory}
 ghost use Rattle.local_rules.specs.Raw.{all_of};
 ghost use Rattle.local_rules.specs.Local as rows;
 ghost use Rattle.abs_step.specs.Adding.{Inserts, GathersToo, plain};
-ghost use Rattle.abs_step.specs.Leading.{Leads};
+ghost use Rattle.abs_step.specs.Leading.{LeadsAs};
 ghost use Rattle.abs_step.specs.Sites.{task_of, site_of, picked};
 
 use crate::flow::{Outgoing, staying};
@@ -15,17 +15,17 @@ use crate::site::Site;
 use crate::successors::copied;
 use local_reads::picks::picks;
 use local_rules::local::{NodeFault, Nodes};
-use mask_states::NodeKey;
+use node_keys::NodeKey;
 use pair_cuts::pick_cut;
 
 // The most bytes by which a node splits.
 const MOST_PICKS: usize = 64;
 
 // The word of the `ijmp` of the table at which the node splits, if that has no `jump` line.
-fn split_site(site: &Site<'_>) -> Option<u16>
+fn split_site(site: &Site<'_>) -> Option<u32>
     ensures { result ≡ rows.split_site (task_of site.now) site.now.key.now.pc site.now.key.now.pick }
 {
-    if site.key.pick.is_some() || u32::from(site.key.pc) >= site.flash.device().words() {
+    if site.key.pick.is_some() || site.key.pc >= site.flash.device().words() {
         return None;
     }
     let jump = site.flash.table_site(site.key.pc)?;
@@ -38,7 +38,7 @@ fn split_site(site: &Site<'_>) -> Option<u16>
 // The successors with this byte picked, if anything is left of the state.
 #[tactic(auto, using(crate::proofs::Slots::pick_slots))]
 fn with_pick(nodes: &mut Nodes, site: &Site<'_>, byte: u8) -> Result<Outgoing, NodeFault>
-    ensures { Leads nodes.old nodes.new result (picked site.now byte) }
+    ensures { LeadsAs nodes.old nodes.new result (picked site.now byte) }
 {
     let mut picked = copied(site.alloc, site.state)?;
     let left = pick_cut(&mut picked, byte);
@@ -100,7 +100,7 @@ fn all_picked(nodes: &mut Nodes, site: &Site<'_>, picks: &[u8]) -> Result<(), No
 }
 
 // Splits the node, if there are few enough bytes. `jump` is the word of its `ijmp`.
-fn split(nodes: &mut Nodes, site: &Site<'_>, jump: u16) -> Result<(), NodeFault>
+fn split(nodes: &mut Nodes, site: &Site<'_>, jump: u32) -> Result<(), NodeFault>
     ensures { Inserts nodes.old nodes.new result (rows.split_by (Some jump) (task_of site.now) (site_of site.now)) }
 {
     let picks = picks(site.alloc, site.state)?;
@@ -114,7 +114,7 @@ fn split(nodes: &mut Nodes, site: &Site<'_>, jump: u16) -> Result<(), NodeFault>
 
 // The successors of the node; if it splits, those with each possible byte of r30.
 pub(crate) fn splitting(nodes: &mut Nodes, site: &Site<'_>) -> Result<Outgoing, NodeFault>
-    ensures { Leads nodes.old nodes.new result (rows.split_row (task_of site.now) (site_of site.now)) }
+    ensures { LeadsAs nodes.old nodes.new result (rows.split_row (task_of site.now) (site_of site.now)) }
 {
     match split_site(site) {
         Some(jump) => staying(site.alloc, split(nodes, site, jump)),

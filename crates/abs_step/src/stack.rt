@@ -16,7 +16,7 @@ use avr_model::instruction::Register;
 use local_reads::reads::slot_value;
 use local_rows::registers::{set, value};
 use local_rules::local::NodeFault;
-use mask_states::SpForm;
+use node_keys::SpForm;
 use sp_domain::Slot;
 use std::alloc::Global;
 
@@ -87,7 +87,7 @@ pub fn pop_row(nodes: &mut Moves<'_>, site: &Site<'_>, d: Register) -> Result<()
 }
 
 /// A call of the next word: it makes room for a return address, and stays in its frame.
-pub fn room_row(nodes: &mut Moves<'_>, site: &Site<'_>, target: u16) -> Result<(), NodeFault>
+pub fn room_row(nodes: &mut Moves<'_>, site: &Site<'_>, target: u32) -> Result<(), NodeFault>
     ensures { Adds nodes.old nodes.new result (flow.room_row (site_of site.now) target) }
 {
     match site.key.sp {

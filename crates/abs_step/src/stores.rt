@@ -22,7 +22,7 @@ use local_rows::bits::I;
 use local_rows::registers::set;
 use local_rows::status::flags_written;
 use local_rules::local::NodeFault;
-use mask_states::{High, NodeKey, SpForm, split};
+use node_keys::{High, NodeKey, SpForm, split};
 use sp_domain::CarryTag;
 use std::alloc::Global;
 use vector_table::Masks;

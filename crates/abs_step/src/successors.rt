@@ -1,7 +1,7 @@
 //! Adds successors in the same instance to a list of nodes.
 
 ghost use Rattle.std.specs.Prelude.{◌≡◌, length, IfOk, IfErr};
-ghost use Rattle.mask_states.specs.Keys.{offset_of};
+ghost use Rattle.node_keys.specs.Keys.{offset_of};
 ghost use Rattle.local_rules.specs.declared.local.NodeFault.TheVariants.{Memory};
 ghost use Rattle.local_rules.specs.Raw.{one, two};
 ghost use Rattle.local_rules.specs.Raw as raw;
@@ -17,7 +17,7 @@ use avr_model::device::Device;
 use bit_domain::Tri;
 use local_reads::flow::further;
 use local_rules::local::NodeFault;
-use mask_states::NodeKey;
+use node_keys::NodeKey;
 use std::alloc::Global;
 
 /// A copy of the state.
@@ -47,7 +47,7 @@ pub fn changed(
 }
 
 /// The key at another word of the same instance.
-pub fn at_word(key: &NodeKey, pc: u16) -> NodeKey
+pub fn at_word(key: &NodeKey, pc: u32) -> NodeKey
     ensures { result ≡ raw.at_word key.now pc }
 {
     NodeKey {
@@ -58,7 +58,7 @@ pub fn at_word(key: &NodeKey, pc: u16) -> NodeKey
 }
 
 /// The key at another word after an indirect transfer, branch or skip, which ends the pick of a jump table.
-pub fn off_table(key: &NodeKey, pc: u16) -> NodeKey
+pub fn off_table(key: &NodeKey, pc: u32) -> NodeKey
     ensures { result ≡ raw.off_table key.now pc }
 {
     NodeKey {
@@ -107,7 +107,7 @@ pub fn add_two(
 }
 
 /// Continues at another word.
-pub fn going_to(nodes: &mut Moves<'_>, site: &Site<'_>, pc: u16) -> Result<(), NodeFault>
+pub fn going_to(nodes: &mut Moves<'_>, site: &Site<'_>, pc: u32) -> Result<(), NodeFault>
     ensures { Adds nodes.old nodes.new result (raw.going_to site.now.key.now site.now.state.now pc) }
 {
     add_copy(nodes, site.alloc, at_word(site.key, pc), site.state)
@@ -150,7 +150,7 @@ pub fn branch(
     nodes: &mut Moves<'_>,
     site: &Site<'_>,
     condition: Tri,
-    words: (u16, u16),
+    words: (u32, u32),
 ) -> Result<(), NodeFault>
     ensures { Adds nodes.old nodes.new result (branch condition site.now.key.now site.now.state.now words.0 words.1) }
 {

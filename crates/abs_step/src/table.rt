@@ -49,28 +49,22 @@ fn flow_row(
             let (masks, i, delay) = (key.masks, true, true);
             return returning(site, Exit { masks, i, delay });
         }
-        Instr::Jmp(t) => going_to(nodes, site, device.wrap(u32::from(t.get()))),
+        Instr::Jmp(t) => going_to(nodes, site, device.wrap(*t)),
         Instr::Call(t) => {
-            let targets = [device.wrap(u32::from(t.get()))];
+            let targets = [device.wrap(*t)];
             return calling(a, key, further(device, key, 2), &targets);
         }
-        Instr::Rjmp(t) => going_to(nodes, site, device.wrap(u32::from(far(key.pc, t.get())))),
+        Instr::Rjmp(t) => going_to(nodes, site, device.wrap(far(key.pc, t.get()))),
         Instr::Rcall(t) => {
-            let target = device.wrap(u32::from(far(key.pc, t.get())));
+            let target = device.wrap(far(key.pc, t.get()));
             return relative_call(nodes, site, scratch, target);
         }
         Instr::Brbs(n, t) => {
-            let words = (
-                device.wrap(u32::from(near(key.pc, t.get()))),
-                further(device, key, 1),
-            );
+            let words = (device.wrap(near(key.pc, t.get())), further(device, key, 1));
             flag_branch(nodes, site, *n, true, words)
         }
         Instr::Brbc(n, t) => {
-            let words = (
-                device.wrap(u32::from(near(key.pc, t.get()))),
-                further(device, key, 1),
-            );
+            let words = (device.wrap(near(key.pc, t.get())), further(device, key, 1));
             flag_branch(nodes, site, *n, false, words)
         }
         Instr::Sbic(port, bit) => port_skip(nodes, site, *port, *bit, false),

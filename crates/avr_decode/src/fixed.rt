@@ -1,7 +1,7 @@
 //! The rule of fixed stores: their pointer is loaded a few words before.
 
-ghost use Rattle.std.specs.Prelude.{◌≡◌, ◌<◌, ◌==◌, IfSome, if◌then◌else◌};
-ghost use Rattle.avr_model.specs.Devices.{IsFlash, image};
+ghost use Rattle.std.specs.Prelude.{◌≡◌, ◌<◌, ◌^◌, ◌==◌, IfSome, if◌then◌else◌};
+ghost use Rattle.avr_model.specs.Devices.{IsFlash, image_of};
 ghost use Rattle.avr_model.specs.Image.{word_at};
 ghost use Rattle.avr_model.specs.Sites.{leaves, sets, store_pointer, instruction_at, is_fixed};
 ghost use Rattle.avr_model.specs.Table.{length_of};
@@ -79,10 +79,10 @@ fn told_from(
     one: Option<PointerTold>,
     two: Option<PointerTold>,
 ) -> Option<PointerTold>
-    requires flash { IsFlash (image device words.now) }
-    requires room { at < 131072 }
+    requires flash { IsFlash (image_of device words.now) }
+    requires room { at < 2 ^ 33 }
     requires register { register < 31 }
-    ensures { result ≡ told_before register (instruction_at (image device words.now) at) (if length_of (word_at (image device words.now) at) == 1 then one else two) }
+    ensures { result ≡ told_before register (instruction_at (image_of device words.now) at) (if length_of (word_at (image_of device words.now) at) == 1 then one else two) }
 {
     let instr = instruction(device, words, at)?;
     let rest = if length(word(device, words, at)) == 1 {
@@ -113,9 +113,9 @@ fn loads(told: Option<PointerTold>, unset: bool) -> bool
 /// Whether word `a` is `st` or `std` with its pointer surely loaded just before. From some word 1 to 32 words before it, decoding forward
 /// reaches it exactly, through defined words without a jump, call, return, branch or skip, and the last instruction there that sets each
 /// register of the pointer is `ldi`. `words` are those of the device's flash, modulo whose number addresses count. Source: own.
-pub fn is_fixed(device: Device, words: &[u16], a: u16) -> bool
-    requires { IsFlash (image device words.now) }
-    ensures { result ≡ is_fixed (image device words.now) a }
+pub fn is_fixed(device: Device, words: &[u16], a: u32) -> bool
+    requires { IsFlash (image_of device words.now) }
+    ensures { result ≡ is_fixed (image_of device words.now) a }
 {
     let Some(instr) = instruction(device, words, a as usize) else {
         return false;
@@ -133,7 +133,7 @@ pub fn is_fixed(device: Device, words: &[u16], a: u16) -> bool
         let told = told_from(
             device,
             words,
-            usize::from(a) + WORDS - distance,
+            a as usize + WORDS - distance,
             register,
             one,
             two,

@@ -1,7 +1,7 @@
 //! The decoded form of a program's words.
 
 ghost use Rattle.std.specs.Prelude.{◌≤◌, IfOk, length};
-ghost use Rattle.avr_model.specs.Devices.{IsFlash, image};
+ghost use Rattle.avr_model.specs.Devices.{IsFlash, image_of};
 ghost use Rattle.avr_model.specs.Image.{AreErased};
 ghost use Rattle.avr_decode.specs.Reading.{AreReadings};
 
@@ -39,16 +39,16 @@ impl Reading {
     /// The decoded form of each word up to the last one that is not erased. `words` are those of the device's flash, modulo whose number
     /// addresses count.
     pub fn all(alloc: Global, device: Device, words: &[u16]) -> Result<Vec<Reading>, AllocError>
-        requires { IsFlash (image device words.now) }
-        ensures { IfOk result (λ v. AreReadings (image device words.now) v.items) }
+        requires { IsFlash (image_of device words.now) }
+        ensures { IfOk result (λ v. AreReadings (image_of device words.now) v.items) }
     {
         let count = written(words);
         let mut readings = Vec::with_capacity(alloc, count)?;
         for a in 0..count {
             readings.push(Reading {
                 instruction: instruction(device, words, a),
-                is_fixed: is_fixed(device, words, a as u16),
-                is_scratch: is_scratch(device, words, a as u16),
+                is_fixed: is_fixed(device, words, a as u32),
+                is_scratch: is_scratch(device, words, a as u32),
             })?;
         }
         Ok(readings)

@@ -8,7 +8,7 @@ use Rattle.avr_model.specs.declared.device.Device.{Device}
 use Rattle.avr_model.specs.declared.rows.Ivsel.{Ivsel}
 use Rattle.avr_model.specs.declared.assumption.Entry.{Entry}
 use Rattle.avr_model.specs.declared.effect.Write.{Write}
-use Rattle.avr_model.specs.Devices.{Program, device_row, device_of}
+use Rattle.avr_model.specs.Devices.{Image, device_row, device_of}
 use Rattle.avr_model.specs.Vectors.{is_core, is_bit_of, is_ivsel, sets_bit_of, sets_ivsel}
 use Rattle.avr_model.specs.Step.{moves_vectors}
 use Rattle.avr_model.proofs.AllLaws.{devices_are_alike, ivsel_is_apart}
@@ -79,17 +79,17 @@ set_or_not : (still sets : Bool) → sets ≡ false → false ≡ (still && (set
 set_or_not true sets h = λ i. sym h i || false
 set_or_not false sets h = refl
 
-pub none_moves : (words : Program) (A : List Entry) (w : Write) → sets_ivsel (device_of words) w.address w.byte ≡ false → false ≡ moves_at words A w
+pub none_moves : (image : Image) (A : List Entry) (w : Write) → sets_ivsel (device_of image) w.address w.byte ≡ false → false ≡ moves_at image A w
 unfolding moves_vectors
-none_moves words A w h = set_or_not (is_still words A) (sets_ivsel (device_of words) w.address w.byte) h
+none_moves image A w h = set_or_not (is_still image A) (sets_ivsel (device_of image) w.address w.byte) h
 
 set_and : (still sets : Bool) → sets ≡ true → still ≡ (still && (sets || false))
 set_and true sets h = λ i. sym h i || false
 set_and false sets h = refl
 
-pub moves : (words : Program) (A : List Entry) (w : Write) → sets_ivsel (device_of words) w.address w.byte ≡ true → is_still words A ≡ moves_at words A w
+pub moves : (image : Image) (A : List Entry) (w : Write) → sets_ivsel (device_of image) w.address w.byte ≡ true → is_still image A ≡ moves_at image A w
 unfolding moves_vectors
-moves words A w h = set_and (is_still words A) (sets_ivsel (device_of words) w.address w.byte) h
+moves image A w h = set_and (is_still image A) (sets_ivsel (device_of image) w.address w.byte) h
 
 outside : (d : Device) (a byte : ℕ) → (0x40 ≤ a → a < 0x0200 → ⊥) → false ≡ sets_ivsel d a byte
 outside d a byte out = elim (cases_Bool (sets_ivsel d a byte)) [

@@ -11,8 +11,8 @@ use Rattle.std.proofs.lemmas.List.{length-take, length-take-le, length-drop, get
 abbrev pub IsBitClear : ℕ → List Bool → Type 0
 IsBitClear floor flags = take floor flags ≡ replicate floor false
 
-pub none_live : (size : ℕ) → size ≤ 16384 → take size (replicate 16384 false) ≡ replicate size false
-none_live size le = take-replicate size 16384 false le
+pub none_live : (size : ℕ) → size ≤ 32768 → take size (replicate 32768 false) ≡ replicate size false
+none_live size le = take-replicate size 32768 false le
 
 pub has_taken : (size place : ℕ) (flags : List Bool) → place < size → slice_index_or flags place false ≡ slice_index_or (take size flags) place false
 has_taken size place flags lt = sym (get_or-take size flags place false lt)

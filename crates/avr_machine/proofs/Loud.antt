@@ -6,7 +6,7 @@ use Rattle.avr_model.specs.declared.instruction.Base.{Base}
 use Rattle.avr_model.specs.declared.instruction.Pointer.{Pointer}
 use Rattle.avr_model.specs.declared.assumption.Entry.{Entry}
 use Rattle.avr_model.specs.Assumptions.{jump_line, has_scratch}
-use Rattle.avr_model.specs.Devices.{Program, wrapped, back_of}
+use Rattle.avr_model.specs.Devices.{Image, wrapped, back_of}
 use Rattle.avr_model.specs.Sites.{base_register, is_scratch, pointer_register}
 use Rattle.avr_model.specs.State.{State, register, pair, plus16, minus_sp}
 use Rattle.avr_model.specs.Bits.{with_bit}
@@ -18,102 +18,102 @@ use Rattle.avr_machine.specs.Quiet.{is_quiet, is_still, protected_at, moves_at, 
 use Rattle.avr_model.proofs.AllLaws.{devices_are_alike}
 use Rattle.avr_machine.proofs.Quieting.{stored_answer, pushed_answer, jumped_answer, pointer_protected, none_protected, none_refused, call_refused, indirect_refused, jump_refused, guards_unless, guards_push}
 
-pub std_answer : (words : Program) (entries : List Entry) (m : State) (instr : Instr) (b1 b2 : ℕ) (b : Base) (n r : ℕ) → instr ≡ i.Std b n r
-    → store_answer m (protected_at words entries m.pc (record { address = (plus16 (pair m (base_register b)) n); byte = register m r })) (moves_at words entries (record { address = (plus16 (pair m (base_register b)) n); byte = register m r })) (storing m (plus16 (pair m (base_register b)) n) (register m r)) ≡ answer_to words entries m instr (effect_of words (is_still words entries) m instr b1 b2)
-std_answer words entries m instr b1 b2 b n r is =
-    subst (λ x. store_answer m (protected_at words entries m.pc (record { address = (plus16 (pair m (base_register b)) n); byte = register m r })) (moves_at words entries (record { address = (plus16 (pair m (base_register b)) n); byte = register m r })) (storing m (plus16 (pair m (base_register b)) n) (register m r)) ≡ answer_to words entries m x (effect_of words (is_still words entries) m x b1 b2)) (sym is)
-    (stored_answer words entries m (i.Std b n r) (storing m (plus16 (pair m (base_register b)) n) (register m r)) (protected_at words entries m.pc (record { address = (plus16 (pair m (base_register b)) n); byte = register m r })) refl refl refl (pointer_protected words entries m.pc (i.Std b n r) (storing m (plus16 (pair m (base_register b)) n) (register m r)) _ refl refl))
+pub std_answer : (image : Image) (entries : List Entry) (m : State) (instr : Instr) (b1 b2 : ℕ) (b : Base) (n r : ℕ) → instr ≡ i.Std b n r
+    → store_answer m (protected_at image entries m.pc (record { address = (plus16 (pair m (base_register b)) n); byte = register m r })) (moves_at image entries (record { address = (plus16 (pair m (base_register b)) n); byte = register m r })) (storing m (plus16 (pair m (base_register b)) n) (register m r)) ≡ answer_to image entries m instr (effect_of image (is_still image entries) m instr b1 b2)
+std_answer image entries m instr b1 b2 b n r is =
+    subst (λ x. store_answer m (protected_at image entries m.pc (record { address = (plus16 (pair m (base_register b)) n); byte = register m r })) (moves_at image entries (record { address = (plus16 (pair m (base_register b)) n); byte = register m r })) (storing m (plus16 (pair m (base_register b)) n) (register m r)) ≡ answer_to image entries m x (effect_of image (is_still image entries) m x b1 b2)) (sym is)
+    (stored_answer image entries m (i.Std b n r) (storing m (plus16 (pair m (base_register b)) n) (register m r)) (protected_at image entries m.pc (record { address = (plus16 (pair m (base_register b)) n); byte = register m r })) refl refl refl (pointer_protected image entries m.pc (i.Std b n r) (storing m (plus16 (pair m (base_register b)) n) (register m r)) _ refl refl))
 
-pub sts_answer : (words : Program) (entries : List Entry) (m : State) (instr : Instr) (b1 b2 : ℕ) (k r : ℕ) → instr ≡ i.Sts k r
-    → store_answer m None (moves_at words entries (record { address = k; byte = register m r })) (record (storing m k (register m r)) { pc = further m 2 }) ≡ answer_to words entries m instr (effect_of words (is_still words entries) m instr b1 b2)
-sts_answer words entries m instr b1 b2 k r is =
-    subst (λ x. store_answer m None (moves_at words entries (record { address = k; byte = register m r })) (record (storing m k (register m r)) { pc = further m 2 }) ≡ answer_to words entries m x (effect_of words (is_still words entries) m x b1 b2)) (sym is)
-    (stored_answer words entries m (i.Sts k r) (record (storing m k (register m r)) { pc = further m 2 }) None refl refl refl (none_protected words entries m.pc (i.Sts k r) (record (storing m k (register m r)) { pc = further m 2 }) refl))
+pub sts_answer : (image : Image) (entries : List Entry) (m : State) (instr : Instr) (b1 b2 : ℕ) (k r : ℕ) → instr ≡ i.Sts k r
+    → store_answer m None (moves_at image entries (record { address = k; byte = register m r })) (record (storing m k (register m r)) { pc = further m 2 }) ≡ answer_to image entries m instr (effect_of image (is_still image entries) m instr b1 b2)
+sts_answer image entries m instr b1 b2 k r is =
+    subst (λ x. store_answer m None (moves_at image entries (record { address = k; byte = register m r })) (record (storing m k (register m r)) { pc = further m 2 }) ≡ answer_to image entries m x (effect_of image (is_still image entries) m x b1 b2)) (sym is)
+    (stored_answer image entries m (i.Sts k r) (record (storing m k (register m r)) { pc = further m 2 }) None refl refl refl (none_protected image entries m.pc (i.Sts k r) (record (storing m k (register m r)) { pc = further m 2 }) refl))
 
-pub st_answer : (words : Program) (entries : List Entry) (m : State) (instr : Instr) (b1 b2 : ℕ) (p : Pointer) (r : ℕ) → instr ≡ i.St p r
-    → store_answer m (protected_at words entries m.pc (record { address = pointed p (pair m (pointer_register p)); byte = register m r })) (moves_at words entries (record { address = pointed p (pair m (pointer_register p)); byte = register m r })) (store_effect m p r) ≡ answer_to words entries m instr (effect_of words (is_still words entries) m instr b1 b2)
-st_answer words entries m instr b1 b2 p r is =
-    subst (λ x. store_answer m (protected_at words entries m.pc (record { address = pointed p (pair m (pointer_register p)); byte = register m r })) (moves_at words entries (record { address = pointed p (pair m (pointer_register p)); byte = register m r })) (store_effect m p r) ≡ answer_to words entries m x (effect_of words (is_still words entries) m x b1 b2)) (sym is)
-    (stored_answer words entries m (i.St p r) (store_effect m p r) (protected_at words entries m.pc (record { address = pointed p (pair m (pointer_register p)); byte = register m r })) refl refl refl (pointer_protected words entries m.pc (i.St p r) (store_effect m p r) _ refl refl))
+pub st_answer : (image : Image) (entries : List Entry) (m : State) (instr : Instr) (b1 b2 : ℕ) (p : Pointer) (r : ℕ) → instr ≡ i.St p r
+    → store_answer m (protected_at image entries m.pc (record { address = pointed p (pair m (pointer_register p)); byte = register m r })) (moves_at image entries (record { address = pointed p (pair m (pointer_register p)); byte = register m r })) (store_effect m p r) ≡ answer_to image entries m instr (effect_of image (is_still image entries) m instr b1 b2)
+st_answer image entries m instr b1 b2 p r is =
+    subst (λ x. store_answer m (protected_at image entries m.pc (record { address = pointed p (pair m (pointer_register p)); byte = register m r })) (moves_at image entries (record { address = pointed p (pair m (pointer_register p)); byte = register m r })) (store_effect m p r) ≡ answer_to image entries m x (effect_of image (is_still image entries) m x b1 b2)) (sym is)
+    (stored_answer image entries m (i.St p r) (store_effect m p r) (protected_at image entries m.pc (record { address = pointed p (pair m (pointer_register p)); byte = register m r })) refl refl refl (pointer_protected image entries m.pc (i.St p r) (store_effect m p r) _ refl refl))
 
-pub out_answer : (words : Program) (entries : List Entry) (m : State) (instr : Instr) (b1 b2 : ℕ) (a r : ℕ) → instr ≡ i.Out a r
-    → store_answer m None (moves_at words entries (record { address = port a; byte = register m r })) (out_effect m (port a) (register m r)) ≡ answer_to words entries m instr (effect_of words (is_still words entries) m instr b1 b2)
-out_answer words entries m instr b1 b2 a r is =
-    subst (λ x. store_answer m None (moves_at words entries (record { address = port a; byte = register m r })) (out_effect m (port a) (register m r)) ≡ answer_to words entries m x (effect_of words (is_still words entries) m x b1 b2)) (sym is)
-    (stored_answer words entries m (i.Out a r) (out_effect m (port a) (register m r)) None refl refl refl (none_protected words entries m.pc (i.Out a r) (out_effect m (port a) (register m r)) refl))
+pub out_answer : (image : Image) (entries : List Entry) (m : State) (instr : Instr) (b1 b2 : ℕ) (a r : ℕ) → instr ≡ i.Out a r
+    → store_answer m None (moves_at image entries (record { address = port a; byte = register m r })) (out_effect m (port a) (register m r)) ≡ answer_to image entries m instr (effect_of image (is_still image entries) m instr b1 b2)
+out_answer image entries m instr b1 b2 a r is =
+    subst (λ x. store_answer m None (moves_at image entries (record { address = port a; byte = register m r })) (out_effect m (port a) (register m r)) ≡ answer_to image entries m x (effect_of image (is_still image entries) m x b1 b2)) (sym is)
+    (stored_answer image entries m (i.Out a r) (out_effect m (port a) (register m r)) None refl refl refl (none_protected image entries m.pc (i.Out a r) (out_effect m (port a) (register m r)) refl))
 
-pub cbi_answer : (words : Program) (entries : List Entry) (m : State) (instr : Instr) (b1 b2 : ℕ) (a b : ℕ) → instr ≡ i.Cbi a b
-    → store_answer m None (moves_at words entries (record { address = port a; byte = with_bit (kept_byte m.device m.enables (port a)) b false })) (bit_effect m (port a) b false) ≡ answer_to words entries m instr (effect_of words (is_still words entries) m instr b1 b2)
-cbi_answer words entries m instr b1 b2 a b is =
-    subst (λ x. store_answer m None (moves_at words entries (record { address = port a; byte = with_bit (kept_byte m.device m.enables (port a)) b false })) (bit_effect m (port a) b false) ≡ answer_to words entries m x (effect_of words (is_still words entries) m x b1 b2)) (sym is)
-    (stored_answer words entries m (i.Cbi a b) (bit_effect m (port a) b false) None refl refl refl (none_protected words entries m.pc (i.Cbi a b) (bit_effect m (port a) b false) refl))
+pub cbi_answer : (image : Image) (entries : List Entry) (m : State) (instr : Instr) (b1 b2 : ℕ) (a b : ℕ) → instr ≡ i.Cbi a b
+    → store_answer m None (moves_at image entries (record { address = port a; byte = with_bit (kept_byte m.device m.enables (port a)) b false })) (bit_effect m (port a) b false) ≡ answer_to image entries m instr (effect_of image (is_still image entries) m instr b1 b2)
+cbi_answer image entries m instr b1 b2 a b is =
+    subst (λ x. store_answer m None (moves_at image entries (record { address = port a; byte = with_bit (kept_byte m.device m.enables (port a)) b false })) (bit_effect m (port a) b false) ≡ answer_to image entries m x (effect_of image (is_still image entries) m x b1 b2)) (sym is)
+    (stored_answer image entries m (i.Cbi a b) (bit_effect m (port a) b false) None refl refl refl (none_protected image entries m.pc (i.Cbi a b) (bit_effect m (port a) b false) refl))
 
-pub sbi_answer : (words : Program) (entries : List Entry) (m : State) (instr : Instr) (b1 b2 : ℕ) (a b : ℕ) → instr ≡ i.Sbi a b
-    → store_answer m None (moves_at words entries (record { address = port a; byte = with_bit (kept_byte m.device m.enables (port a)) b true })) (bit_effect m (port a) b true) ≡ answer_to words entries m instr (effect_of words (is_still words entries) m instr b1 b2)
-sbi_answer words entries m instr b1 b2 a b is =
-    subst (λ x. store_answer m None (moves_at words entries (record { address = port a; byte = with_bit (kept_byte m.device m.enables (port a)) b true })) (bit_effect m (port a) b true) ≡ answer_to words entries m x (effect_of words (is_still words entries) m x b1 b2)) (sym is)
-    (stored_answer words entries m (i.Sbi a b) (bit_effect m (port a) b true) None refl refl refl (none_protected words entries m.pc (i.Sbi a b) (bit_effect m (port a) b true) refl))
+pub sbi_answer : (image : Image) (entries : List Entry) (m : State) (instr : Instr) (b1 b2 : ℕ) (a b : ℕ) → instr ≡ i.Sbi a b
+    → store_answer m None (moves_at image entries (record { address = port a; byte = with_bit (kept_byte m.device m.enables (port a)) b true })) (bit_effect m (port a) b true) ≡ answer_to image entries m instr (effect_of image (is_still image entries) m instr b1 b2)
+sbi_answer image entries m instr b1 b2 a b is =
+    subst (λ x. store_answer m None (moves_at image entries (record { address = port a; byte = with_bit (kept_byte m.device m.enables (port a)) b true })) (bit_effect m (port a) b true) ≡ answer_to image entries m x (effect_of image (is_still image entries) m x b1 b2)) (sym is)
+    (stored_answer image entries m (i.Sbi a b) (bit_effect m (port a) b true) None refl refl refl (none_protected image entries m.pc (i.Sbi a b) (bit_effect m (port a) b true) refl))
 
-pub push_row : (words : Program) (entries : List Entry) (m : State) (instr : Instr) (b1 b2 : ℕ) (r : ℕ) → instr ≡ i.Push r
-    → push_answer (not (is_scratch words m.pc || has_scratch entries m.pc)) m None (set m.sp (register m r)) (minus_sp m.device m.sp 1) (further m 1) ≡ answer_to words entries m instr (effect_of words (is_still words entries) m instr b1 b2)
-push_row words entries m instr b1 b2 r is =
-    subst (λ x. push_answer (not (is_scratch words m.pc || has_scratch entries m.pc)) m None (set m.sp (register m r)) (minus_sp m.device m.sp 1) (further m 1) ≡ answer_to words entries m x (effect_of words (is_still words entries) m x b1 b2)) (sym is)
-    (pushed_answer words entries m (i.Push r) (set m.sp (register m r)) (minus_sp m.device m.sp 1) (further m 1) (not (is_scratch words m.pc || has_scratch entries m.pc)) None refl (guards_push words entries m.pc r) (none_refused words entries m (i.Push r) (push_effect_to m (set m.sp (register m r)) (minus_sp m.device m.sp 1) (further m 1)) refl refl))
+pub push_row : (image : Image) (entries : List Entry) (m : State) (instr : Instr) (b1 b2 : ℕ) (r : ℕ) → instr ≡ i.Push r
+    → push_answer (not (is_scratch image m.pc || has_scratch entries m.pc)) m None (set m.sp (register m r)) (minus_sp m.device m.sp 1) (further m 1) ≡ answer_to image entries m instr (effect_of image (is_still image entries) m instr b1 b2)
+push_row image entries m instr b1 b2 r is =
+    subst (λ x. push_answer (not (is_scratch image m.pc || has_scratch entries m.pc)) m None (set m.sp (register m r)) (minus_sp m.device m.sp 1) (further m 1) ≡ answer_to image entries m x (effect_of image (is_still image entries) m x b1 b2)) (sym is)
+    (pushed_answer image entries m (i.Push r) (set m.sp (register m r)) (minus_sp m.device m.sp 1) (further m 1) (not (is_scratch image m.pc || has_scratch entries m.pc)) None refl (guards_push image entries m.pc r) (none_refused image entries m (i.Push r) (push_effect_to m (set m.sp (register m r)) (minus_sp m.device m.sp 1) (further m 1)) refl refl))
 
-pub call_row : (words : Program) (entries : List Entry) (m : State) (instr : Instr) (b1 b2 : ℕ) (k : ℕ) → instr ≡ i.Call k
-    → push_answer (not (is_scratch words m.pc)) m (refused_at words entries m None (wrapped m.device k)) (way_back m.device m.sp (further m 2)) (minus_sp m.device m.sp (back_of m.device)) (k) ≡ answer_to words entries m instr (effect_of words (is_still words entries) m instr b1 b2)
-call_row words entries m instr b1 b2 k is =
-    subst (λ x. push_answer (not (is_scratch words m.pc)) m (refused_at words entries m None (wrapped m.device k)) (way_back m.device m.sp (further m 2)) (minus_sp m.device m.sp (back_of m.device)) (k) ≡ answer_to words entries m x (effect_of words (is_still words entries) m x b1 b2)) (sym is)
-    (pushed_answer words entries m (i.Call k) (way_back m.device m.sp (further m 2)) (minus_sp m.device m.sp (back_of m.device)) (k) (not (is_scratch words m.pc)) (refused_at words entries m None (wrapped m.device k)) refl (guards_unless words entries m.pc (i.Call k) refl) (call_refused words entries m (i.Call k) (push_effect_to m (way_back m.device m.sp (further m 2)) (minus_sp m.device m.sp (back_of m.device)) (k)) refl refl))
+pub call_row : (image : Image) (entries : List Entry) (m : State) (instr : Instr) (b1 b2 : ℕ) (k : ℕ) → instr ≡ i.Call k
+    → push_answer (not (is_scratch image m.pc)) m (refused_at image entries m None (wrapped m.device k)) (way_back m.device m.sp (further m 2)) (minus_sp m.device m.sp (back_of m.device)) (k) ≡ answer_to image entries m instr (effect_of image (is_still image entries) m instr b1 b2)
+call_row image entries m instr b1 b2 k is =
+    subst (λ x. push_answer (not (is_scratch image m.pc)) m (refused_at image entries m None (wrapped m.device k)) (way_back m.device m.sp (further m 2)) (minus_sp m.device m.sp (back_of m.device)) (k) ≡ answer_to image entries m x (effect_of image (is_still image entries) m x b1 b2)) (sym is)
+    (pushed_answer image entries m (i.Call k) (way_back m.device m.sp (further m 2)) (minus_sp m.device m.sp (back_of m.device)) (k) (not (is_scratch image m.pc)) (refused_at image entries m None (wrapped m.device k)) refl (guards_unless image entries m.pc (i.Call k) refl) (call_refused image entries m (i.Call k) (push_effect_to m (way_back m.device m.sp (further m 2)) (minus_sp m.device m.sp (back_of m.device)) (k)) refl refl))
 
-pub rcall_row : (words : Program) (entries : List Entry) (m : State) (instr : Instr) (b1 b2 : ℕ) (k : ℕ) → instr ≡ i.Rcall k
-    → push_answer (not (is_scratch words m.pc)) m (refused_at words entries m None (wrapped m.device (far m.pc k))) (way_back m.device m.sp (further m 1)) (minus_sp m.device m.sp (back_of m.device)) (far m.pc k) ≡ answer_to words entries m instr (effect_of words (is_still words entries) m instr b1 b2)
-rcall_row words entries m instr b1 b2 k is =
-    subst (λ x. push_answer (not (is_scratch words m.pc)) m (refused_at words entries m None (wrapped m.device (far m.pc k))) (way_back m.device m.sp (further m 1)) (minus_sp m.device m.sp (back_of m.device)) (far m.pc k) ≡ answer_to words entries m x (effect_of words (is_still words entries) m x b1 b2)) (sym is)
-    (pushed_answer words entries m (i.Rcall k) (way_back m.device m.sp (further m 1)) (minus_sp m.device m.sp (back_of m.device)) (far m.pc k) (not (is_scratch words m.pc)) (refused_at words entries m None (wrapped m.device (far m.pc k))) refl (guards_unless words entries m.pc (i.Rcall k) refl) (call_refused words entries m (i.Rcall k) (push_effect_to m (way_back m.device m.sp (further m 1)) (minus_sp m.device m.sp (back_of m.device)) (far m.pc k)) refl refl))
+pub rcall_row : (image : Image) (entries : List Entry) (m : State) (instr : Instr) (b1 b2 : ℕ) (k : ℕ) → instr ≡ i.Rcall k
+    → push_answer (not (is_scratch image m.pc)) m (refused_at image entries m None (wrapped m.device (far m.pc k))) (way_back m.device m.sp (further m 1)) (minus_sp m.device m.sp (back_of m.device)) (far m.pc k) ≡ answer_to image entries m instr (effect_of image (is_still image entries) m instr b1 b2)
+rcall_row image entries m instr b1 b2 k is =
+    subst (λ x. push_answer (not (is_scratch image m.pc)) m (refused_at image entries m None (wrapped m.device (far m.pc k))) (way_back m.device m.sp (further m 1)) (minus_sp m.device m.sp (back_of m.device)) (far m.pc k) ≡ answer_to image entries m x (effect_of image (is_still image entries) m x b1 b2)) (sym is)
+    (pushed_answer image entries m (i.Rcall k) (way_back m.device m.sp (further m 1)) (minus_sp m.device m.sp (back_of m.device)) (far m.pc k) (not (is_scratch image m.pc)) (refused_at image entries m None (wrapped m.device (far m.pc k))) refl (guards_unless image entries m.pc (i.Rcall k) refl) (call_refused image entries m (i.Rcall k) (push_effect_to m (way_back m.device m.sp (further m 1)) (minus_sp m.device m.sp (back_of m.device)) (far m.pc k)) refl refl))
 
-pub icall_row : (words : Program) (entries : List Entry) (m : State) (instr : Instr) (b1 b2 : ℕ) → instr ≡ i.Icall
-    → push_answer (not (is_scratch words m.pc)) m (refused_at words entries m (unless_listed (jump_line entries m.pc) (wrapped m.device (pair m 30))) (wrapped m.device (pair m 30))) (way_back m.device m.sp (further m 1)) (minus_sp m.device m.sp (back_of m.device)) (pair m 30) ≡ answer_to words entries m instr (effect_of words (is_still words entries) m instr b1 b2)
-icall_row words entries m instr b1 b2 is =
-    subst (λ x. push_answer (not (is_scratch words m.pc)) m (refused_at words entries m (unless_listed (jump_line entries m.pc) (wrapped m.device (pair m 30))) (wrapped m.device (pair m 30))) (way_back m.device m.sp (further m 1)) (minus_sp m.device m.sp (back_of m.device)) (pair m 30) ≡ answer_to words entries m x (effect_of words (is_still words entries) m x b1 b2)) (sym is)
-    (pushed_answer words entries m i.Icall (way_back m.device m.sp (further m 1)) (minus_sp m.device m.sp (back_of m.device)) (pair m 30) (not (is_scratch words m.pc)) (refused_at words entries m (unless_listed (jump_line entries m.pc) (wrapped m.device (pair m 30))) (wrapped m.device (pair m 30))) refl (guards_unless words entries m.pc i.Icall refl) (indirect_refused words entries m i.Icall (push_effect_to m (way_back m.device m.sp (further m 1)) (minus_sp m.device m.sp (back_of m.device)) (pair m 30)) refl refl))
+pub icall_row : (image : Image) (entries : List Entry) (m : State) (instr : Instr) (b1 b2 : ℕ) → instr ≡ i.Icall
+    → push_answer (not (is_scratch image m.pc)) m (refused_at image entries m (unless_listed (jump_line entries m.pc) (wrapped m.device (pair m 30))) (wrapped m.device (pair m 30))) (way_back m.device m.sp (further m 1)) (minus_sp m.device m.sp (back_of m.device)) (pair m 30) ≡ answer_to image entries m instr (effect_of image (is_still image entries) m instr b1 b2)
+icall_row image entries m instr b1 b2 is =
+    subst (λ x. push_answer (not (is_scratch image m.pc)) m (refused_at image entries m (unless_listed (jump_line entries m.pc) (wrapped m.device (pair m 30))) (wrapped m.device (pair m 30))) (way_back m.device m.sp (further m 1)) (minus_sp m.device m.sp (back_of m.device)) (pair m 30) ≡ answer_to image entries m x (effect_of image (is_still image entries) m x b1 b2)) (sym is)
+    (pushed_answer image entries m i.Icall (way_back m.device m.sp (further m 1)) (minus_sp m.device m.sp (back_of m.device)) (pair m 30) (not (is_scratch image m.pc)) (refused_at image entries m (unless_listed (jump_line entries m.pc) (wrapped m.device (pair m 30))) (wrapped m.device (pair m 30))) refl (guards_unless image entries m.pc i.Icall refl) (indirect_refused image entries m i.Icall (push_effect_to m (way_back m.device m.sp (further m 1)) (minus_sp m.device m.sp (back_of m.device)) (pair m 30)) refl refl))
 
-pub ijmp_row : (words : Program) (entries : List Entry) (m : State) (instr : Instr) (b1 b2 : ℕ) → instr ≡ i.Ijmp
-    → jump_answer m (unless_listed (jump_line entries m.pc) (wrapped m.device (pair m 30))) (pair m 30) ≡ answer_to words entries m instr (effect_of words (is_still words entries) m instr b1 b2)
-ijmp_row words entries m instr b1 b2 is =
-    subst (λ x. jump_answer m (unless_listed (jump_line entries m.pc) (wrapped m.device (pair m 30))) (pair m 30) ≡ answer_to words entries m x (effect_of words (is_still words entries) m x b1 b2)) (sym is)
-    (jumped_answer words entries m i.Ijmp (pair m 30) (unless_listed (jump_line entries m.pc) (wrapped m.device (pair m 30))) refl (jump_refused words entries m i.Ijmp (going_to m (pair m 30)) refl refl))
+pub ijmp_row : (image : Image) (entries : List Entry) (m : State) (instr : Instr) (b1 b2 : ℕ) → instr ≡ i.Ijmp
+    → jump_answer m (unless_listed (jump_line entries m.pc) (wrapped m.device (pair m 30))) (pair m 30) ≡ answer_to image entries m instr (effect_of image (is_still image entries) m instr b1 b2)
+ijmp_row image entries m instr b1 b2 is =
+    subst (λ x. jump_answer m (unless_listed (jump_line entries m.pc) (wrapped m.device (pair m 30))) (pair m 30) ≡ answer_to image entries m x (effect_of image (is_still image entries) m x b1 b2)) (sym is)
+    (jumped_answer image entries m i.Ijmp (pair m 30) (unless_listed (jump_line entries m.pc) (wrapped m.device (pair m 30))) refl (jump_refused image entries m i.Ijmp (going_to m (pair m 30)) refl refl))
 
 -- stores, with given parts
-pub std_row : (words : Program) (entries : List Entry) (m : State) (instr : Instr) (b1 b2 : ℕ) (b : Base) (n r address byte next : ℕ) (protected : Option ℕ) → instr ≡ i.Std b n r → address ≡ plus16 (pair m (base_register b)) n → byte ≡ register m r → next ≡ further m 1 → protected ≡ protected_at words entries m.pc (record { address = address; byte = byte })
-    → store_answer m protected (moves_at words entries (record { address = address; byte = byte })) (record (storing m address byte) { pc = next; delay = false }) ≡ answer_to words entries m instr (effect_of words (is_still words entries) m instr b1 b2)
-std_row words entries m instr b1 b2 b n r address byte next protected is at held to told =
-    ap₂ (λ (protected : Option ℕ) (next : ℕ). store_answer m protected (moves_at words entries (record { address = address; byte = byte })) (record (storing m address byte) { pc = next; delay = false })) told (to ∙ sym (devices_are_alike.twice m.device (m.pc + 1)))
-    ∙ ap₂ (λ (address byte : ℕ). store_answer m (protected_at words entries m.pc (record { address = address; byte = byte })) (moves_at words entries (record { address = address; byte = byte })) (storing m address byte)) at held
-    ∙ std_answer words entries m instr b1 b2 b n r is
+pub std_row : (image : Image) (entries : List Entry) (m : State) (instr : Instr) (b1 b2 : ℕ) (b : Base) (n r address byte next : ℕ) (protected : Option ℕ) → instr ≡ i.Std b n r → address ≡ plus16 (pair m (base_register b)) n → byte ≡ register m r → next ≡ further m 1 → protected ≡ protected_at image entries m.pc (record { address = address; byte = byte })
+    → store_answer m protected (moves_at image entries (record { address = address; byte = byte })) (record (storing m address byte) { pc = next; delay = false }) ≡ answer_to image entries m instr (effect_of image (is_still image entries) m instr b1 b2)
+std_row image entries m instr b1 b2 b n r address byte next protected is at held to told =
+    ap₂ (λ (protected : Option ℕ) (next : ℕ). store_answer m protected (moves_at image entries (record { address = address; byte = byte })) (record (storing m address byte) { pc = next; delay = false })) told (to ∙ sym (devices_are_alike.twice m.device (m.pc + 1)))
+    ∙ ap₂ (λ (address byte : ℕ). store_answer m (protected_at image entries m.pc (record { address = address; byte = byte })) (moves_at image entries (record { address = address; byte = byte })) (storing m address byte)) at held
+    ∙ std_answer image entries m instr b1 b2 b n r is
 
-pub sts_row : (words : Program) (entries : List Entry) (m : State) (instr : Instr) (b1 b2 : ℕ) (k r byte next : ℕ) → instr ≡ i.Sts k r → byte ≡ register m r → next ≡ further m 2
-    → store_answer m None (moves_at words entries (record { address = k; byte = byte })) (record (storing m k byte) { pc = next; delay = false }) ≡ answer_to words entries m instr (effect_of words (is_still words entries) m instr b1 b2)
-sts_row words entries m instr b1 b2 k r byte next is held to =
-    ap₂ (λ (byte next : ℕ). store_answer m None (moves_at words entries (record { address = k; byte = byte })) (record (storing m k byte) { pc = next; delay = false })) held to ∙ sts_answer words entries m instr b1 b2 k r is
+pub sts_row : (image : Image) (entries : List Entry) (m : State) (instr : Instr) (b1 b2 : ℕ) (k r byte next : ℕ) → instr ≡ i.Sts k r → byte ≡ register m r → next ≡ further m 2
+    → store_answer m None (moves_at image entries (record { address = k; byte = byte })) (record (storing m k byte) { pc = next; delay = false }) ≡ answer_to image entries m instr (effect_of image (is_still image entries) m instr b1 b2)
+sts_row image entries m instr b1 b2 k r byte next is held to =
+    ap₂ (λ (byte next : ℕ). store_answer m None (moves_at image entries (record { address = k; byte = byte })) (record (storing m k byte) { pc = next; delay = false })) held to ∙ sts_answer image entries m instr b1 b2 k r is
 
 -- a call, with given words
-pub call_answer : (words : Program) (entries : List Entry) (m : State) (instr : Instr) (b1 b2 : ℕ) (k back target : ℕ) → instr ≡ i.Call k → back ≡ further m 2 → target ≡ k
-    → push_answer (not (is_scratch words m.pc)) m (refused_at words entries m None (wrapped m.device target)) (way_back m.device m.sp back) (minus_sp m.device m.sp (back_of m.device)) target ≡ answer_to words entries m instr (effect_of words (is_still words entries) m instr b1 b2)
-call_answer words entries m instr b1 b2 k back target is there to =
-    ap₂ (λ (back target : ℕ). push_answer (not (is_scratch words m.pc)) m (refused_at words entries m None (wrapped m.device target)) (way_back m.device m.sp back) (minus_sp m.device m.sp (back_of m.device)) target) there to ∙ call_row words entries m instr b1 b2 k is
+pub call_answer : (image : Image) (entries : List Entry) (m : State) (instr : Instr) (b1 b2 : ℕ) (k back target : ℕ) → instr ≡ i.Call k → back ≡ further m 2 → target ≡ k
+    → push_answer (not (is_scratch image m.pc)) m (refused_at image entries m None (wrapped m.device target)) (way_back m.device m.sp back) (minus_sp m.device m.sp (back_of m.device)) target ≡ answer_to image entries m instr (effect_of image (is_still image entries) m instr b1 b2)
+call_answer image entries m instr b1 b2 k back target is there to =
+    ap₂ (λ (back target : ℕ). push_answer (not (is_scratch image m.pc)) m (refused_at image entries m None (wrapped m.device target)) (way_back m.device m.sp back) (minus_sp m.device m.sp (back_of m.device)) target) there to ∙ call_row image entries m instr b1 b2 k is
 
-pub rcall_answer : (words : Program) (entries : List Entry) (m : State) (instr : Instr) (b1 b2 : ℕ) (k back target : ℕ) → instr ≡ i.Rcall k → back ≡ further m 1 → target ≡ far m.pc k
-    → push_answer (not (is_scratch words m.pc)) m (refused_at words entries m None (wrapped m.device target)) (way_back m.device m.sp back) (minus_sp m.device m.sp (back_of m.device)) target ≡ answer_to words entries m instr (effect_of words (is_still words entries) m instr b1 b2)
-rcall_answer words entries m instr b1 b2 k back target is there to =
-    ap₂ (λ (back target : ℕ). push_answer (not (is_scratch words m.pc)) m (refused_at words entries m None (wrapped m.device target)) (way_back m.device m.sp back) (minus_sp m.device m.sp (back_of m.device)) target) there to ∙ rcall_row words entries m instr b1 b2 k is
+pub rcall_answer : (image : Image) (entries : List Entry) (m : State) (instr : Instr) (b1 b2 : ℕ) (k back target : ℕ) → instr ≡ i.Rcall k → back ≡ further m 1 → target ≡ far m.pc k
+    → push_answer (not (is_scratch image m.pc)) m (refused_at image entries m None (wrapped m.device target)) (way_back m.device m.sp back) (minus_sp m.device m.sp (back_of m.device)) target ≡ answer_to image entries m instr (effect_of image (is_still image entries) m instr b1 b2)
+rcall_answer image entries m instr b1 b2 k back target is there to =
+    ap₂ (λ (back target : ℕ). push_answer (not (is_scratch image m.pc)) m (refused_at image entries m None (wrapped m.device target)) (way_back m.device m.sp back) (minus_sp m.device m.sp (back_of m.device)) target) there to ∙ rcall_row image entries m instr b1 b2 k is
 
-pub icall_answer : (words : Program) (entries : List Entry) (m : State) (instr : Instr) (b1 b2 : ℕ) (unlisted : Option ℕ) (back target : ℕ) → instr ≡ i.Icall → unlisted ≡ unless_listed (jump_line entries m.pc) (wrapped m.device (pair m 30)) → back ≡ further m 1 → target ≡ pair m 30
-    → push_answer (not (is_scratch words m.pc)) m (refused_at words entries m unlisted (wrapped m.device target)) (way_back m.device m.sp back) (minus_sp m.device m.sp (back_of m.device)) target ≡ answer_to words entries m instr (effect_of words (is_still words entries) m instr b1 b2)
-icall_answer words entries m instr b1 b2 unlisted back target is other there to =
-    ap (λ (o : Option ℕ). push_answer (not (is_scratch words m.pc)) m (refused_at words entries m o (wrapped m.device target)) (way_back m.device m.sp back) (minus_sp m.device m.sp (back_of m.device)) target) other
-    ∙ ap₂ (λ (back target : ℕ). push_answer (not (is_scratch words m.pc)) m (refused_at words entries m (unless_listed (jump_line entries m.pc) (wrapped m.device (pair m 30))) (wrapped m.device target)) (way_back m.device m.sp back) (minus_sp m.device m.sp (back_of m.device)) target) there to
-    ∙ icall_row words entries m instr b1 b2 is
+pub icall_answer : (image : Image) (entries : List Entry) (m : State) (instr : Instr) (b1 b2 : ℕ) (unlisted : Option ℕ) (back target : ℕ) → instr ≡ i.Icall → unlisted ≡ unless_listed (jump_line entries m.pc) (wrapped m.device (pair m 30)) → back ≡ further m 1 → target ≡ pair m 30
+    → push_answer (not (is_scratch image m.pc)) m (refused_at image entries m unlisted (wrapped m.device target)) (way_back m.device m.sp back) (minus_sp m.device m.sp (back_of m.device)) target ≡ answer_to image entries m instr (effect_of image (is_still image entries) m instr b1 b2)
+icall_answer image entries m instr b1 b2 unlisted back target is other there to =
+    ap (λ (o : Option ℕ). push_answer (not (is_scratch image m.pc)) m (refused_at image entries m o (wrapped m.device target)) (way_back m.device m.sp back) (minus_sp m.device m.sp (back_of m.device)) target) other
+    ∙ ap₂ (λ (back target : ℕ). push_answer (not (is_scratch image m.pc)) m (refused_at image entries m (unless_listed (jump_line entries m.pc) (wrapped m.device (pair m 30))) (wrapped m.device target)) (way_back m.device m.sp back) (minus_sp m.device m.sp (back_of m.device)) target) there to
+    ∙ icall_row image entries m instr b1 b2 is
 
 -- there is no further instruction
 pub none_left : (instr : Instr) → is_quiet instr ≡ false

@@ -41,46 +41,43 @@ two_or_three d = by (back_of d) (devices_are_alike.least_back d) (devices_are_al
     by : (n : ℕ) → 2 ≤ n → n ≤ 3 → (n ≡ 2) ⊎ (n ≡ 3)
     by n least most = grind arith
 
-pub pushed : (d : Device) (sp word middle high : ℕ) → word < 65536 → middle ≡ minus_sp d sp 1 → high ≡ minus_sp d middle 1
-    → take (back_of d) (record { address = sp; byte = word % 256 } ∷ record { address = middle; byte = word / 256 } ∷ record { address = high; byte = 0 } ∷ []) ≡ way_back d sp word
-pushed d sp word middle high small m h =
-    let second : word / 256 ≡ word / 256 % 256 = omega (arith, small) in
-    let third : 0 ≡ word / 256 / 256 % 256 = omega (arith, small) in
-    let three : List Write = record { address = sp; byte = word % 256 } ∷ record { address = middle; byte = word / 256 } ∷ record { address = high; byte = 0 } ∷ [] in
+pub pushed : (d : Device) (sp word middle high : ℕ) → middle ≡ minus_sp d sp 1 → high ≡ minus_sp d middle 1
+    → take (back_of d) (record { address = sp; byte = word % 256 } ∷ record { address = middle; byte = word / 256 % 256 } ∷ record { address = high; byte = word / 65536 % 256 } ∷ []) ≡ way_back d sp word
+pushed d sp word middle high m h =
+    let third : word / 65536 % 256 ≡ word / 256 / 256 % 256 = omega arith in
+    let three : List Write = record { address = sp; byte = word % 256 } ∷ record { address = middle; byte = word / 256 % 256 } ∷ record { address = high; byte = word / 65536 % 256 } ∷ [] in
     elim (two_or_three d) [
       | inl e ↦
           ap (λ (n : ℕ). take n three) e
-          ∙ (λ i. record { address = sp; byte = word % 256 } ∷ record { address = m i; byte = second i } ∷ [])
+          ∙ (λ i. record { address = sp; byte = word % 256 } ∷ record { address = m i; byte = word / 256 % 256 } ∷ [])
           ∙ sym (ap (λ (n : ℕ). pushed_from d sp (back_bytes n word)) e)
       | inr e ↦
           ap (λ (n : ℕ). take n three) e
-          ∙ (λ i. record { address = sp; byte = word % 256 } ∷ record { address = m i; byte = second i } ∷ record { address = (h ∙ ap (λ (a : ℕ). minus_sp d a 1) m) i; byte = third i } ∷ [])
+          ∙ (λ i. record { address = sp; byte = word % 256 } ∷ record { address = m i; byte = word / 256 % 256 } ∷ record { address = (h ∙ ap (λ (a : ℕ). minus_sp d a 1) m) i; byte = third i } ∷ [])
           ∙ sym (ap (λ (n : ℕ). pushed_from d sp (back_bytes n word)) e)
     ]
 
 -- ---- the popped word
 
 module _ (still : Bool) (m : State) (b1 b2 : ℕ) where
-  pub popped_two : (high word : ℕ) → back_of m.device ≡ 2 → high ≡ (256 * 0 + read still m (plus_sp m.device m.sp 1) b1) % 65536
-      → word ≡ (256 * high + read still m (plus_sp m.device m.sp 2) b2) % 65536 → wrapped m.device word ≡ wrapped m.device (popped_word still m b1 b2)
+  pub popped_two : (high word : ℕ) → back_of m.device ≡ 2 → high ≡ 256 * 0 + read still m (plus_sp m.device m.sp 1) b1
+      → word ≡ 256 * high + read still m (plus_sp m.device m.sp 2) b2 → wrapped m.device word ≡ wrapped m.device (popped_word still m b1 b2)
   popped_two high word two h w =
       let x = read still m (plus_sp m.device m.sp 1) b1 in
       let y = read still m (plus_sp m.device m.sp 2) b2 in
-      let is : word ≡ (256 * (256 * 0 + x) + y) % 65536 = omega (arith, h, w) in
+      let is : word ≡ 256 * (256 * 0 + x) + y = omega (arith, h, w) in
       ap (wrapped m.device) is
-      ∙ devices_are_alike.of_16 m.device (256 * (256 * 0 + x) + y)
       ∙ ap (λ (n : ℕ). wrapped m.device (popped_from still m n 1 0 b1 b2)) (sym two)
 
-  pub popped_three : (high middle word : ℕ) → back_of m.device ≡ 3 → high ≡ (256 * 0 + read still m (plus_sp m.device m.sp 1) b1) % 65536
-      → middle ≡ (256 * high + read still m (plus_sp m.device m.sp 2) b2) % 65536
-      → word ≡ (256 * middle + read still m (plus_sp m.device m.sp 3) b2) % 65536 → wrapped m.device word ≡ wrapped m.device (popped_word still m b1 b2)
+  pub popped_three : (high middle word : ℕ) → back_of m.device ≡ 3 → high ≡ 256 * 0 + read still m (plus_sp m.device m.sp 1) b1
+      → middle ≡ 256 * high + read still m (plus_sp m.device m.sp 2) b2
+      → word ≡ 256 * middle + read still m (plus_sp m.device m.sp 3) b2 → wrapped m.device word ≡ wrapped m.device (popped_word still m b1 b2)
   popped_three high middle word three h g w =
       let x = read still m (plus_sp m.device m.sp 1) b1 in
       let y = read still m (plus_sp m.device m.sp 2) b2 in
       let z = read still m (plus_sp m.device m.sp 3) b2 in
-      let is : word ≡ (256 * (256 * (256 * 0 + x) + y) + z) % 65536 = omega (arith, h, g, w) in
+      let is : word ≡ 256 * (256 * (256 * 0 + x) + y) + z = omega (arith, h, g, w) in
       ap (wrapped m.device) is
-      ∙ devices_are_alike.of_16 m.device (256 * (256 * (256 * 0 + x) + y) + z)
       ∙ ap (λ (n : ℕ). wrapped m.device (popped_from still m n 1 0 b1 b2)) (sym three)
 
 -- the state behind a return

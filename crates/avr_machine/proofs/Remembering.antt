@@ -8,11 +8,11 @@ use Rattle.avr_model.specs.Devices.{size_of, io_end}
 use Rattle.avr_model.specs.State.{Memory, is_sram}
 use Rattle.avr_model.proofs.AllLaws.{devices_are_alike}
 
-pub count_part : (device : Device) (bytes : List ℕ) → length bytes ≡ 16384 → length (take (size_of device) bytes) ≡ size_of device
+pub count_part : (device : Device) (bytes : List ℕ) → length bytes ≡ 32768 → length (take (size_of device) bytes) ≡ size_of device
 count_part device bytes n = length-take-le (size_of device) bytes (let most = devices_are_alike.most_bytes device in omega (arith, most, n))
 
-pub filled_part : {A : Type 0} (device : Device) (x : A) → take (size_of device) (replicate 16384 x) ≡ replicate (size_of device) x
-filled_part device x = take-replicate (size_of device) 16384 x (devices_are_alike.most_bytes device)
+pub filled_part : {A : Type 0} (device : Device) (x : A) → take (size_of device) (replicate 32768 x) ≡ replicate (size_of device) x
+filled_part device x = take-replicate (size_of device) 32768 x (devices_are_alike.most_bytes device)
 
 pub taken : (n i : ℕ) (bytes : List ℕ) → i < n → slice_index bytes i ≡ slice_index (take n bytes) i
 taken n i bytes lt = sym (get_or-take n bytes i 0 lt)

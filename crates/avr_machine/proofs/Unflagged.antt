@@ -3,19 +3,19 @@ use Rattle.std.proofs.Common.{◌≡◌, sym, refl, ℕ, Bool, true, false, ◌=
 use Rattle.std.specs.List.{list_any}
 use Rattle.std.proofs.lemmas.Bool.{or_parts}
 use Rattle.avr_model.specs.declared.device.Device.{Device}
-use Rattle.avr_model.specs.declared.rows.Place.{Place}
+use Rattle.avr_model.specs.declared.rows.EnablePlace.{EnablePlace}
 use Rattle.avr_model.specs.declared.assumption.Entry.{Entry}
 use Rattle.avr_model.specs.declared.effect.Write.{Write}
 use Rattle.avr_model.specs.Assumptions.{store_line, lists, is_fixed_site}
-use Rattle.avr_model.specs.Devices.{Program, device_of}
+use Rattle.avr_model.specs.Devices.{Image, device_of}
 use Rattle.avr_model.specs.Masks.{is_barred, enables_barred, admits_enables, is_flagged_write}
-use Rattle.avr_model.specs.Vectors.{places, has_common, is_core, has_enables, is_protected}
+use Rattle.avr_model.specs.Vectors.{enable_places, has_common, is_core, has_enables, is_protected}
 use Rattle.avr_machine.specs.Quiet.{protected_at}
 
 neither : (a b c d : Bool) → a ≡ false → d ≡ false → ((a && b && c) || d) ≡ false
 neither a b c d h g = grind arith
 
-none_there : (rs : List Place) (device : Device) (A : List Entry) (a byte : ℕ) → list_any (λ r. r.address == a) rs ≡ false
+none_there : (rs : List EnablePlace) (device : Device) (A : List Entry) (a byte : ℕ) → list_any (λ r. r.address == a) rs ≡ false
     → list_any (λ r. (r.address == a) && has_common byte r.mask && is_barred device A r.vector) rs ≡ false
 none_there [] device A a byte h = refl
 none_there (r ∷ rs) device A a byte h =
@@ -24,7 +24,7 @@ none_there (r ∷ rs) device A a byte h =
 
 none_barred : (device : Device) (A : List Entry) (a byte : ℕ) → has_enables device a ≡ false → enables_barred device A a byte ≡ false
 unfolding has_enables enables_barred
-none_barred device A a byte h = none_there (places device) device A a byte h
+none_barred device A a byte h = none_there (enable_places device) device A a byte h
 
 by_both : (admits core other protected listed : Bool) → core ≡ false → other ≡ false → protected ≡ false
     → (if admits then core || other else protected && not listed) ≡ false
@@ -43,12 +43,12 @@ none_of false flagged a h = λ i. if sym h i then Some a else None
 none_fixed : (fixed : Bool) (some : Option ℕ) → fixed ≡ true → None ≡ (if not fixed then some else None)
 none_fixed fixed some h = λ i. if not (sym h i) then some else None
 
-pub fixed_site : (words : Program) (A : List Entry) (site : ℕ) (w : Write) → is_fixed_site words A site ≡ true → None ≡ protected_at words A site w
-fixed_site words A site w h = none_fixed (is_fixed_site words A site) _ h
+pub fixed_site : (image : Image) (A : List Entry) (site : ℕ) (w : Write) → is_fixed_site image A site ≡ true → None ≡ protected_at image A site w
+fixed_site image A site w h = none_fixed (is_fixed_site image A site) _ h
 
-pub not_flagged : (words : Program) (A : List Entry) (site : ℕ) (w : Write) → is_flagged_write (device_of words) A site w.address w.byte ≡ false
-    → None ≡ protected_at words A site w
-not_flagged words A site w h = none_of (is_fixed_site words A site) (is_flagged_write (device_of words) A site w.address w.byte) w.address h
+pub not_flagged : (image : Image) (A : List Entry) (site : ℕ) (w : Write) → is_flagged_write (device_of image) A site w.address w.byte ≡ false
+    → None ≡ protected_at image A site w
+not_flagged image A site w h = none_of (is_fixed_site image A site) (is_flagged_write (device_of image) A site w.address w.byte) w.address h
 
-pub not_protected : (words : Program) (A : List Entry) (site : ℕ) (w : Write) → is_protected (device_of words) w.address ≡ false → None ≡ protected_at words A site w
-not_protected words A site w h = not_flagged words A site w (unprotected (device_of words) A site w.address w.byte h)
+pub not_protected : (image : Image) (A : List Entry) (site : ℕ) (w : Write) → is_protected (device_of image) w.address ≡ false → None ≡ protected_at image A site w
+not_protected image A site w h = not_flagged image A site w (unprotected (device_of image) A site w.address w.byte h)

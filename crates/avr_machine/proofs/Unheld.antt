@@ -9,24 +9,24 @@ use Rattle.vector_table.specs.Moving.{has_ivsel}
 use Rattle.vector_table.proofs.AllLaws.{numbers_are_their_bits, enables_are_vectors}
 use Rattle.vector_table.proofs.AllLaws as tables
 use Rattle.avr_model.specs.declared.device.Device.{Device}
-use Rattle.avr_model.specs.declared.rows.Place.{Place}
+use Rattle.avr_model.specs.declared.rows.EnablePlace.{EnablePlace}
 use Rattle.avr_model.specs.Bits.{number_of}
 use Rattle.avr_model.specs.Devices.{io_end, has_sph}
-use Rattle.avr_model.specs.Vectors.{places, enable_count, has_enables, place_at, written_enable, written_enables, with_enable, io_bit, io_byte, kept_byte, is_vector, is_core_by, is_core, is_protected}
+use Rattle.avr_model.specs.Vectors.{enable_places, enable_count, has_enables, enable_place_at, written_enable, written_enables, with_enable, io_bit, io_byte, kept_byte, is_vector, is_core_by, is_core, is_protected}
 use Rattle.avr_model.proofs.AllLaws.{devices_are_alike, places_are_apart}
 
 -- places are in I/O
-none_above : (io : ℕ) (P : Place → Type 0) → ((p : Place) → P p → p.address ≤ io) → (ps : List Place) (a : ℕ) → io < a → All P ps → list_any (λ (p : Place). p.address == a) ps ≡ false
+none_above : (io : ℕ) (P : EnablePlace → Type 0) → ((p : EnablePlace) → P p → p.address ≤ io) → (ps : List EnablePlace) (a : ℕ) → io < a → All P ps → list_any (λ (p : EnablePlace). p.address == a) ps ≡ false
 none_above io P in_io [] a above all = refl
 none_above io P in_io (p ∷ ps) a above all =
     rw (ne_eqb p.address a (λ same. let le = in_io p (All-head P p ps all) in absurd (omega arith))) (none_above io P in_io ps a above (All-tail P p ps all))
 
-abbrev pub IsSound : Device → Place → Type 0
+abbrev pub IsSound : Device → EnablePlace → Type 0
 IsSound device p = (is_vector device p.vector ≡ true) × ((is_core device p.address ≡ false) × ((p.address ≤ io_end device) × (p.mask < 256)))
 
 pub none_in_sram : (device : Device) (a : ℕ) → io_end device < a → has_enables device a ≡ false
 unfolding has_enables
-none_in_sram device a above = none_above (io_end device) (IsSound device) (λ p h. h.1.1.0) (places device) a above (places_are_apart.each device)
+none_in_sram device a above = none_above (io_end device) (IsSound device) (λ p h. h.1.1.0) (enable_places device) a above (places_are_apart.each device)
 
 -- every bit of the byte there is the input's
 pub free_byte : (device : Device) (still : Bool) (enables address input : ℕ) → input < 256 → (has_enables device address || has_ivsel device address) ≡ false
@@ -47,7 +47,7 @@ pub enables_stay : (device : Device) (enables address byte : ℕ) → enables < 
 unfolding written_enables
 enables_stay device enables address byte small none =
     let here = (or_parts (has_enables device address) (has_ivsel device address) none).0 in
-    let f : ℕ → ℕ = λ k. written_enable (place_at device (k + 2) address) byte (bit_at enables k) in
+    let f : ℕ → ℕ = λ k. written_enable (enable_place_at device (k + 2) address) byte (bit_at enables k) in
     let same : (k : ℕ) → bit_at enables k ≡ f k = λ k i. written_enable (sym (enables_are_vectors.none device (k + 2) address here) i) byte (bit_at enables k) in
     numbers_are_their_bits.same (enable_count device) enables f small (λ k lt. same k)
 

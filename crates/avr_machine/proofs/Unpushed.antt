@@ -7,7 +7,7 @@ use Rattle.avr_model.specs.declared.effect.Write.{Write}
 use Rattle.avr_model.specs.declared.effect.Effect.{Effect}
 use Rattle.avr_model.specs.State.{State, Memory}
 use Rattle.avr_model.specs.Step.{Answer, all_inside, answer_to, after, flag_by, flagged_or, live_write, memory_after, open_after, protected_write, sp_after, refused_transfer, moves_vectors}
-use Rattle.avr_model.specs.Devices.{Program, device_of}
+use Rattle.avr_model.specs.Devices.{Image, device_of}
 use Rattle.avr_machine.specs.Quiet.{is_still}
 
 no_items : (ws : List Write) → length ws ≡ 0 → ws ≡ []
@@ -37,12 +37,12 @@ first_of true t x y e = refl
 first_of false t x y e = cc
 
 -- the step is flagged or done
-pub unpushed_answer : (words : Program) (entries : List Entry) (m : State) (instr : Instr) (e : Effect) (guarded : Bool) → length e.pushes ≡ 0
-    → flagged_or (flag_by m.pc (live_write m.memory (e.stores ++ e.pushes)) (protected_write words entries m.pc instr e) (refused_transfer words entries m instr e) (moves_vectors (device_of words) (is_still words entries) e.stores)) (after m guarded e)
-    ≡ answer_to words entries m instr e
-unpushed_answer words entries m instr e guarded none =
+pub unpushed_answer : (image : Image) (entries : List Entry) (m : State) (instr : Instr) (e : Effect) (guarded : Bool) → length e.pushes ≡ 0
+    → flagged_or (flag_by m.pc (live_write m.memory (e.stores ++ e.pushes)) (protected_write image entries m.pc instr e) (refused_transfer image entries m instr e) (moves_vectors (device_of image) (is_still image entries) e.stores)) (after m guarded e)
+    ≡ answer_to image entries m instr e
+unpushed_answer image entries m instr e guarded none =
     let pushes = no_items e.pushes none in
     sym
     (first_of _ _ _ _ (none_outside m.device e.pushes pushes)
-    ∙ ap (λ (x : State). flagged_or (flag_by m.pc (live_write m.memory (e.stores ++ e.pushes)) (protected_write words entries m.pc instr e) (refused_transfer words entries m instr e) (moves_vectors (device_of words) (is_still words entries) e.stores)) x)
+    ∙ ap (λ (x : State). flagged_or (flag_by m.pc (live_write m.memory (e.stores ++ e.pushes)) (protected_write image entries m.pc instr e) (refused_transfer image entries m instr e) (moves_vectors (device_of image) (is_still image entries) e.stores)) x)
     (same_after m _ guarded e pushes))

@@ -9,7 +9,7 @@ use Rattle.avr_model.specs.declared.effect.Write.{Write}
 use Rattle.avr_model.specs.Assumptions.{is_fixed_site, recur_line}
 use Rattle.avr_model.specs.Masks.{reads_masks}
 use Rattle.avr_model.specs.Sites.{is_scratch}
-use Rattle.avr_model.specs.Devices.{Program, device_of}
+use Rattle.avr_model.specs.Devices.{Image, device_of}
 use Rattle.avr_model.specs.Step.{Answer, Overflow, after, all_inside, is_refused, unless_within, first_of, flagged_or, flag_by, live_write, flagged_write, moves_vectors}
 use Rattle.avr_model.specs.Effects.{going_to}
 
@@ -32,16 +32,16 @@ is_quiet (i.Sbi a b) = false
 is_quiet instr = is_quiet_flow instr
 
 -- the protected address that a pointer store writes, if its site isn't fixed and the write is flagged
-abbrev pub protected_at : Program → List Entry → ℕ → Write → Option ℕ
-protected_at words A pc w = if not (is_fixed_site words A pc) then flagged_write (device_of words) A pc (w ∷ []) else None
+abbrev pub protected_at : Image → List Entry → ℕ → Write → Option ℕ
+protected_at image A pc w = if not (is_fixed_site image A pc) then flagged_write (device_of image) A pc (w ∷ []) else None
 
 -- IVSEL is read as 0: the list reads masks on the device of the words
-abbrev pub is_still : Program → List Entry → Bool
-is_still words A = reads_masks (device_of words) A
+abbrev pub is_still : Image → List Entry → Bool
+is_still image A = reads_masks (device_of image) A
 
 -- the write sets IVSEL, under such a list
-abbrev pub moves_at : Program → List Entry → Write → Bool
-moves_at words A w = moves_vectors (device_of words) (is_still words A) (w ∷ [])
+abbrev pub moves_at : Image → List Entry → Write → Bool
+moves_at image A w = moves_vectors (device_of image) (is_still image A) (w ∷ [])
 
 -- the answer to an effect that pushes nothing and goes to no computed word
 abbrev pub store_answer : State → Option ℕ → Bool → Effect → Answer
@@ -58,8 +58,8 @@ push_answer guarded m transfer pushes sp target =
     else Overflow m.pc
 
 -- the word that a call enters, if that is refused: it is unlisted, or its `recur` line does not permit the call so deep
-abbrev pub refused_at : Program → List Entry → State → Option ℕ → ℕ → Option ℕ
-refused_at words A m unlisted word = first_of unlisted (if not (is_scratch words m.pc) then unless_within (recur_line A word) (fall m) word else None)
+abbrev pub refused_at : Image → List Entry → State → Option ℕ → ℕ → Option ℕ
+refused_at image A m unlisted word = first_of unlisted (if not (is_scratch image m.pc) then unless_within (recur_line A word) (fall m) word else None)
 
 -- the answer to a jump to a computed word
 abbrev pub jump_answer : State → Option ℕ → ℕ → Answer

@@ -60,7 +60,7 @@ impl MarkedDevice {
         ensures { result ≡ device }
     {
         let mut marks = [false; MARKS];
-        for place in device.places() {
+        for place in device.enable_places() {
             marks[usize::from(place.address)] = true;
         }
         mark_ivsel(device, &mut marks);

@@ -10,7 +10,7 @@ ghost use Rattle.avr_model.specs.Effects.{set, way_back, further};
 ghost use Rattle.avr_model.specs.Step.{all_inside, unless_listed, unless_within, entering, take, result_of, state_after};
 ghost use Rattle.avr_machine.specs.Quiet.{push_answer, refused_at, jump_answer};
 
-use crate::flags::{flag_by, lists};
+use crate::flags::{flag_by, lists_word};
 use crate::processor::Processor;
 use crate::transfers::Z;
 use avr_alu::Sreg;
@@ -40,10 +40,10 @@ impl Processor {
     fn push_step(
         &mut self,
         guarded: bool,
-        transfer: Option<u16>,
+        transfer: Option<u32>,
         pushes: &[Write],
         sp: u16,
-        target: u16,
+        target: u32,
     ) -> StepResult
         ensures answer { result ≡ result_of (push_answer guarded self.old transfer pushes.now sp target) }
         ensures state { self.new ≡ state_after self.old (push_answer guarded self.old transfer pushes.now sp target) }
@@ -81,7 +81,7 @@ impl Processor {
     }
 
     // The word that a call enters, if it has a `recur` line that permits no call so deep.
-    fn deep_call(&self, assumptions: &Assumptions, word: u16) -> Option<u16>
+    fn deep_call(&self, assumptions: &Assumptions, word: u32) -> Option<u32>
         ensures { result ≡ unless_within (recur_line assumptions.now word) (fall self.now) word }
     {
         match assumptions.recur(word) {
@@ -96,9 +96,9 @@ impl Processor {
         &self,
         flash: &Flash,
         assumptions: &Assumptions,
-        unlisted: Option<u16>,
-        word: u16,
-    ) -> Option<u16>
+        unlisted: Option<u32>,
+        word: u32,
+    ) -> Option<u32>
         ensures { result ≡ refused_at flash.now assumptions.now self.now unlisted word }
     {
         match unlisted {
@@ -113,9 +113,9 @@ impl Processor {
         &mut self,
         flash: &Flash,
         assumptions: &Assumptions,
-        unlisted: Option<u16>,
-        target: u16,
-        back: u16,
+        unlisted: Option<u32>,
+        target: u32,
+        back: u32,
     ) -> StepResult
         ensures answer { result ≡ result_of (push_answer (not (is_scratch flash.now self.old.pc)) self.old (refused_at flash.now assumptions.now self.old unlisted (wrapped self.old.device target)) (way_back self.old.device self.old.sp back) (minus_sp self.old.device self.old.sp (back_of self.old.device)) target) }
         ensures state { self.new ≡ state_after self.old (push_answer (not (is_scratch flash.now self.old.pc)) self.old (refused_at flash.now assumptions.now self.old unlisted (wrapped self.old.device target)) (way_back self.old.device self.old.sp back) (minus_sp self.old.device self.old.sp (back_of self.old.device)) target) }
@@ -135,14 +135,14 @@ impl Processor {
     }
 
     /// The word in Z, and the word of flash that it stands for if the site does not list it.
-    pub fn computed(&self, assumptions: &Assumptions) -> (u16, Option<u16>)
+    pub fn computed(&self, assumptions: &Assumptions) -> (u32, Option<u32>)
         ensures target { result.0 ≡ pair self.now 30 }
         ensures unlisted { result.1 ≡ unless_listed (jump_line assumptions.now self.now.pc) (wrapped self.now.device (pair self.now 30)) }
     {
-        let target = self.pair(Z);
+        let target = u32::from(self.pair(Z));
         let word = self.wrap(target);
         match assumptions.jumps(self.pc) {
-            Some(words) if !lists(words, word) => (target, Some(word)),
+            Some(words) if !lists_word(words, word) => (target, Some(word)),
             _ => (target, None),
         }
     }

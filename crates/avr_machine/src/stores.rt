@@ -33,7 +33,7 @@ impl Processor {
         assumptions: &Assumptions,
         protected: Option<u16>,
         write: Write,
-        next: u16,
+        next: u32,
         delay: bool,
     ) -> StepResult
         requires { next < words_of self.old.device }

@@ -7,11 +7,11 @@ use Rattle.std.proofs.lemmas.Bool.{and_parts, cases_lt}
 use Rattle.std.proofs.lemmas.Bool.Decides.{nat_tests}
 use Rattle.basics.specs.Numbers.{less_from_test, at_most_from_test}
 use Rattle.avr_model.specs.declared.device.Device.{Device}
-use Rattle.avr_model.specs.declared.rows.Place.{Place}
+use Rattle.avr_model.specs.declared.rows.EnablePlace.{EnablePlace}
 use Rattle.avr_model.specs.Families.{FAMILIES, numbered, family_of}
 use Rattle.avr_model.specs.Devices.{device_row, io_end}
 use Rattle.avr_model.specs.Bits.{any_below}
-use Rattle.avr_model.specs.Vectors.{last_vector, is_vector, places, covers, is_bit, is_core_by, is_core, has_common}
+use Rattle.avr_model.specs.Vectors.{last_vector, is_vector, enable_places, covers, is_bit, is_core_by, is_core, has_common}
 use Rattle.avr_model.specs.Laws.{PlacesAreApart}
 use Rattle.avr_model.proofs.Below.{some_below, any_found}
 use Rattle.avr_model.proofs.Facts.{core_of_device, passes}
@@ -51,27 +51,27 @@ one_or_two R xs p q all (i, li, pi) (j, lj, qj) =
 
 -- ---- the places of the table
 
-abbrev is_place : Place → Bool
+abbrev is_place : EnablePlace → Bool
 is_place p = nat_le 2 p.vector && (not (is_core_by true p.address) && (nat_lt p.mask 256 && (not (is_bit p.enable) || any_below 8 (λ b. p.mask == 2 ^ b))))
 
 -- no common bit, and another place of the vector has another address; the place of an enable bit is its vector's only one
-abbrev are_apart : Place → Place → Bool
+abbrev are_apart : EnablePlace → EnablePlace → Bool
 are_apart p q =
     not ((p.address == q.address) && (has_common p.mask q.mask || has_common q.mask p.mask))
     && not ((p.vector == q.vector) && ((p.address == q.address) || (is_bit p.enable || is_bit q.enable)))
 
 -- a test that each list passes, and none as well
-numbered_list : (test : List Place → Bool) (n k : ℕ) (fs : List (List Place)) → test [] ≡ true → list_all test fs ≡ true → test (numbered n k fs) ≡ true
+numbered_list : (test : List EnablePlace → Bool) (n k : ℕ) (fs : List (List EnablePlace)) → test [] ≡ true → list_all test fs ≡ true → test (numbered n k fs) ≡ true
 numbered_list test n k [] none all = none
 numbered_list test n k (f ∷ fs) none all =
     let both = and_parts (test f) (list_all test fs) all in
     either (n == k) f (numbered n (k + 1) fs) both.0 (numbered_list test n (k + 1) fs none both.1)
   where
-    either : (b : Bool) (x y : List Place) → test x ≡ true → test y ≡ true → test (if b then x else y) ≡ true
+    either : (b : Bool) (x y : List EnablePlace) → test x ≡ true → test y ≡ true → test (if b then x else y) ≡ true
     either true x y h g = h
     either false x y h g = g
 
-each_family : (test : List Place → Bool) (n : ℕ) → test [] ≡ true → list_all test FAMILIES ≡ true → test (family_of n) ≡ true
+each_family : (test : List EnablePlace → Bool) (n : ℕ) → test [] ≡ true → list_all test FAMILIES ≡ true → test (family_of n) ≡ true
 each_family test n none all = numbered_list test n 0 FAMILIES none all
 
 each_place : (n : ℕ) → list_all is_place (family_of n) ≡ true
@@ -84,22 +84,22 @@ each_pair n = each_family (pairwise are_apart) n refl refl
 
 -- ---- what follows
 
-one : (d : Device) (p : Place) → Contains (places d) p → is_place p ≡ true
-unfolding places
-one d p (k, lt, is) = ap is_place (sym is) ∙ one_of is_place (places d) k p (each_place (device_row d).family) lt
+one : (d : Device) (p : EnablePlace) → Contains (enable_places d) p → is_place p ≡ true
+unfolding enable_places
+one d p (k, lt, is) = ap is_place (sym is) ∙ one_of is_place (enable_places d) k p (each_place (device_row d).family) lt
 
-in_row : (d : Device) (p : Place) → Contains (places d) p → (nat_le p.vector (last_vector d) && nat_le p.address (io_end d)) ≡ true
-unfolding places
+in_row : (d : Device) (p : EnablePlace) → Contains (enable_places d) p → (nat_le p.vector (last_vector d) && nat_le p.address (io_end d)) ≡ true
+unfolding enable_places
 in_row d p (k, lt, is) =
-    let test = λ (q : Place). nat_le q.vector (last_vector d) && nat_le q.address (io_end d) in
-    ap test (sym is) ∙ one_of test (places d) k p (passes d 10) lt
+    let test = λ (q : EnablePlace). nat_le q.vector (last_vector d) && nat_le q.address (io_end d) in
+    ap test (sym is) ∙ one_of test (enable_places d) k p (passes d 10) lt
 
-two : (d : Device) (p q : Place) → Contains (places d) p → Contains (places d) q → (p ≡ q) ⊎ ((are_apart p q ≡ true) ⊎ (are_apart q p ≡ true))
-unfolding places
-two d p q a b = one_or_two are_apart (places d) p q (each_pair (device_row d).family) a b
+two : (d : Device) (p q : EnablePlace) → Contains (enable_places d) p → Contains (enable_places d) q → (p ≡ q) ⊎ ((are_apart p q ≡ true) ⊎ (are_apart q p ≡ true))
+unfolding enable_places
+two d p q a b = one_or_two are_apart (enable_places d) p q (each_pair (device_row d).family) a b
 
 -- if neither order passes the test, the places are one
-meet : (d : Device) (p q : Place) → Contains (places d) p → Contains (places d) q → are_apart p q ≡ false → are_apart q p ≡ false → p ≡ q
+meet : (d : Device) (p q : EnablePlace) → Contains (enable_places d) p → Contains (enable_places d) q → are_apart p q ≡ false → are_apart q p ≡ false → p ≡ q
 meet d p q a b first second = by (two d p q a b)
   where
     true_and_false : (t : Bool) → t ≡ true → t ≡ false → ⊥
@@ -130,26 +130,26 @@ either_right : (a b : Bool) → b ≡ true → (a || b) ≡ true
 either_right true b e = refl
 either_right false b e = e
 
-same_address : (address bit : ℕ) (p q : Place) → covers address bit p ≡ true → covers address bit q ≡ true → p.address ≡ q.address
+same_address : (address bit : ℕ) (p q : EnablePlace) → covers address bit p ≡ true → covers address bit q ≡ true → p.address ≡ q.address
 same_address address bit p q a b = grind (arith, nat_tests)
 
-common : (address bit : ℕ) (p q : Place) → bit < 8 → covers address bit p ≡ true → covers address bit q ≡ true → has_common p.mask q.mask ≡ true
+common : (address bit : ℕ) (p q : EnablePlace) → bit < 8 → covers address bit p ≡ true → covers address bit q ≡ true → has_common p.mask q.mask ≡ true
 unfolding has_common
 common address bit p q lt a b = some_below 8 (λ k. (bit_at p.mask k == 1) && (bit_at q.mask k == 1)) bit lt (grind (arith, nat_tests))
 
-bits : (d : Device) (address bit : ℕ) (p q : Place) → bit < 8 → Contains (places d) p → Contains (places d) q → covers address bit p ≡ true → covers address bit q ≡ true → p ≡ q
+bits : (d : Device) (address bit : ℕ) (p q : EnablePlace) → bit < 8 → Contains (enable_places d) p → Contains (enable_places d) q → covers address bit p ≡ true → covers address bit q ≡ true → p ≡ q
 bits d address bit p q lt a b h g =
     meet d p q a b
     (not_apart_by_bits _ _ (both p.address q.address _ (same_address address bit p q h g) (either_left _ _ (common address bit p q lt h g))))
     (not_apart_by_bits _ _ (both q.address p.address _ (same_address address bit q p g h) (either_left _ _ (common address bit q p lt g h))))
 
-vectors : (d : Device) (p q : Place) → Contains (places d) p → Contains (places d) q → p.address ≡ q.address → p.vector ≡ q.vector → p ≡ q
+vectors : (d : Device) (p q : EnablePlace) → Contains (enable_places d) p → Contains (enable_places d) q → p.address ≡ q.address → p.vector ≡ q.vector → p ≡ q
 vectors d p q a b at v =
     meet d p q a b
     (not_apart_by_vector _ _ (both p.vector q.vector _ v (either_left _ _ (eq-eqb p.address q.address at))))
     (not_apart_by_vector _ _ (both q.vector p.vector _ (sym v) (either_left _ _ (eq-eqb q.address p.address (sym at)))))
 
-held : (d : Device) (p q : Place) → Contains (places d) p → Contains (places d) q → is_bit p.enable ≡ true → q.vector ≡ p.vector → p ≡ q
+held : (d : Device) (p q : EnablePlace) → Contains (enable_places d) p → Contains (enable_places d) q → is_bit p.enable ≡ true → q.vector ≡ p.vector → p ≡ q
 held d p q a b is v =
     meet d p q a b
     (not_apart_by_vector _ _ (both p.vector q.vector _ (sym v) (either_right (p.address == q.address) _ (either_left _ _ is))))
@@ -162,7 +162,7 @@ not_core : (t : Bool) → not t ≡ true → t ≡ false
 not_core true e = absurd (cc)
 not_core false e = refl
 
-parts : (d : Device) (p : Place) → is_place p ≡ true → (nat_le p.vector (last_vector d) && nat_le p.address (io_end d)) ≡ true
+parts : (d : Device) (p : EnablePlace) → is_place p ≡ true → (nat_le p.vector (last_vector d) && nat_le p.address (io_end d)) ≡ true
     → (is_vector d p.vector ≡ true) × ((is_core d p.address ≡ false) × ((p.address ≤ io_end d) × (p.mask < 256)))
 parts d p h g =
     let third = nat_lt p.mask 256 && (not (is_bit p.enable) || any_below 8 (λ b. p.mask == 2 ^ b)) in
@@ -172,8 +172,8 @@ parts d p h g =
     let e = and_parts (nat_le p.vector (last_vector d)) (nat_le p.address (io_end d)) g in
     (vector_test p.vector (last_vector d) a.0 e.0, (core_of_device d p.address (not_core (is_core_by true p.address) b.0), (at_most_from_test p.address (io_end d) e.1, less_from_test p.mask 256 c.0)))
 
-each : (d : Device) → All (λ (p : Place). (is_vector d p.vector ≡ true) × ((is_core d p.address ≡ false) × ((p.address ≤ io_end d) × (p.mask < 256)))) (places d)
-each d k default lt = let p = slice_index_or (places d) k default in let there : Contains (places d) p = (k, lt, any_default (places d) k p default lt) in parts d p (one d p there) (in_row d p there)
+each : (d : Device) → All (λ (p : EnablePlace). (is_vector d p.vector ≡ true) × ((is_core d p.address ≡ false) × ((p.address ≤ io_end d) × (p.mask < 256)))) (enable_places d)
+each d k default lt = let p = slice_index_or (enable_places d) k default in let there : Contains (enable_places d) p = (k, lt, any_default (enable_places d) k p default lt) in parts d p (one d p there) (in_row d p there)
 
 equal_if : (x y : ℕ) → (x == y) ≡ true → x ≡ y
 equal_if x y e = grind (arith, nat_tests)
@@ -182,7 +182,7 @@ other : (a b : Bool) → (not a || b) ≡ true → a ≡ true → b ≡ true
 other true b h e = h
 other false b h e = absurd (cc)
 
-one_bit : (d : Device) (p : Place) → Contains (places d) p → is_bit p.enable ≡ true → (b : ℕ) × ((b < 8) × (p.mask ≡ 2 ^ b))
+one_bit : (d : Device) (p : EnablePlace) → Contains (enable_places d) p → is_bit p.enable ≡ true → (b : ℕ) × ((b < 8) × (p.mask ≡ 2 ^ b))
 one_bit d p there is =
     let last = not (is_bit p.enable) || any_below 8 (λ b. p.mask == 2 ^ b) in
     let a = and_parts (nat_le 2 p.vector) (not (is_core_by true p.address) && (nat_lt p.mask 256 && last)) (one d p there) in

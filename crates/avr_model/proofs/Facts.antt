@@ -17,11 +17,10 @@ use Rattle.basics.specs.Numbers.{less_from_test, at_most_from_test}
 use Rattle.avr_model.specs.declared.device.Device.{Device}
 use Rattle.avr_model.specs.declared.rows.Row.{Row}
 use Rattle.avr_model.specs.declared.rows.Ivsel.{Ivsel}
-use Rattle.avr_model.specs.declared.rows.Place.{Place}
-use Rattle.avr_model.specs.declared.rows.TheConstants.{ROWS, LAST}
-use Rattle.avr_model.specs.declared.names.TheConstants.{CLASSES, LAST_CLASS}
+use Rattle.avr_model.specs.declared.rows.EnablePlace.{EnablePlace}
+use Rattle.avr_model.specs.declared.device_table.TheConstants.{ROWS, LAST, CLASSES, LAST_CLASS}
 use Rattle.avr_model.specs.Families.{FAMILIES, family_of}
-use Rattle.avr_model.specs.Devices.{device_row, width, words_of, io_end, size_of, ramend, back_of, has_sph, sp_count, wrapped, limit_of, depth_of}
+use Rattle.avr_model.specs.Devices.{device_row, width, words_of, io_end, size_of, ramend, back_of, has_sph, sp_count, wrapped, limit_of, word_digits, depth_of}
 use Rattle.avr_model.specs.Vectors.{last_vector, watchdog, vector_word, is_core_by, is_core, covers}
 
 -- ---- what is tested of each row, and of each place
@@ -34,10 +33,12 @@ is_apart r (Some s) =
 
 abbrev pub tests : Row → List Bool
 tests r =
-    nat_le 8 r.width ∷ nat_le r.width 16 ∷ nat_le 0x5F r.io_end ∷ nat_le r.io_end 0x1FF ∷ nat_le r.size 16384 ∷ nat_le 2 r.last ∷ nat_le r.last 64 ∷ nat_le r.watchdog r.last
-    ∷ nat_lt (r.step * (r.last - 1)) (2 ^ r.width) ∷ ((r.step == 1) || (r.step == 2)) ∷ list_all (λ (p : Place). nat_le p.vector r.last && nat_le p.address r.io_end) (family_of r.family)
+    nat_le 9 r.width ∷ nat_le r.width 17 ∷ nat_le 0x5F r.io_end ∷ nat_le r.io_end 0x1FF ∷ nat_le r.size 32768 ∷ nat_le 2 r.last ∷ nat_le r.last 77 ∷ nat_le r.watchdog r.last
+    ∷ nat_lt (r.step * (r.last - 1)) (2 ^ r.width) ∷ ((r.step == 1) || (r.step == 2)) ∷ list_all (λ (p : EnablePlace). nat_le p.vector r.last && nat_le p.address r.io_end) (family_of r.family)
     ∷ nat_lt r.family (length FAMILIES) ∷ is_apart r r.ivsel ∷ nat_le 2 r.back ∷ nat_le r.back 3 ∷ nat_le (2 ^ r.width) (256 ^ r.back)
-    ∷ (r.has_sph || nat_lt (r.io_end + r.size) 256) ∷ (r.has_sph || nat_le r.size 128) ∷ (r.has_sph || r.reads_masks) ∷ []
+    ∷ (r.has_sph || nat_lt (r.io_end + r.size) 256) ∷ (r.has_sph || nat_le r.size 128) ∷ (r.has_sph || r.reads_masks)
+    ∷ (not r.has_elpm || (65536 * (2 ^ r.width / 32768 - 1 + 1) == 2 * 2 ^ r.width)) ∷ (not r.has_eijmp || (65536 * (2 ^ r.width / 65536 - 1 + 1) == 2 ^ r.width)) ∷ (not r.has_elpmx || r.has_elpm)
+    ∷ (not r.has_elpm || nat_le 16 r.width) ∷ (not r.has_eijmp || (r.has_elpm && (r.width == 17))) ∷ nat_lt (r.io_end + r.size) 0x8200 ∷ []
 
 abbrev pub is_sound : Row → Bool
 is_sound r = list_all (λ b. b) (tests r)
@@ -55,7 +56,7 @@ sound_at p (r ∷ rows) (suc k) last all one = sound_at p rows k last (and_parts
 
 pub row_sound : (d : Device) → is_sound (device_row d) ≡ true
 unfolding device_row
-row_sound d = sound_at is_sound ROWS d.place LAST all_sound last_sound
+row_sound d = sound_at is_sound ROWS d.index LAST all_sound last_sound
 
 test_at : (xs : List Bool) (k : ℕ) → list_all (λ b. b) xs ≡ true → slice_index_or xs k true ≡ true
 test_at [] k all = refl
@@ -68,11 +69,11 @@ passes d k = test_at (tests (device_row d)) k (row_sound d)
 
 -- ---- what follows
 
-pub least_width : (d : Device) → 8 ≤ width d
-least_width d = at_most_from_test 8 (width d) (passes d 0)
+pub least_width : (d : Device) → 9 ≤ width d
+least_width d = at_most_from_test 9 (width d) (passes d 0)
 
-pub most_width : (d : Device) → width d ≤ 16
-most_width d = at_most_from_test (width d) 16 (passes d 1)
+pub most_width : (d : Device) → width d ≤ 17
+most_width d = at_most_from_test (width d) 17 (passes d 1)
 
 pub least_io : (d : Device) → 0x5F ≤ io_end d
 least_io d = at_most_from_test 0x5F (io_end d) (passes d 2)
@@ -80,19 +81,19 @@ least_io d = at_most_from_test 0x5F (io_end d) (passes d 2)
 pub most_io : (d : Device) → io_end d ≤ 0x1FF
 most_io d = at_most_from_test (io_end d) 0x1FF (passes d 3)
 
-pub most_bytes : (d : Device) → size_of d ≤ 16384
-most_bytes d = at_most_from_test (size_of d) 16384 (passes d 4)
+pub most_bytes : (d : Device) → size_of d ≤ 32768
+most_bytes d = at_most_from_test (size_of d) 32768 (passes d 4)
 
 pub some_vector : (d : Device) → 2 ≤ last_vector d
 some_vector d = at_most_from_test 2 (last_vector d) (passes d 5)
 
-pub most_vectors : (d : Device) → last_vector d ≤ 64
-most_vectors d = at_most_from_test (last_vector d) 64 (passes d 6)
+pub most_vectors : (d : Device) → last_vector d ≤ 77
+most_vectors d = at_most_from_test (last_vector d) 77 (passes d 6)
 
 pub dog : (d : Device) → watchdog d ≤ last_vector d
 dog d = at_most_from_test (watchdog d) (last_vector d) (passes d 7)
 
-pub most_words : (d : Device) → words_of d ≤ 65536
+pub most_words : (d : Device) → words_of d ≤ 131072
 most_words d = pow-le-pow_right {n = 2} (omega arith) (most_width d)
 
 pub some_words : (d : Device) → 0 < words_of d
@@ -101,7 +102,7 @@ some_words d = pow_pos (width d)
 pub inside : (d : Device) (a : ℕ) → wrapped d a < words_of d
 inside d a = mod-lt a (some_words d)
 
-pub most : (d : Device) (a : ℕ) → wrapped d a < 65536
+pub most : (d : Device) (a : ℕ) → wrapped d a < 131072
 most d a = let i = inside d a in let m = most_words d in omega arith
 
 pub same : (d : Device) (a : ℕ) → a < words_of d → wrapped d a ≡ a
@@ -116,19 +117,26 @@ of_more d n a le =
     let split : n ≡ (n - width d) + width d = omega arith in
     ap (λ (k : ℕ). a % 2 ^ k % words_of d) split ∙ mod-mod-pow a (n - width d) (width d)
 
-pub of_16 : (d : Device) (a : ℕ) → wrapped d (a % 65536) ≡ wrapped d a
-of_16 d a = of_more d 16 a (let m = most_width d in omega arith)
+pub of_17 : (d : Device) (a : ℕ) → wrapped d (a % 131072) ≡ wrapped d a
+of_17 d a = of_more d 17 a (let m = most_width d in omega arith)
 
 pub in_limit : (d : Device) → words_of d ≤ limit_of d
 in_limit d = omega arith
 
-pub most_limit : (d : Device) → limit_of d ≤ 65536
+pub most_limit : (d : Device) → limit_of d ≤ 131072
 most_limit d = let m = most_words d in omega arith
+
+pub in_digits : (d : Device) → limit_of d ≤ 16 ^ word_digits d
+in_digits d = by (nat_le (limit_of d) 65536) refl
+  where
+    by : (b : Bool) → nat_le (limit_of d) 65536 ≡ b → limit_of d ≤ 16 ^ (if b then 4 else 5)
+    by true is = at_most_from_test (limit_of d) 65536 is
+    by false is = let m = most_limit d in omega arith
 
 pub in_depth : (d : Device) → size_of d ≤ depth_of d
 in_depth d = omega arith
 
-pub most_depth : (d : Device) → depth_of d ≤ 16384
+pub most_depth : (d : Device) → depth_of d ≤ 32768
 most_depth d = let m = most_bytes d in omega arith
 
 scaled : (s a b : ℕ) → a ≤ b → s * a ≤ s * b
@@ -192,7 +200,7 @@ all_behind [] k x le = refl
 all_behind (r ∷ rows) zero x le = absurd (omega arith)
 all_behind (r ∷ rows) (suc k) x le = all_behind rows k x (omega arith)
 
-pub row_behind : (d : Device) (k : ℕ) → k ≡ d.place → length ROWS ≤ k → LAST ≡ device_row d
+pub row_behind : (d : Device) (k : ℕ) → k ≡ d.index → length ROWS ≤ k → LAST ≡ device_row d
 unfolding device_row
 row_behind d k is le = sym (all_behind ROWS k LAST le) ∙ ap (λ (j : ℕ). slice_index_or ROWS j LAST) is
 
@@ -201,14 +209,11 @@ shifted d w is =
     let m = most_words d in
     ap (λ (k : ℕ). 1 * 2 ^ k % 2 ^ 32) is ∙ (let e : 1 * 2 ^ width d ≡ words_of d = omega arith in ap (λ (k : ℕ). k % 2 ^ 32) e) ∙ mod-eq_of_lt (omega arith)
 
-pub vector_room : (d : Device) (v : ℕ) → v ≤ last_vector d → vector_word d v < 65536
+pub vector_room : (d : Device) (v : ℕ) → v ≤ last_vector d → vector_word d v < 131072
 vector_room d v h = let a = vector_inside d v h in let b = most_words d in omega arith
 
 pub masked : (d : Device) (a n : ℕ) → n ≡ words_of d → bit_and a (n - 1) ≡ wrapped d a
 masked d a n is = ap (λ (k : ℕ). bit_and a (k - 1)) is ∙ and_mask a (width d)
-
-pub masked_most : (d : Device) (a n : ℕ) → n ≡ words_of d → bit_and a (n - 1) < 65536
-masked_most d a n is = let same = masked d a n is in let below = most d a in omega arith
 
 pub counted : (d : Device) (n : ℕ) → n ≡ words_of d → 1 ≤ n
 counted d n is = let some = some_words d in omega arith
@@ -216,12 +221,12 @@ counted d n is = let some = some_words d in omega arith
 pub open_bit : (bits v : ℕ) → (bit_and (bits / 2 ^ (v - 2)) 1 == 1) ≡ (bit_at bits (v - 2) == 1)
 open_bit bits v = ap (λ (x : ℕ). x == 1) (shr_and_one bits (v - 2))
 
-pub row_none : (d : Device) (k : ℕ) (r : Option (Bor Row)) → k ≡ d.place → IsItemAt ROWS k r → r ≡ None → LAST ≡ device_row d
+pub row_none : (d : Device) (k : ℕ) (r : Option (Bor Row)) → k ≡ d.index → IsItemAt ROWS k r → r ≡ None → LAST ≡ device_row d
 row_none d k r is item none =
     let past : IsItemAt ROWS k None = subst (λ (o : Option (Bor Row)). IsItemAt ROWS k o) none item in
     row_behind d k is past.3
 
-pub class_none : (d : Device) (k : ℕ) (r : Option (Bor (List ℕ))) → k ≡ d.place → IsItemAt CLASSES k r → r ≡ None → LAST_CLASS ≡ slice_index_or CLASSES d.place LAST_CLASS
+pub class_none : (d : Device) (k : ℕ) (r : Option (Bor (List ℕ))) → k ≡ d.index → IsItemAt CLASSES k r → r ≡ None → LAST_CLASS ≡ slice_index_or CLASSES d.index LAST_CLASS
 class_none d k r is item none =
     let past : IsItemAt CLASSES k None = subst (λ (o : Option (Bor (List ℕ))). IsItemAt CLASSES k o) none item in
     sym (all_behind CLASSES k LAST_CLASS past.3) ∙ ap (λ (j : ℕ). slice_index_or CLASSES j LAST_CLASS) is

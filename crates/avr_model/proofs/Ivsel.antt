@@ -7,10 +7,10 @@ use Rattle.std.proofs.lemmas.Bool.Decides.{nat_tests}
 use Rattle.basics.specs.Numbers.{less_from_test, at_most_from_test}
 use Rattle.avr_model.specs.declared.device.Device.{Device}
 use Rattle.avr_model.specs.declared.rows.Ivsel.{Ivsel}
-use Rattle.avr_model.specs.declared.rows.Place.{Place}
+use Rattle.avr_model.specs.declared.rows.EnablePlace.{EnablePlace}
 use Rattle.avr_model.specs.Families.{family_of}
 use Rattle.avr_model.specs.Devices.{device_row, io_end}
-use Rattle.avr_model.specs.Vectors.{places, covers, is_core_by, is_core, is_bit_of, is_ivsel, enable_of}
+use Rattle.avr_model.specs.Vectors.{enable_places, covers, is_core_by, is_core, is_bit_of, is_ivsel, enable_of}
 use Rattle.avr_model.specs.Laws.{IvselIsApart}
 use Rattle.avr_model.proofs.Facts.{is_apart, core_of_device, passes}
 
@@ -28,14 +28,14 @@ pub record Apart (d : Device) (a b : ℕ) : Type 0 where
   pub most : nat_le a (io_end d) ≡ true
   pub core : is_core d a ≡ false
   pub bit : nat_lt b 8 ≡ true
-  pub enable : list_any (covers a b) (places d) ≡ false
+  pub enable : list_any (covers a b) (enable_places d) ≡ false
 
 not_true : (t : Bool) → not t ≡ true → t ≡ false
 not_true true e = absurd (cc)
 not_true false e = refl
 
 apart_at : (d : Device) (s : Ivsel) → is_apart (device_row d) (Some s) ≡ true → Apart d s.address s.bit
-unfolding places
+unfolding enable_places
 apart_at d s h =
     let enables = not (list_any (covers s.address s.bit) (family_of (device_row d).family)) in
     let one = and_parts (nat_le 0x40 s.address) _ h in
@@ -64,5 +64,5 @@ ivsel_is_apart =
       reach = λ d a b is. (at_most_from_test 0x40 a (apart d a b is).least, at_most_from_test a (io_end d) (apart d a b is).most);
       core = λ d a b is. (apart d a b is).core;
       bit = λ d a b is. less_from_test b 8 (apart d a b is).bit;
-      enable = λ d a b is. ap (option_map (λ (p : Place). p.vector)) (none_found (covers a b) (places d) (apart d a b is).enable);
+      enable = λ d a b is. ap (option_map (λ (p : EnablePlace). p.vector)) (none_found (covers a b) (enable_places d) (apart d a b is).enable);
     }

@@ -4,14 +4,14 @@ use Rattle.std.specs.Fmt.{digits}
 use Rattle.avr_model.specs.declared.instruction.Instr.TheVariants as i
 use Rattle.avr_model.specs.declared.instruction.Base.TheVariants as base
 use Rattle.avr_model.specs.declared.device.TheConstants as device
-use Rattle.avr_model.specs.Devices.{Program, M328, device_row}
+use Rattle.avr_model.specs.Devices.{Image, M328, device_row}
 use Rattle.avr_model.specs.Image.{WORDS}
 use Rattle.avr_model.specs.State.{SIZE, SPL, SPH, SREG}
 use Rattle.avr_model.specs.Table.{decoded, length_of}
 use Rattle.avr_model.specs.Text.{text_of}
 use Rattle.avr_model.specs.Sites.{is_scratch, is_fixed, path_behind, is_loaded_behind, ijmp_from, table_site}
 use Rattle.avr_model.specs.Bits.{any_below, all_below, number_of}
-use Rattle.avr_model.specs.Vectors.{places, has_common, place_at, enable_of, held_of, held_bits, written_enables}
+use Rattle.avr_model.specs.Vectors.{enable_places, has_common, enable_place_at, enable_of, held_of, held_bits, written_enables}
 
 -- the device's numbers are those of the code
 pub code_has_words : WORDS ≡ device.WORDS
@@ -30,7 +30,7 @@ pub code_has_sreg : SREG ≡ device.SREG
 code_has_sreg = refl
 
 -- the ATmega328P's flash that begins with these words, and is erased behind them
-abbrev pub firmware : List ℕ → Program
+abbrev pub firmware : List ℕ → Image
 firmware words = record { device = M328; words = words ++ replicate 16384 0xFFFF }
 
 -- `std` through Z without displacement, `ld` of r30 through Z+ is no instruction, and `sts` takes two words
@@ -51,7 +51,7 @@ unfolding length_of
 store_length = refl
 
 -- a frame of three bytes: rcall to the next word, push r1, in r28, in r29, std Y+1, three pops
-abbrev pub small_frame : Program
+abbrev pub small_frame : Image
 small_frame = firmware (0xD000 ∷ 0x921F ∷ 0xB7CD ∷ 0xB7DE ∷ 0x8389 ∷ 0x900F ∷ 0x900F ∷ 0x900F ∷ 0xCFFF ∷ [])
 
 pub frame_scratch : map (is_scratch small_frame) (0 ∷ 1 ∷ 2 ∷ 3 ∷ 5 ∷ []) ≡ true ∷ true ∷ false ∷ false ∷ false ∷ []
@@ -59,7 +59,7 @@ unfolding device_row is_scratch any_below all_below
 frame_scratch = refl
 
 -- a jump, ldi r30, ldi r31, std Z+0
-abbrev pub fixed_store : Program
+abbrev pub fixed_store : Image
 fixed_store = firmware (0xC001 ∷ 0xE0E0 ∷ 0xE0F1 ∷ 0x8300 ∷ 0xCFFF ∷ [])
 
 pub store_is_fixed : is_fixed fixed_store 3 ≡ true
@@ -71,7 +71,7 @@ unfolding device_row is_fixed any_below path_behind is_loaded_behind decoded len
 ldi_is_not_fixed = refl
 
 -- cpi and brcc before, ldi r31, subi r30, sbci r31, ijmp, and a table of two jumps
-abbrev pub jump_table : Program
+abbrev pub jump_table : Image
 jump_table = firmware (0x3082 ∷ 0xF430 ∷ 0x2FE8 ∷ 0xE0F0 ∷ 0x5FE9 ∷ 0x4FFF ∷ 0x9409 ∷ 0xC001 ∷ 0xC000 ∷ 0xCFFF ∷ [])
 
 pub tables_begin_at_subi : map (table_site jump_table) (3 ∷ 4 ∷ 5 ∷ []) ≡ None ∷ Some 6 ∷ None ∷ []
@@ -102,13 +102,13 @@ unfolding device_row table_site ijmp_from decoded length_of
 seventeen_are_too_many = refl
 
 pub watchdog_enable : enable_of M328 0x60 6 ≡ Some 7
-unfolding device_row enable_of places
+unfolding device_row enable_of enable_places
 watchdog_enable = refl
 
 pub usart_held : held_bits M328 0xC1 ≡ 0xE0
-unfolding device_row held_of places number_of
+unfolding device_row held_of enable_places number_of
 usart_held = refl
 
 pub write_of_usart : written_enables M328 0 0xC1 0xA0 ≡ 0x60000
-unfolding device_row written_enables number_of place_at places has_common any_below
+unfolding device_row written_enables number_of enable_place_at enable_places has_common any_below
 write_of_usart = refl

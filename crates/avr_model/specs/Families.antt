@@ -1,66 +1,67 @@
--- The lists of places by their numbers, written by tests/devices/rows.
+-- The lists of enable places by their numbers, written by tests/devices/rows.
 use Rattle.std.specs.Prelude.{ℕ, ◌+◌, ◌==◌, if◌then◌else◌, List, [], ◌∷◌}
-use Rattle.avr_model.specs.declared.rows.Place.{Place}
-use Rattle.avr_model.specs.declared.rows.TheConstants as rows
+use Rattle.avr_model.specs.declared.rows.EnablePlace.{EnablePlace}
+use Rattle.avr_model.specs.declared.device_table.TheConstants as table
 
-abbrev pub FAMILIES : List (List Place)
+abbrev pub FAMILIES : List (List EnablePlace)
 FAMILIES =
-    rows.FAMILY_0
-    ∷ rows.FAMILY_1
-    ∷ rows.FAMILY_2
-    ∷ rows.FAMILY_3
-    ∷ rows.FAMILY_4
-    ∷ rows.FAMILY_5
-    ∷ rows.FAMILY_6
-    ∷ rows.FAMILY_7
-    ∷ rows.FAMILY_8
-    ∷ rows.FAMILY_9
-    ∷ rows.FAMILY_10
-    ∷ rows.FAMILY_11
-    ∷ rows.FAMILY_12
-    ∷ rows.FAMILY_13
-    ∷ rows.FAMILY_14
-    ∷ rows.FAMILY_15
-    ∷ rows.FAMILY_16
-    ∷ rows.FAMILY_17
-    ∷ rows.FAMILY_18
-    ∷ rows.FAMILY_19
-    ∷ rows.FAMILY_20
-    ∷ rows.FAMILY_21
-    ∷ rows.FAMILY_22
-    ∷ rows.FAMILY_23
-    ∷ rows.FAMILY_24
-    ∷ rows.FAMILY_25
-    ∷ rows.FAMILY_26
-    ∷ rows.FAMILY_27
-    ∷ rows.FAMILY_28
-    ∷ rows.FAMILY_29
-    ∷ rows.FAMILY_30
-    ∷ rows.FAMILY_31
-    ∷ rows.FAMILY_32
-    ∷ rows.FAMILY_33
-    ∷ rows.FAMILY_34
-    ∷ rows.FAMILY_35
-    ∷ rows.FAMILY_36
-    ∷ rows.FAMILY_37
-    ∷ rows.FAMILY_38
-    ∷ rows.FAMILY_39
-    ∷ rows.FAMILY_40
-    ∷ rows.FAMILY_41
-    ∷ rows.FAMILY_42
-    ∷ rows.FAMILY_43
-    ∷ rows.FAMILY_44
-    ∷ rows.FAMILY_45
-    ∷ rows.FAMILY_46
-    ∷ rows.FAMILY_47
-    ∷ rows.FAMILY_48
-    ∷ rows.FAMILY_49
+    table.FAMILY_0
+    ∷ table.FAMILY_1
+    ∷ table.FAMILY_2
+    ∷ table.FAMILY_3
+    ∷ table.FAMILY_4
+    ∷ table.FAMILY_5
+    ∷ table.FAMILY_6
+    ∷ table.FAMILY_7
+    ∷ table.FAMILY_8
+    ∷ table.FAMILY_9
+    ∷ table.FAMILY_10
+    ∷ table.FAMILY_11
+    ∷ table.FAMILY_12
+    ∷ table.FAMILY_13
+    ∷ table.FAMILY_14
+    ∷ table.FAMILY_15
+    ∷ table.FAMILY_16
+    ∷ table.FAMILY_17
+    ∷ table.FAMILY_18
+    ∷ table.FAMILY_19
+    ∷ table.FAMILY_20
+    ∷ table.FAMILY_21
+    ∷ table.FAMILY_22
+    ∷ table.FAMILY_23
+    ∷ table.FAMILY_24
+    ∷ table.FAMILY_25
+    ∷ table.FAMILY_26
+    ∷ table.FAMILY_27
+    ∷ table.FAMILY_28
+    ∷ table.FAMILY_29
+    ∷ table.FAMILY_30
+    ∷ table.FAMILY_31
+    ∷ table.FAMILY_32
+    ∷ table.FAMILY_33
+    ∷ table.FAMILY_34
+    ∷ table.FAMILY_35
+    ∷ table.FAMILY_36
+    ∷ table.FAMILY_37
+    ∷ table.FAMILY_38
+    ∷ table.FAMILY_39
+    ∷ table.FAMILY_40
+    ∷ table.FAMILY_41
+    ∷ table.FAMILY_42
+    ∷ table.FAMILY_43
+    ∷ table.FAMILY_44
+    ∷ table.FAMILY_45
+    ∷ table.FAMILY_46
+    ∷ table.FAMILY_47
+    ∷ table.FAMILY_48
+    ∷ table.FAMILY_49
+    ∷ table.FAMILY_50
     ∷ []
 
 -- the list of this number, where the first has number k; none behind the last
-abbrev pub numbered : ℕ → ℕ → List (List Place) → List Place
+abbrev pub numbered : ℕ → ℕ → List (List EnablePlace) → List EnablePlace
 numbered n k [] = []
 numbered n k (f ∷ fs) = if n == k then f else numbered n (k + 1) fs
 
-abbrev pub family_of : ℕ → List Place
+abbrev pub family_of : ℕ → List EnablePlace
 family_of n = numbered n 0 FAMILIES

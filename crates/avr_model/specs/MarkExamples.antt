@@ -1,11 +1,11 @@
 -- Marks of small programs, computed from the definitions.
 use Rattle.std.specs.Prelude.{ℕ, ◌≡◌, refl, List, [], ◌∷◌, ◌++◌, map, replicate}
-use Rattle.avr_model.specs.Devices.{Program, M48, M328, device_row}
+use Rattle.avr_model.specs.Devices.{Image, M48, M328, device_row}
 use Rattle.avr_model.specs.Table.{decoded}
 use Rattle.avr_model.specs.Marks.{joined_below, usual_marks, device_marks, marks_at, loaded_bytes, marks}
 
 -- the ATmega328P's flash that begins with these words
-abbrev of : List ℕ → Program
+abbrev of : List ℕ → Image
 of words = record { device = M328; words = words }
 
 -- the ends of numbers and of the pages that SRAM has on some device
@@ -68,7 +68,7 @@ not_subtracted_before = refl
 
 -- ---- cpi r24, 0x34 and cpc r25, r18, where the text loads 0x12 and 0x56 into r18
 
-abbrev comparing : Program
+abbrev comparing : Image
 comparing = of (0x3384 ∷ 0x0792 ∷ 0xE122 ∷ 0xE526 ∷ 0xE133 ∷ [])
 
 bytes_of_a_side : loaded_bytes comparing 18 ≡ 0 ∷ 0x12 ∷ 0x56 ∷ []

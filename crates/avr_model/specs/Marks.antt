@@ -12,7 +12,7 @@ use Rattle.avr_model.specs.declared.instruction.ImmediateInstr.{ImmediateInstr}
 use Rattle.avr_model.specs.Sites.{instruction_at, loads, subtracts, borrows}
 use Rattle.avr_model.specs.Wide.{word_difference_of}
 use Rattle.avr_model.specs.declared.device.Device.{Device}
-use Rattle.avr_model.specs.Devices.{Program, device_of, io_end, ramend}
+use Rattle.avr_model.specs.Devices.{Image, device_of, io_end, ramend}
 
 -- the lists f 0 to f (n - 1), joined
 unfoldable pub joined_below : ℕ → (ℕ → List ℕ) → List ℕ
@@ -44,8 +44,8 @@ immediate_in None = None
 immediate_in (Some x) = immediate_of x
 
 -- the instruction at a word address, if it has a register and a byte
-abbrev pub immediate_at : Program → ℕ → Option ImmediateInstr
-immediate_at words a = immediate_in (instruction_at words a)
+abbrev pub immediate_at : Image → ℕ → Option ImmediateInstr
+immediate_at image a = immediate_in (instruction_at image a)
 
 abbrev pub is_pair : ℕ → ℕ → Bool
 is_pair low high = (low % 2 == 0) && (high == low + 1)
@@ -75,8 +75,8 @@ loaded_byte p None = []
 loaded_byte p (Some x) = if loads x.op && (x.register == p) then x.byte ∷ [] else []
 
 -- the bytes that the text loads into register p: 0, and that of each `ldi`
-abbrev pub loaded_bytes : Program → ℕ → List ℕ
-loaded_bytes words p = 0 ∷ joined_below (length words.words) (λ a. loaded_byte p (immediate_at words a))
+abbrev pub loaded_bytes : Image → ℕ → List ℕ
+loaded_bytes image p = 0 ∷ joined_below (length image.words) (λ a. loaded_byte p (immediate_at image a))
 
 abbrev pub compares : ImmediateOp → Bool
 compares immediate.Cpi = true
@@ -92,27 +92,27 @@ other_side x (i.Binary op d p) = if compares x.op && (compares_further op && is_
 other_side x _ = None
 
 -- L with each high byte that the text loads into p
-abbrev pub side_marks : Program → ℕ → Option ℕ → List ℕ
-side_marks words low None = []
-side_marks words low (Some p) = map (λ high. 256 * high + low) (loaded_bytes words p)
+abbrev pub side_marks : Image → ℕ → Option ℕ → List ℕ
+side_marks image low None = []
+side_marks image low (Some p) = map (λ high. 256 * high + low) (loaded_bytes image p)
 
 -- an instruction and the one in the next word
-abbrev pub compared_marks : Program → ImmediateInstr → Option Instr → List ℕ
-compared_marks words x None = []
-compared_marks words x (Some y) = side_marks words x.byte (other_side x y)
+abbrev pub compared_marks : Image → ImmediateInstr → Option Instr → List ℕ
+compared_marks image x None = []
+compared_marks image x (Some y) = side_marks image x.byte (other_side x y)
 
 -- ---- all marks
 
-abbrev pub marks_from : Program → ℕ → Option ImmediateInstr → List ℕ
-marks_from words a None = []
-marks_from words a (Some x) =
-    near_marks x (immediate_at words (a + 1)) ++ (near_marks x (immediate_at words (a + 2)) ++ (near_marks x (immediate_at words (a + 3))
-    ++ compared_marks words x (instruction_at words (a + 1))))
+abbrev pub marks_from : Image → ℕ → Option ImmediateInstr → List ℕ
+marks_from image a None = []
+marks_from image a (Some x) =
+    near_marks x (immediate_at image (a + 1)) ++ (near_marks x (immediate_at image (a + 2)) ++ (near_marks x (immediate_at image (a + 3))
+    ++ compared_marks image x (instruction_at image (a + 1))))
 
 -- the marks of the instruction at a word address with the ones after it
-abbrev pub marks_at : Program → ℕ → List ℕ
-marks_at words a = marks_from words a (immediate_at words a)
+abbrev pub marks_at : Image → ℕ → List ℕ
+marks_at image a = marks_from image a (immediate_at image a)
 
 -- The marks of a program, by the words of a device's flash; word addresses count modulo their number.
-unfoldable pub marks : Program → List ℕ
-marks words = usual_marks ++ device_marks (device_of words) ++ joined_below (length words.words) (marks_at words)
+unfoldable pub marks : Image → List ℕ
+marks image = usual_marks ++ device_marks (device_of image) ++ joined_below (length image.words) (marks_at image)

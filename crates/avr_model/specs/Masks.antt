@@ -4,9 +4,9 @@ use Rattle.std.specs.List.{list_any}
 use Rattle.avr_model.specs.declared.device.Device.{Device}
 use Rattle.avr_model.specs.declared.assumption.Entry.{Entry}
 use Rattle.avr_model.specs.Assumptions.{has_masks, store_line, is_never, lists}
-use Rattle.avr_model.specs.declared.rows.Place.{Place}
+use Rattle.avr_model.specs.declared.rows.EnablePlace.{EnablePlace}
 use Rattle.avr_model.specs.Devices.{device_row}
-use Rattle.avr_model.specs.Vectors.{places, has_common, vector_word, is_core, is_protected}
+use Rattle.avr_model.specs.Vectors.{enable_places, has_common, vector_word, is_core, is_protected}
 
 -- The list has the line `masks`, or is read on this device as if it had it.
 unfoldable pub reads_masks : Device → List Entry → Bool
@@ -18,7 +18,7 @@ is_barred device A v = is_never A (vector_word device v)
 
 -- The byte has 1 at a bit of this address that enables a barred vector.
 unfoldable pub enables_barred : Device → List Entry → ℕ → ℕ → Bool
-enables_barred device A a byte = list_any (λ (p : Place). (p.address == a) && has_common byte p.mask && is_barred device A p.vector) (places device)
+enables_barred device A a byte = list_any (λ (p : EnablePlace). (p.address == a) && has_common byte p.mask && is_barred device A p.vector) (enable_places device)
 
 -- no address is listed: the site has no `store` line, since one lists at least one address
 abbrev pub is_unlisted_site : List ℕ → Bool

@@ -13,7 +13,7 @@ use Rattle.avr_model.specs.declared.instruction.Base.TheVariants as base
 use Rattle.avr_model.specs.declared.instruction.Pointer.{Pointer}
 use Rattle.avr_model.specs.declared.instruction.Pointer.TheVariants as pointer
 use Rattle.avr_model.specs.Bits.{any_below, all_below}
-use Rattle.avr_model.specs.Devices.{Program, has_jmp, has_mul, has_elpm, has_break, has_movw, has_lpmx, wrapped, device_of}
+use Rattle.avr_model.specs.Devices.{Image, has_jmp, has_mul, has_elpm, has_break, has_movw, has_lpmx, wrapped, device_of}
 use Rattle.avr_model.specs.Image.{WORDS, word_at}
 use Rattle.avr_model.specs.Table.{decoded, length_of}
 use Rattle.avr_model.specs.Text.{far}
@@ -71,8 +71,8 @@ on_device device None = None
 on_device device (Some x) = if is_lacking device x then None else Some x
 
 -- the instruction at a word address
-abbrev pub instruction_at : Program → ℕ → Option Instr
-instruction_at words a = on_device (device_of words) (decoded (word_at words a) (word_at words (a + 1)))
+abbrev pub instruction_at : Image → ℕ → Option Instr
+instruction_at image a = on_device (device_of image) (decoded (word_at image a) (word_at image (a + 1)))
 
 -- ---- scratch pushes: a compiler's small frame
 
@@ -81,9 +81,9 @@ abbrev pub makes_room : ℕ → Bool
 makes_room w = (w == 0x920F) || (w == 0x921F) || (w == 0xD000)
 
 -- 1 to 64 words from this one on make room, followed by `in r28, 0x3d`, which reads the stack pointer.
-unfoldable pub is_scratch : Program → ℕ → Bool
-is_scratch words a =
-    any_below 64 (λ n. all_below (n + 1) (λ k. makes_room (word_at words (a + k))) && (word_at words (a + n + 1) == 0xB7CD))
+unfoldable pub is_scratch : Image → ℕ → Bool
+is_scratch image a =
+    any_below 64 (λ n. all_below (n + 1) (λ k. makes_room (word_at image (a + k))) && (word_at image (a + n + 1) == 0xB7CD))
 
 -- ---- fixed sites: a store whose pointer is loaded just before
 
@@ -153,15 +153,15 @@ before a d = a + WORDS - d
 
 -- The instructions from d words before a up to a, if decoding forward arrives exactly at a, every word is defined and no instruction
 -- leaves the path. `inside` is the number of next words that belong to an instruction that began earlier.
-unfoldable pub path_behind : Program → ℕ → ℕ → ℕ → Option (List Instr)
-path_behind words a zero zero = Some []
-path_behind words a (suc inside) zero = None
-path_behind words a (suc inside) (suc d) = path_behind words a inside d
-path_behind words a zero (suc d) =
-    onto_path (instruction_at words (before a (suc d))) (path_behind words a (length_of (word_at words (before a (suc d))) - 1) d)
+unfoldable pub path_behind : Image → ℕ → ℕ → ℕ → Option (List Instr)
+path_behind image a zero zero = Some []
+path_behind image a (suc inside) zero = None
+path_behind image a (suc inside) (suc d) = path_behind image a inside d
+path_behind image a zero (suc d) =
+    onto_path (instruction_at image (before a (suc d))) (path_behind image a (length_of (word_at image (before a (suc d))) - 1) d)
 
-abbrev pub path : Program → ℕ → ℕ → Option (List Instr)
-path words a d = path_behind words a 0 d
+abbrev pub path : Image → ℕ → ℕ → Option (List Instr)
+path image a d = path_behind image a 0 d
 
 -- whether the last of these instructions that sets the register is `ldi`; `sofar` is the answer for those before
 unfoldable pub is_loaded_behind : ℕ → Bool → List Instr → Bool
@@ -176,17 +176,17 @@ abbrev pub loads_pair : ℕ → Option (List Instr) → Bool
 loads_pair r None = false
 loads_pair r (Some xs) = is_loaded r xs && is_loaded (r + 1) xs
 
-abbrev pub is_fixed_pointer : Program → ℕ → Option ℕ → Bool
-is_fixed_pointer words a None = false
-is_fixed_pointer words a (Some r) = any_below 32 (λ n. loads_pair r (path words a (n + 1)))
+abbrev pub is_fixed_pointer : Image → ℕ → Option ℕ → Bool
+is_fixed_pointer image a None = false
+is_fixed_pointer image a (Some r) = any_below 32 (λ n. loads_pair r (path image a (n + 1)))
 
 abbrev pub pointer_of : Option Instr → Option ℕ
 pointer_of None = None
 pointer_of (Some x) = store_pointer x
 
 -- The word is `st` or `std`, and from some word 1 to 32 words before it a path loads both registers of its pointer.
-unfoldable pub is_fixed : Program → ℕ → Bool
-is_fixed words a = is_fixed_pointer words a (pointer_of (instruction_at words a))
+unfoldable pub is_fixed : Image → ℕ → Bool
+is_fixed image a = is_fixed_pointer image a (pointer_of (instruction_at image a))
 
 -- ---- table sites: an index is added to a table's address, and an `ijmp` follows
 
@@ -232,13 +232,13 @@ way_on device on a size None = None
 way_on device on a size (Some x) = if is_ijmp x then Some a else from_word device on (onward a size x)
 
 -- the word of the `ijmp` that at most this many instructions from the word a reach, itself counted
-unfoldable pub ijmp_from : Program → ℕ → ℕ → Option ℕ
-ijmp_from words zero a = None
-ijmp_from words (suc n) a = way_on (device_of words) (ijmp_from words n) a (length_of (word_at words a)) (instruction_at words a)
+unfoldable pub ijmp_from : Image → ℕ → ℕ → Option ℕ
+ijmp_from image zero a = None
+ijmp_from image (suc n) a = way_on (device_of image) (ijmp_from image n) a (length_of (word_at image a)) (instruction_at image a)
 
 -- The word of the `ijmp` of a table site: `subi` of r30 is at a and `sbci` of r31 follows, and from there at most 16 instructions lead to
 -- the `ijmp`.
-unfoldable pub table_site : Program → ℕ → Option ℕ
-table_site words a =
-    if is_some_that adds_low (instruction_at words a) && is_some_that adds_high (instruction_at words (a + 1))
-    then ijmp_from words 16 (wrapped (device_of words) (a + 2)) else None
+unfoldable pub table_site : Image → ℕ → Option ℕ
+table_site image a =
+    if is_some_that adds_low (instruction_at image a) && is_some_that adds_high (instruction_at image (a + 1))
+    then ijmp_from image 16 (wrapped (device_of image) (a + 2)) else None

@@ -4,16 +4,17 @@ ghost use Rattle.std.specs.Prelude.{◌≡◌, ◌==◌, ◌<◌, ◌≤◌, IfS
 ghost use Rattle.std.specs.List.{position_from};
 ghost use Rattle.std.specs.Option.{option_copied};
 ghost use Rattle.std.specs.Str.{bytes_eq};
-ghost use Rattle.avr_model.specs.declared.names.TheConstants.{CLASSES, NAMES};
+ghost use Rattle.avr_model.specs.declared.device_table.TheConstants.{CLASSES, NAMES};
 ghost use Rattle.avr_model.specs.Names.{trimmed, class_of, device_of_class, device_named};
 
 use crate::device::Device;
-use crate::names::{CLASSES, LAST_CLASS, LONGEST, NAMES, Name};
+use crate::device_table::{CLASSES, LAST_CLASS, NAMES};
+use crate::names::{LONGEST, Name};
 
 // Where the zeros behind a name begin.
 fn end_of(text: &[u8; LONGEST]) -> Option<usize>
     ensures end { result ≡ position_from (λ byte. byte == 0) 0 text.now }
-    ensures bound { IfSome result (λ end. end ≤ 12) }
+    ensures bound { IfSome result (λ end. end ≤ 14) }
 {
     text.iter().position(|&byte| byte == 0)
 }
@@ -29,10 +30,10 @@ fn trimmed(text: &[u8; LONGEST]) -> &[u8]
     }
 }
 
-// The place of the class with this name.
+// The index of the class with this name.
 fn place_of(name: &[u8]) -> Option<usize>
-    ensures place { result ≡ position_from (λ class. bytes_eq (trimmed class) name.now) 0 CLASSES }
-    ensures bound { IfSome result (λ place. place < 256) }
+    ensures index { result ≡ position_from (λ class. bytes_eq (trimmed class) name.now) 0 CLASSES }
+    ensures bound { IfSome result (λ index. index < 256) }
 {
     CLASSES.iter().position(|class| trimmed(class) == name)
 }
@@ -49,7 +50,7 @@ fn row_of(name: &[u8]) -> Option<&'static Name>
 pub fn class_of(device: Device) -> &'static [u8]
     ensures { result.now ≡ class_of device }
 {
-    match CLASSES.get(device.place()) {
+    match CLASSES.get(device.index()) {
         Some(class) => trimmed(class),
         None => trimmed(&LAST_CLASS),
     }
@@ -61,7 +62,7 @@ pub fn device_of_class(name: &[u8]) -> Option<Device>
     ensures { result ≡ device_of_class name.now }
 {
     match place_of(name) {
-        Some(place) => Some(Device::at(place as u8)),
+        Some(index) => Some(Device::at(index as u8)),
         None => None,
     }
 }
@@ -72,7 +73,7 @@ pub fn device_named(name: &[u8]) -> Option<Device>
     ensures { result ≡ device_named name.now }
 {
     match row_of(name) {
-        Some(named) => Some(Device::at(named.place)),
+        Some(named) => Some(Device::at(named.index)),
         None => None,
     }
 }

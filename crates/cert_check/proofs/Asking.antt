@@ -8,9 +8,9 @@ use Rattle.std.proofs.lemmas.Option.{same_Some}
 use Rattle.basics.specs.Lists.{one_at}
 use Rattle.basics.specs.Items.{only_one_in, first_in}
 use Rattle.avr_model.specs.Devices.{device_of, back_of}
-use Rattle.mask_states.specs.declared.keys.InstKey.{InstKey}
-use Rattle.mask_states.specs.declared.keys.SpForm.TheVariants.{Closed}
-use Rattle.mask_states.specs.Keys.{root_inst, offset_of, cut_at}
+use Rattle.node_keys.specs.declared.keys.InstKey.{InstKey}
+use Rattle.node_keys.specs.declared.keys.SpForm.TheVariants.{Closed}
+use Rattle.node_keys.specs.Keys.{root_inst, offset_of, cut_at}
 use Rattle.local_rules.specs.declared.local.Node.{Node}
 use Rattle.edge_rules.specs.Nest.{NestEdge, recurs, enters as by_node}
 use Rattle.edge_rules.specs.Families.{AreFaultless}
@@ -24,7 +24,7 @@ use Rattle.cert_check.specs.declared.verdict.Reason.TheVariants as reason
 use Rattle.cert_check.specs.declared.verdict.Judgement.{Judgement}
 use Rattle.cert_check.specs.declared.verdict.Judgement.TheVariants.{Accepted, Rejected}
 use Rattle.cert_check.specs.Verdict.{AllLanded, InstEnters, IsFirstRank, IsFirstNeed, HasReset, IsLeastReason}
-use Rattle.cert_check.specs.Demands.{AreInstances, place_in, rank_of, rank_at, need_of, need_at, demand_below, Asks, offset, entry, recur, IsAsked, AreDemands, AllBelong, IsLeastOffered, Pair, MeetsRank, LowRank, PairBelow, lesser_pair, MeetsNeed, LowNeed, NumberBelow, lesser_number, IsMost, more_asked, RanksFall, AllMet, IsWeighed, IsGathering, Decides}
+use Rattle.cert_check.specs.Demands.{AreInstances, place_in, rank_of, rank_at, need_of, need_at, demand_below, AsksFor, offset, entry, recur, IsAsked, AreDemands, AllBelong, IsLeastOffered, NumberPair, MeetsRank, LowRank, PairBelow, lesser_pair, MeetsNeed, LowNeed, NumberBelow, lesser_number, IsMost, more_asked, RanksFall, AllMet, IsWeighed, IsGathering, Decides}
 use Rattle.cert_check.proofs.Lists.{IsLesser}
 use Rattle.cert_check.proofs.Insts.{HasInstPlace, place_is, placed, rank_there, need_there}
 use Rattle.cert_check.proofs.Demands.{owner, entered_belongs}
@@ -32,7 +32,7 @@ use Rattle.local_rules.specs.Site.{Task}
 
 -- ---- the lesser pair and the lesser number
 
-abbrev goes_first : Pair → Pair → Bool
+abbrev goes_first : NumberPair → NumberPair → Bool
 goes_first q p = nat_lt q.0 p.0 || ((q.0 == p.0) && nat_le q.1 p.1)
 
 first_says : (a b c d : ℕ) → (nat_lt a c || ((a == c) && nat_le b d)) ≡ true → (a < c) ⊎ ((a ≡ c) × (b ≤ d))
@@ -47,10 +47,10 @@ other_says a b c d e =
     (λ le. ⊎_elim (λ gt. absurd (grind (arith, nat_tests)))
     (λ ge. inr (omega (arith, le, ge), grind (arith, nat_tests))) (cases_lt a c)) (cases_lt c a)
 
-pair_itself : (p : Pair) → PairBelow p p
+pair_itself : (p : NumberPair) → PairBelow p p
 pair_itself p = inr (refl, omega arith)
 
-pair_along : (p q r : Pair) → PairBelow p q → PairBelow q r → PairBelow p r
+pair_along : (p q r : NumberPair) → PairBelow p q → PairBelow q r → PairBelow p r
 pair_along p q r (inl a) (inl b) = inl (omega (arith, a, b))
 pair_along p q r (inl a) (inr b) = inl (omega (arith, a, b.0))
 pair_along p q r (inr a) (inl b) = inl (omega (arith, a.0, b))
@@ -60,11 +60,11 @@ one_of : {K : Type 0} (b k : K) (t : Bool) → (cond t b k ≡ b) ⊎ (cond t b 
 one_of b k true = inl refl
 one_of b k false = inr refl
 
-pair_left : (q p : Pair) (t : Bool) → goes_first q p ≡ t → PairBelow (cond t q p) q
+pair_left : (q p : NumberPair) (t : Bool) → goes_first q p ≡ t → PairBelow (cond t q p) q
 pair_left q p true e = pair_itself q
 pair_left q p false e = other_says q.0 q.1 p.0 p.1 e
 
-pair_right : (q p : Pair) (t : Bool) → goes_first q p ≡ t → PairBelow (cond t q p) p
+pair_right : (q p : NumberPair) (t : Bool) → goes_first q p ≡ t → PairBelow (cond t q p) p
 pair_right q p true e = first_says q.0 q.1 p.0 p.1 e
 pair_right q p false e = pair_itself p
 
@@ -216,7 +216,7 @@ module _ (task : Task) (c : Claim) (nodes : List Node) (are : AreInstances c.ins
     upper_there : Contains (inst_keys c.instances) upper
     there : Contains (inst_keys c.instances) inst
 
-  way_of : (n : Node) (d : Demand) (j l : ℕ) → Contains nodes n → Asks task c.instances n d → d.inst ≡ j → d.into ≡ Some l → IsWay j l
+  way_of : (n : Node) (d : Demand) (j l : ℕ) → Contains nodes n → AsksFor task c.instances n d → d.inst ≡ j → d.into ≡ Some l → IsWay j l
   way_of n _ j l h (offset o e) is to = absurd (cc)
   way_of n _ j l h (entry way inst back e whole) is to =
       record {
@@ -242,7 +242,7 @@ module _ (task : Task) (c : Claim) (nodes : List Node) (are : AreInstances c.ins
       }
 
   rank_at_place : (j l : ℕ) (w : IsWay j l) → rank_at c.instances j ≤ rank_at c.instances l
-      → ((d : Demand) (m : Pair) → Contains demands d → LowRank c.instances d m → PairBelow (j, l) m) → HasInstPlace c.instances w.upper j
+      → ((d : Demand) (m : NumberPair) → Contains demands d → LowRank c.instances d m → PairBelow (j, l) m) → HasInstPlace c.instances w.upper j
       → HasInstPlace c.instances w.inst l → IsFirstRank task c nodes j l
   rank_at_place j l w low before p q = record {
     from = p.inst;
@@ -274,18 +274,18 @@ module _ (task : Task) (c : Claim) (nodes : List Node) (are : AreInstances c.ins
       by : IsAsked task c.instances nodes h.0.0 → IsFirstRank task c nodes j l
       by a = at (way_of a.node h.0.0 j l a.present a.asks h.0.1.1.0 h.0.1.1.1)
 
-  own_number : (n : Node) (d : Demand) (a : Asks task c.instances n d) → d.inst ≡ place_in c.instances (owner n d a)
+  own_number : (n : Node) (d : Demand) (a : AsksFor task c.instances n d) → d.inst ≡ place_in c.instances (owner n d a)
   own_number n _ (offset o e) = refl
   own_number n _ (entry way inst back e whole) = refl
   own_number n _ (recur depth cut) = refl
 
-  owner_there : (n : Node) (d : Demand) → Contains nodes n → (a : Asks task c.instances n d) → Contains (inst_keys c.instances) (owner n d a)
+  owner_there : (n : Node) (d : Demand) → Contains nodes n → (a : AsksFor task c.instances n d) → Contains (inst_keys c.instances) (owner n d a)
   owner_there n _ h (offset o e) = belong n h
   owner_there n _ h (entry way inst back e whole) = belong n h
   owner_there n _ h (recur depth cut) = root
 
   -- a number that suffices is at least each demand
-  suffices_for : (n : Node) (k : InstKey) (d : Demand) (m : ℕ) → Contains nodes n → (a : Asks task c.instances n d) → owner n d a ≡ k → Suffices task c nodes k m → d.bytes ≤ m
+  suffices_for : (n : Node) (k : InstKey) (d : Demand) (m : ℕ) → Contains nodes n → (a : AsksFor task c.instances n d) → owner n d a ≡ k → Suffices task c nodes k m → d.bytes ≤ m
   suffices_for n k _ m h (offset o e) is s = s.offsets n o h is e
   suffices_for n k _ m h (entry way inst back e whole) is s =
       subst (λ r. offset_of n.key.sp + back_of (device_of task.flash) + r ≤ m) (sym (need_there c.instances inst)) (s.entered inst (offset_of n.key.sp) (by_node n way back h is refl e whole))

@@ -9,9 +9,9 @@ use Rattle.std.proofs.lemmas.Bool.Decides.{eqb_tells}
 use Rattle.std.proofs.lemmas.Option.{none-some, same_Some, slice_get_within, get_or_from_slice_get, slice_get-get_or}
 use Rattle.basics.specs.Booleans.{less_by_test, never_both}
 use Rattle.basics.specs.Items.{none_in, first_or_further}
-use Rattle.mask_states.specs.declared.keys.InstKey.{InstKey}
-use Rattle.mask_states.specs.Order.{inst_cmp, same_inst}
-use Rattle.mask_states.proofs.AllLaws.{keys_are_ordered}
+use Rattle.node_keys.specs.declared.keys.InstKey.{InstKey}
+use Rattle.node_keys.specs.Order.{inst_cmp, same_inst}
+use Rattle.node_keys.proofs.AllLaws.{keys_are_ordered}
 use Rattle.certificate.specs.declared.instance.Inst.{Inst}
 use Rattle.certificate.specs.Insts.{inst_keys, rank_in, need_in}
 use Rattle.certificate.proofs.Instances.{key_has}

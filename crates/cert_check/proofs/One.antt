@@ -12,9 +12,9 @@ use Rattle.avr_model.specs.declared.assumption.Entry.{Entry}
 use Rattle.avr_model.specs.Assumptions.{has_pairs}
 use Rattle.avr_model.specs.Run.{Bounded}
 use Rattle.avr_model.specs.Devices.{device_of}
-use Rattle.mask_states.specs.declared.keys.NodeKey.{NodeKey}
-use Rattle.mask_states.specs.Keys.{root_inst}
-use Rattle.mask_states.specs.Order.{node_cmp}
+use Rattle.node_keys.specs.declared.keys.NodeKey.{NodeKey}
+use Rattle.node_keys.specs.Keys.{root_inst}
+use Rattle.node_keys.specs.Order.{node_cmp}
 use Rattle.local_rules.specs.declared.local.Node.{Node}
 use Rattle.local_rules.specs.declared.local.NodeFault.{NodeFault}
 use Rattle.local_rules.specs.declared.local.Local.{Local}
@@ -25,8 +25,8 @@ use Rattle.local_rules.specs.Machine.{AreWords}
 use Rattle.edge_rules.specs.Edges.{IsFaultless, IsEdge, raw_of}
 use Rattle.edge_rules.specs.Expansion.{Seeds, IsFilled, IsMissing}
 use Rattle.edge_laws.proofs.ExpansionLaws.{filled_or_missing}
-use Rattle.call_graph.specs.declared.worked.Worked.{Worked}
-use Rattle.call_graph.specs.Landings.{AreLandings}
+use Rattle.family_edges.specs.declared.worked.WorkedOut.{WorkedOut}
+use Rattle.family_edges.specs.Landings.{AreLandings}
 use Rattle.frame_laws.proofs.AllLaws.{sound_families_bound_every_run}
 use Rattle.certificate.specs.declared.instance.Inst.{Inst}
 use Rattle.certificate.specs.Insts.{IsInst, rank_in, need_in}
@@ -304,12 +304,12 @@ refused task c nodes (reason.Need j need) own f h = record { device = own; nodes
 refused task c nodes (reason.Bound need) own f h = record { device = own; nodes = nodes; expanded = f; why = h }
 refused task c nodes reason.Assumptions own f h = record { device = own; nodes = nodes; expanded = f; why = h }
 
-pub family_is : (task : Task) (c : Claim) (family : Worked) → IsClaim c → IsFilled task (read_seeds (has_pairs task.assumptions) c.nodes) family.nodes
+pub family_is : (task : Task) (c : Claim) (family : WorkedOut) → IsClaim c → IsFilled task (read_seeds (has_pairs task.assumptions) c.nodes) family.nodes
     → MeetsConditions task c family.nodes × AreLandings task family.nodes family.landings → IsFamilyOf task c family
 family_is task c family claim f h =
     record { filled = subst (λ (own : Seeds). IsFilled task own family.nodes) (as_own task.assumptions c claim h.0.assumptions) f; meets = h.0; landings = h.1 }
 
-pub few_in : (task : Task) (c : Claim) (j : Judgement Worked) → IsClaim c → IsJudgement task c j → (family : Worked) → j ≡ Accepted family
+pub few_in : (task : Task) (c : Claim) (j : Judgement WorkedOut) → IsClaim c → IsJudgement task c j → (family : WorkedOut) → j ≡ Accepted family
     → length family.nodes ≤ 65536
 few_in task c j claim h family e =
     let f : IsFamilyOf task c family = subst (IsJudgement task c) e h in

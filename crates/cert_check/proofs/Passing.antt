@@ -8,7 +8,7 @@ use Rattle.basics.specs.Items.{place_of_contained, contained_at, none_in}
 use Rattle.basics.specs.Lists.{one_at}
 use Rattle.avr_model.specs.Assumptions.{has_pairs}
 use Rattle.avr_model.specs.Devices.{device_of}
-use Rattle.mask_states.specs.declared.keys.NodeKey.{NodeKey}
+use Rattle.node_keys.specs.declared.keys.NodeKey.{NodeKey}
 use Rattle.local_rules.specs.declared.local.Node.{Node}
 use Rattle.edge_rules.specs.declared.edge.Edge.{Edge}
 use Rattle.edge_rules.specs.Edges.{IsEdge, AreEdges, target}
@@ -20,7 +20,7 @@ use Rattle.certificate.specs.Insts.{inst_keys}
 use Rattle.cert_check.specs.declared.demand.Demand.{Demand}
 use Rattle.cert_check.specs.Reading.{LandsOpen}
 use Rattle.cert_check.specs.Verdict.{AllLanded, IsFirstGap}
-use Rattle.cert_check.specs.Demands.{IsLeastOffered, LeadsToNode, GapAt, KeyBelow, AreTargets, demands_of, Asks, AreDemands, AllBelong, IsMidway}
+use Rattle.cert_check.specs.Demands.{IsLeastOffered, LeadsToNode, GapAt, KeyBelow, AreTargets, demands_of, AsksFor, AreDemands, AllBelong, IsMidway}
 use Rattle.cert_check.proofs.Demands.{listed_asks, asked_listed, landed_belongs}
 use Rattle.local_rules.specs.Site.{Task}
 
@@ -66,14 +66,14 @@ module _ (task : Task) (own : Seeds) (insts : List Inst) (nodes : List Node) whe
         (cases_lt i at)
 
     listed_here : (new : List Demand) → new ≡ demands ++ demands_of task insts n.key edges → (i : ℕ) (m : Node) (d : Demand) → slice_get nodes i ≡ Some m → i < at + 1
-        → Asks task insts m d → Contains new d
+        → AsksFor task insts m d → Contains new d
     listed_here new e i m d im lt asks =
         subst (λ l. Contains l d) (sym e)
         (⊎_elim (λ below. Contains-append_left demands (demands_of task insts n.key edges) d (mid.listed i m d im below asks))
         (λ above. let same : i ≡ at = omega (arith, lt, above) in
         let mn : m ≡ n = one_at nodes at m n (subst (λ j. slice_get nodes j ≡ Some m) same im) is in
         Contains-append_right demands (demands_of task insts n.key edges) d
-        (asked_listed task insts n nodes edges are d (subst (λ x. Asks task insts x d) mn asks)))
+        (asked_listed task insts n nodes edges are d (subst (λ x. AsksFor task insts x d) mn asks)))
         (cases_lt i at))
 
     pub goes_on : (k : NodeKey) (new : List Demand) → option_map key_of (slice_get nodes at) ≡ Some k → IsLeastOffered (LeadsToNode (has_pairs task.assumptions) own nodes) (GapAt (has_pairs task.assumptions) own nodes) KeyBelow edges None

@@ -21,8 +21,8 @@ use Rattle.abs_state.specs.declared.state.AbsState.{AbsState}
 use Rattle.abs_state.specs.Values.{value_at}
 use Rattle.abs_state.specs.Formed.{ByteFits}
 use Rattle.abs_state.specs.Hulls.{AreInHulls}
-use Rattle.mask_states.specs.declared.keys.NodeKey.{NodeKey}
-use Rattle.mask_states.specs.Order.{node_cmp}
+use Rattle.node_keys.specs.declared.keys.NodeKey.{NodeKey}
+use Rattle.node_keys.specs.Order.{node_cmp}
 use Rattle.local_rules.specs.declared.local.Node.{Node}
 use Rattle.local_rules.specs.Cover.{IsNodeIn}
 use Rattle.edge_rules.specs.declared.seeded.NodeForm.{NodeForm}
@@ -33,7 +33,7 @@ use Rattle.edge_rules.specs.Views.{place_of}
 use Rattle.edge_rules.specs.Places.{not_itself, found_at}
 use Rattle.edge_laws.specs.Expansions.{AreSeedsAscending}
 use Rattle.edge_laws.proofs.ExpansionLaws.{filled_or_missing}
-use Rattle.certificate.specs.Claims.{Claim, IsClaim, node_keys}
+use Rattle.certificate.specs.Claims.{Claim, IsClaim, seed_keys}
 use Rattle.certificate.proofs.AllLaws.{claims_are_seeds, hull_here, count_hulls, hull_fits}
 use Rattle.cert_check.specs.Reading.{facts_read, read_state, read_form, read_seed, read_seeds, TellsNothing, IsOpen}
 use Rattle.cert_check.specs.Demands.{AreBeside}
@@ -91,7 +91,7 @@ read_node followed k s h = record {
 
 -- ---- the nodes of a certificate
 
-pub keys_read : (followed : Bool) (own : Seeds) → node_keys (read_seeds followed own) ≡ node_keys own
+pub keys_read : (followed : Bool) (own : Seeds) → seed_keys (read_seeds followed own) ≡ seed_keys own
 keys_read followed [] = refl
 keys_read followed (e ∷ es) = ap (λ ks. e.0 ∷ ks) (keys_read followed es)
 
@@ -196,7 +196,7 @@ module _ (c : Claim) (claim : IsClaim c) where
 
 -- ---- which nodes are open
 
-all_keys : (P : NodeKey → Type 0) (es : Seeds) (e : NodeKey × NodeForm) → AllByRecursion P (node_keys es) → Contains es e → P e.0
+all_keys : (P : NodeKey → Type 0) (es : Seeds) (e : NodeKey × NodeForm) → AllByRecursion P (seed_keys es) → Contains es e → P e.0
 all_keys P [] e h i = absurd (none_in e i)
 all_keys P (x ∷ xs) e h i = ⊎_elim (λ same. subst (λ (y : NodeKey × NodeForm). P y.0) (sym same) h.0) (all_keys P xs e h.1) (first_or_further x e xs i)
 

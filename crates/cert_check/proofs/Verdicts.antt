@@ -7,9 +7,9 @@ use Rattle.avr_model.specs.declared.assumption.Entry.{Entry}
 use Rattle.avr_model.specs.Assumptions.{has_pairs}
 use Rattle.avr_model.specs.Devices.{device_of}
 use Rattle.abs_state.specs.declared.state.AbsState.{AbsState}
-use Rattle.mask_states.specs.declared.keys.InstKey.{InstKey}
-use Rattle.mask_states.specs.declared.keys.NodeKey.{NodeKey}
-use Rattle.mask_states.specs.Keys.{root_inst, entry_key}
+use Rattle.node_keys.specs.declared.keys.InstKey.{InstKey}
+use Rattle.node_keys.specs.declared.keys.NodeKey.{NodeKey}
+use Rattle.node_keys.specs.Keys.{root_inst, entry_key}
 use Rattle.local_rules.specs.declared.local.Node.{Node}
 use Rattle.local_rules.specs.declared.local.NodeFault.{NodeFault}
 use Rattle.local_rules.specs.Faults.{cause_of}
@@ -18,9 +18,9 @@ use Rattle.edge_rules.specs.Expansion.{Seeds, IsFilled}
 use Rattle.edge_rules.specs.Roots.{root_by, root_of}
 use Rattle.edge_rules.specs.Views.{AreShown}
 use Rattle.edge_laws.proofs.ExpansionLaws.{filled_lists_are_shown}
-use Rattle.call_graph.specs.Exits.{IsFirstFault as HasFirstFault}
+use Rattle.family_edges.specs.Exits.{IsFirstFault as HasFirstFault}
 use Rattle.certificate.specs.declared.instance.Inst.{Inst}
-use Rattle.certificate.specs.Claims.{Claim, IsClaim, Belongs, node_keys}
+use Rattle.certificate.specs.Claims.{Claim, IsClaim, Belongs, seed_keys}
 use Rattle.certificate.specs.Valid.{reset_node}
 use Rattle.cert_check.specs.declared.demand.Demand.{Demand}
 use Rattle.cert_check.specs.Reading.{read_seeds}
@@ -56,7 +56,7 @@ module _ (task : Task) (c : Claim) (nodes : List Node) (claim : IsClaim c)
   pub node_fits : (j : ℕ) (n : Node) → slice_get nodes j ≡ Some n → j < 65536
   node_fits j n e = let lt = slice_get_within nodes j n e in omega (arith, lt, few_nodes)
 
-  key_at : (P : NodeKey → Type 0) (es : Seeds) (j : ℕ) (k : NodeKey) (form : NodeForm) → AllByRecursion P (node_keys es) → slice_get es j ≡ Some (k, form) → P k
+  key_at : (P : NodeKey → Type 0) (es : Seeds) (j : ℕ) (k : NodeKey) (form : NodeForm) → AllByRecursion P (seed_keys es) → slice_get es j ≡ Some (k, form) → P k
   key_at P [] j k form h e = absurd (none-some (k, form) e)
   key_at P (x ∷ xs) zero k form h e = subst (λ (y : NodeKey × NodeForm). P y.0) (same_Some x (k, form) e) h.0
   key_at P (x ∷ xs) (suc j) k form h e = key_at P xs j k form h.1 e

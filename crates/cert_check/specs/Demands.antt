@@ -6,26 +6,26 @@ use Rattle.std.specs.Ordering.{is_le}
 use Rattle.std.specs.declared.cmp.Ordering.TheVariants.{Greater}
 use Rattle.avr_model.specs.declared.assumption.Entry.{Entry}
 use Rattle.avr_model.specs.Assumptions.{has_pairs}
-use Rattle.avr_model.specs.Devices.{Program, device_of, back_of}
+use Rattle.avr_model.specs.Devices.{Image, device_of, back_of}
 use Rattle.avr_model.specs.State.{SIZE}
 use Rattle.abs_state.specs.declared.state.AbsState.{AbsState}
-use Rattle.mask_states.specs.declared.keys.EdgeKind.{EdgeKind}
-use Rattle.mask_states.specs.declared.keys.InstKey.{InstKey}
-use Rattle.mask_states.specs.declared.keys.NodeKey.{NodeKey}
-use Rattle.mask_states.specs.declared.keys.SpForm.{SpForm}
-use Rattle.mask_states.specs.declared.keys.SpForm.TheVariants.{Closed, Open}
-use Rattle.mask_states.specs.Keys.{root_inst, offset_of, cut_at}
-use Rattle.mask_states.specs.Order.{inst_cmp, node_cmp, same_inst}
+use Rattle.node_keys.specs.declared.keys.EdgeKind.{EdgeKind}
+use Rattle.node_keys.specs.declared.keys.InstKey.{InstKey}
+use Rattle.node_keys.specs.declared.keys.NodeKey.{NodeKey}
+use Rattle.node_keys.specs.declared.keys.SpForm.{SpForm}
+use Rattle.node_keys.specs.declared.keys.SpForm.TheVariants.{Closed, Open}
+use Rattle.node_keys.specs.Keys.{root_inst, offset_of, cut_at}
+use Rattle.node_keys.specs.Order.{inst_cmp, node_cmp, same_inst}
 use Rattle.local_rules.specs.declared.local.Node.{Node}
 use Rattle.edge_rules.specs.declared.edge.Edge.{Edge}
 use Rattle.edge_rules.specs.Edges.{is_entry, Enters, IsEdge, target}
 use Rattle.edge_rules.specs.Expansion.{Seeds}
 use Rattle.edge_rules.specs.Views.{key_of}
-use Rattle.call_graph.specs.declared.landing.Landing.{Landing}
-use Rattle.call_graph.specs.Landings.{AreLandings, AreLandingsTo}
+use Rattle.family_edges.specs.declared.landing.Landing.{Landing}
+use Rattle.family_edges.specs.Landings.{AreLandings, AreLandingsTo}
 use Rattle.certificate.specs.declared.instance.Inst.{Inst}
 use Rattle.certificate.specs.Insts.{inst_keys, need_in}
-use Rattle.certificate.specs.Claims.{Claim, most_instances, node_keys}
+use Rattle.certificate.specs.Claims.{Claim, most_instances, seed_keys}
 use Rattle.certificate.specs.Valid.{IsBounded, MeetsConditions}
 use Rattle.cert_check.specs.declared.demand.Demand.{Demand}
 use Rattle.cert_check.specs.declared.gathering.LandedNodes.{LandedNodes}
@@ -52,7 +52,7 @@ IsOfferNoted {X} {K} clear offers lesser old x new =
 
 -- the expanded nodes have the keys of the certificate's own, in the same order
 abbrev pub AreBeside : Seeds → List Node → Type 0
-AreBeside own nodes = map key_of nodes ≡ node_keys own
+AreBeside own nodes = map key_of nodes ≡ seed_keys own
 
 abbrev pub LeadsToNode : Bool → Seeds → List Node → Edge → Type 0
 LeadsToNode followed own nodes e = LandsOpen followed own nodes (target e)
@@ -141,18 +141,18 @@ demands_of task insts k edges =
 
 -- A node demands a closed offset of its instance. For each entry of another instance that isn't cut it demands a higher rank, and that
 -- instance's need plus the offset and the bytes of a return address. A node of a cut instance demands the same of the root, at the depth of the line.
-pub data Asks (task : Task) (insts : List Inst) (n : Node) : Demand → Type 0 where
-  offset : (o : ℕ) → n.key.sp ≡ Closed o → Asks task insts n (record { inst = place_in insts n.key.inst; into = None; bytes = o })
+pub data AsksFor (task : Task) (insts : List Inst) (n : Node) : Demand → Type 0 where
+  offset : (o : ℕ) → n.key.sp ≡ Closed o → AsksFor task insts n (record { inst = place_in insts n.key.inst; into = None; bytes = o })
   entry : (way : EdgeKind) (inst : InstKey) (back : ℕ) → Enters task n way inst back → cut_at task.assumptions inst ≡ None
-      → Asks task insts n (demand_below insts (place_in insts n.key.inst) (offset_of n.key.sp + back_of (device_of task.flash)) inst)
+      → AsksFor task insts n (demand_below insts (place_in insts n.key.inst) (offset_of n.key.sp + back_of (device_of task.flash)) inst)
   recur : (depth : ℕ) → cut_at task.assumptions n.key.inst ≡ Some depth
-      → Asks task insts n (demand_below insts (place_in insts root_inst) (depth + back_of (device_of task.flash)) n.key.inst)
+      → AsksFor task insts n (demand_below insts (place_in insts root_inst) (depth + back_of (device_of task.flash)) n.key.inst)
 
 -- some of these nodes makes this demand
 pub record IsAsked (task : Task) (insts : List Inst) (nodes : List Node) (d : Demand) : Type 0 where
   pub node : Node
   pub present : Contains nodes node
-  pub asks : Asks task insts node d
+  pub asks : AsksFor task insts node d
 
 abbrev pub AreDemands : Task → List Inst → List Node → List Demand → Type 0
 AreDemands task insts nodes demands = (d : Demand) → Contains demands d ↔ IsAsked task insts nodes d
@@ -170,20 +170,20 @@ IsGathering task own insts nodes (Rejected r) = ⊥
 -- ---- which demands aren't met
 
 -- instances by number, the upper one first
-abbrev pub Pair : Type 0
-Pair = ℕ × ℕ
+abbrev pub NumberPair : Type 0
+NumberPair = ℕ × ℕ
 
 -- the rank of an instance is above that of the entered one
 abbrev pub MeetsRank : List Inst → Demand → Type 0
 MeetsRank insts d = (l : ℕ) → d.into ≡ Some l → rank_at insts l < rank_at insts d.inst
 
-abbrev pub LowRank : List Inst → Demand → Pair → Type 0
+abbrev pub LowRank : List Inst → Demand → NumberPair → Type 0
 LowRank insts d p = (d.inst ≡ p.0) × (d.into ≡ Some p.1) × (rank_at insts p.0 ≤ rank_at insts p.1)
 
-abbrev pub PairBelow : Pair → Pair → Type 0
+abbrev pub PairBelow : NumberPair → NumberPair → Type 0
 PairBelow p q = (p.0 < q.0) ⊎ ((p.0 ≡ q.0) × (p.1 ≤ q.1))
 
-abbrev pub lesser_pair : Option Pair → Pair → Pair
+abbrev pub lesser_pair : Option NumberPair → NumberPair → NumberPair
 lesser_pair None p = p
 lesser_pair (Some q) p = if nat_lt q.0 p.0 || ((q.0 == p.0) && nat_le q.1 p.1) then q else p
 
@@ -223,17 +223,17 @@ abbrev pub AllMet : List Inst → List Demand → Type 0
 AllMet insts demands = (d : Demand) → Contains demands d → MeetsNeed insts d
 
 -- the verdict if all edges land and these are the demands
-abbrev pub IsWeighed : Program → Claim → List Entry → List Demand → Judgement ℕ → Type 0
-IsWeighed words c A demands (Accepted bound) =
-    RanksFall c.instances demands × AllMet c.instances demands × IsBounded words c × (c.assumptions ≡ A) × (bound ≡ c.bound)
-IsWeighed words c A demands (Rejected (reason.Rank j l)) = IsLeastOffered (MeetsRank c.instances) (LowRank c.instances) PairBelow demands (Some (j, l))
-IsWeighed words c A demands (Rejected (reason.Need j need)) =
+abbrev pub IsWeighed : Image → Claim → List Entry → List Demand → Judgement ℕ → Type 0
+IsWeighed image c A demands (Accepted bound) =
+    RanksFall c.instances demands × AllMet c.instances demands × IsBounded image c × (c.assumptions ≡ A) × (bound ≡ c.bound)
+IsWeighed image c A demands (Rejected (reason.Rank j l)) = IsLeastOffered (MeetsRank c.instances) (LowRank c.instances) PairBelow demands (Some (j, l))
+IsWeighed image c A demands (Rejected (reason.Need j need)) =
     RanksFall c.instances demands × IsLeastOffered (MeetsNeed c.instances) (LowNeed c.instances) NumberBelow demands (Some j) × IsMost demands j need
-IsWeighed words c A demands (Rejected (reason.Bound need)) =
-    RanksFall c.instances demands × AllMet c.instances demands × (need ≡ need_in c.instances root_inst) × (IsBounded words c → ⊥)
-IsWeighed words c A demands (Rejected reason.Assumptions) =
-    RanksFall c.instances demands × AllMet c.instances demands × IsBounded words c × (c.assumptions ≢ A)
-IsWeighed words c A demands (Rejected r) = ⊥
+IsWeighed image c A demands (Rejected (reason.Bound need)) =
+    RanksFall c.instances demands × AllMet c.instances demands × (need ≡ need_in c.instances root_inst) × (IsBounded image c → ⊥)
+IsWeighed image c A demands (Rejected reason.Assumptions) =
+    RanksFall c.instances demands × AllMet c.instances demands × IsBounded image c × (c.assumptions ≢ A)
+IsWeighed image c A demands (Rejected r) = ⊥
 
 -- the verdict on the expanded nodes
 abbrev pub Decides : Task → Claim → List Node → Judgement ℕ → Type 0
@@ -249,7 +249,7 @@ SettlesClaim task c nodes (Rejected r) = IsLeastReason task c nodes r
 pub record IsMidway (task : Task) (own : Seeds) (insts : List Inst) (nodes : List Node) (at : ℕ) (demands : List Demand) : Type 0 where
   pub land : (i : ℕ) (n : Node) (e : Edge) → slice_get nodes i ≡ Some n → i < at → IsEdge task nodes n e → LandsOpen (has_pairs task.assumptions) own nodes (target e)
   pub asked : (d : Demand) → Contains demands d → IsAsked task insts nodes d
-  pub listed : (i : ℕ) (n : Node) (d : Demand) → slice_get nodes i ≡ Some n → i < at → Asks task insts n d → Contains demands d
+  pub listed : (i : ℕ) (n : Node) (d : Demand) → slice_get nodes i ≡ Some n → i < at → AsksFor task insts n d → Contains demands d
 
 -- the nodes below this number are gathered
 abbrev pub AreGathered : Task → Claim → List Node → ℕ → LandedNodes → Type 0

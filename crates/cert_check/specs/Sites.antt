@@ -1,7 +1,7 @@
 -- The nodes at which edges may land, as clauses see them.
 use Rattle.local_rules.specs.declared.local.Node.{Node}
 use Rattle.edge_rules.specs.declared.edge.Edge.{Edge}
-use Rattle.mask_states.specs.declared.keys.NodeKey.{NodeKey}
+use Rattle.node_keys.specs.declared.keys.NodeKey.{NodeKey}
 use Rattle.cert_check.specs.declared.landing.LandingSite.{LandingSite}
 use Rattle.cert_check.specs.Reading.{LandsOpen}
 use Rattle.cert_check.specs.Demands.{LeadsToNode, GapAt}

@@ -5,9 +5,9 @@ use Rattle.std.specs.declared.cmp.Ordering.TheVariants.{Greater}
 use Rattle.avr_model.specs.declared.assumption.Entry.{Entry}
 use Rattle.avr_model.specs.Assumptions.{has_pairs}
 use Rattle.avr_model.specs.Devices.{device_of}
-use Rattle.mask_states.specs.declared.keys.NodeKey.{NodeKey}
-use Rattle.mask_states.specs.Keys.{root_inst}
-use Rattle.mask_states.specs.Order.{node_cmp}
+use Rattle.node_keys.specs.declared.keys.NodeKey.{NodeKey}
+use Rattle.node_keys.specs.Keys.{root_inst}
+use Rattle.node_keys.specs.Order.{node_cmp}
 use Rattle.local_rules.specs.declared.local.Node.{Node}
 use Rattle.local_rules.specs.declared.local.NodeFault.{NodeFault}
 use Rattle.local_rules.specs.Faults.{cause_of}
@@ -17,8 +17,8 @@ use Rattle.edge_rules.specs.Edges.{IsFaultless, IsEdge, target}
 use Rattle.edge_rules.specs.Nest.{NestEdge}
 use Rattle.edge_rules.specs.Expansion.{Seeds, IsFilled, IsMissing}
 use Rattle.edge_rules.specs.Families.{AreFaultless}
-use Rattle.call_graph.specs.declared.worked.Worked.{Worked}
-use Rattle.call_graph.specs.Landings.{AreLandings}
+use Rattle.family_edges.specs.declared.worked.WorkedOut.{WorkedOut}
+use Rattle.family_edges.specs.Landings.{AreLandings}
 use Rattle.certificate.specs.declared.instance.Inst.{Inst}
 use Rattle.certificate.specs.Insts.{need_in}
 use Rattle.certificate.specs.Claims.{Claim}
@@ -128,12 +128,12 @@ IsVerdict task c (Rejected r) = IsReason task c r
 -- ---- with the family where all conditions hold
 
 -- the expanded nodes of the certificate, which meet the conditions, and the landings of their edges
-pub record IsFamilyOf (task : Task) (c : Claim) (family : Worked) : Type 0 where
+pub record IsFamilyOf (task : Task) (c : Claim) (family : WorkedOut) : Type 0 where
   pub filled : IsFilled task c.nodes family.nodes
   pub meets : MeetsConditions task c family.nodes
   pub landings : AreLandings task family.nodes family.landings
 
 -- The judgement: the family if all conditions but that on the schedule hold, else the reason.
-abbrev pub IsJudgement : Task → Claim → Judgement Worked → Type 0
+abbrev pub IsJudgement : Task → Claim → Judgement WorkedOut → Type 0
 IsJudgement task c (Accepted family) = IsFamilyOf task c family
 IsJudgement task c (Rejected r) = IsReason task c r

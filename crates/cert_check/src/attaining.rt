@@ -2,11 +2,11 @@
 
 ghost use Rattle.std.specs.Prelude.{◌↔◌, IsTrue};
 ghost use Rattle.certificate.specs.Valid.{IsAttained};
-ghost use Rattle.call_graph.specs.Tasks.{task_of};
+ghost use Rattle.family_edges.specs.Tasks.{task_of};
 
 use avr_model::choice::Stop;
-use call_graph::Task;
 use certificate::Certificate;
+use family_edges::Task;
 use witness_replay::replay;
 
 /// Whether the certificate's schedule attains its bound: no illegal choice is reached, the run ends without a stop, and its depth is the

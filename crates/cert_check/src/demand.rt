@@ -4,17 +4,17 @@ ghost use Rattle.std.specs.Prelude.{◌≡◌, ◌≤◌, ◌<◌, ◌++◌, len
 ghost use Rattle.avr_model.specs.State.{SIZE};
 ghost use Rattle.std.specs.List.{flat_map};
 ghost use Rattle.edge_rules.specs.declared.edge.Edge as edge_type;
-ghost use Rattle.mask_states.specs.Keys.{root_inst, cut_at};
+ghost use Rattle.node_keys.specs.Keys.{root_inst, cut_at};
 ghost use Rattle.certificate.specs.Insts.{inst_keys};
 ghost use Rattle.cert_check.specs.Demands.{AreInstances, place_in, rank_at, need_at, offset_demand, below_demand, recur_demand, entry_demand, demands_of};
-ghost use Rattle.call_graph.specs.Clauses.{Grows};
-ghost use Rattle.call_graph.specs.Tasks.{task_of};
+ghost use Rattle.family_edges.specs.Clauses.{Grows};
+ghost use Rattle.family_edges.specs.Tasks.{task_of};
 
-use call_graph::Task;
 use certificate::Inst;
 use edge_rules::Edge;
 use edge_rules::edge::is_entry;
-use mask_states::{InstKey, NodeKey, SpForm};
+use family_edges::Task;
+use node_keys::{InstKey, NodeKey, SpForm};
 use std::alloc::AllocError;
 use vector_table::Assumptions;
 

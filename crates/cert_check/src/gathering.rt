@@ -4,20 +4,20 @@ ghost use Rattle.std.specs.Prelude.{◌≡◌, ◌<◌, ◌≤◌, IfOk, length,
 ghost use Rattle.avr_model.specs.Assumptions.{has_pairs};
 ghost use Rattle.avr_model.specs.Devices.{device_of};
 ghost use Rattle.edge_rules.specs.Views.{AreShown};
-ghost use Rattle.call_graph.specs.Exits.{AreExits};
+ghost use Rattle.family_edges.specs.Exits.{AreExits};
 ghost use Rattle.cert_check.specs.Demands.{AreInstances, AreBeside, AllBelong, IsGathering, AreGathered, IsNodeGathered};
-ghost use Rattle.call_graph.specs.Tasks.{task_of};
-ghost use Rattle.mask_states.specs.Keys.{root_inst};
+ghost use Rattle.family_edges.specs.Tasks.{task_of};
+ghost use Rattle.node_keys.specs.Keys.{root_inst};
 ghost use Rattle.certificate.specs.Insts.{inst_keys};
 
 use crate::demand::{Demand, add_demands};
 use crate::landing::{Landed, LandingSite, landed_from};
 use crate::verdict::{Judgement, Reason};
 use avr_model::listed::Listed;
-use call_graph::{Filled, Landing, Task, next_with};
 use certificate::Certificate;
+use family_edges::{Filled, Landing, Task, next_with};
 use local_rules::Exit;
-use mask_states::NodeKey;
+use node_keys::NodeKey;
 use std::alloc::AllocError;
 
 // The results for nodes all of whose edges land.

@@ -5,15 +5,15 @@ ghost use Rattle.avr_model.specs.Assumptions.{has_pairs};
 ghost use Rattle.avr_model.specs.Run.{Bounded};
 ghost use Rattle.avr_model.specs.Devices.{device_of};
 ghost use Rattle.edge_rules.specs.Expansion.{IsFilled};
-ghost use Rattle.call_graph.specs.Exits.{AreExits};
-ghost use Rattle.call_graph.specs.Expanding.{IsExpanded};
+ghost use Rattle.family_edges.specs.Exits.{AreExits};
+ghost use Rattle.family_edges.specs.Expanding.{IsExpanded};
 ghost use Rattle.certificate.specs.Claims.{IsClaim};
 ghost use Rattle.certificate.specs.Valid.{IsSound};
 ghost use Rattle.cert_check.specs.declared.verdict.Reason as reason_type;
 ghost use Rattle.cert_check.specs.Reading.{own_seeds};
 ghost use Rattle.cert_check.specs.Verdict.{HasReset, IsVerdict, IsReason, IsJudgement};
 ghost use Rattle.cert_check.specs.Demands.{AreBeside, SettlesClaim};
-ghost use Rattle.call_graph.specs.Tasks.{task_of};
+ghost use Rattle.family_edges.specs.Tasks.{task_of};
 ghost use Rattle.local_rules.specs.Site.{Task};
 
 use crate::gathering::{LandedNodes, gather};
@@ -22,11 +22,11 @@ use crate::reading::read;
 use crate::verdict::{Judgement, Reason};
 use crate::weighing::weigh;
 use avr_model::listed::Listed;
-use call_graph::{Expanded, Filled, Landing, Leaving, Task, Worked, exits, expand};
 use certificate::Certificate;
+use family_edges::{Expanded, Filled, Landing, Leaving, Task, WorkedOut, exits, expand};
 use local_rules::Exit;
 use local_rules::laws::words_have_16_bits;
-use mask_states::{InstKey, NodeKey};
+use node_keys::{InstKey, NodeKey};
 use std::alloc::AllocError;
 
 // The landings of the edges of each node, or the first reason.
@@ -105,14 +105,14 @@ fn judge_nodes(
     task: &Task<'_>,
     certificate: &Certificate,
     nodes: Filled,
-) -> Result<Judgement<Worked>, AllocError>
+) -> Result<Judgement<WorkedOut>, AllocError>
     requires claim { IsClaim certificate.now }
     requires device { certificate.now.device ≡ device_of task.now.flash.now }
     requires filled { IsFilled (task_of task.now) (own_seeds (task_of task.now) certificate.now) nodes }
     ensures { IfOk result (λ judgement. IsJudgement (task_of task.now) certificate.now judgement) }
 {
     match settle(task, certificate, &nodes) {
-        Ok(Judgement::Accepted(landings)) => Ok(Judgement::Accepted(Worked { nodes, landings })),
+        Ok(Judgement::Accepted(landings)) => Ok(Judgement::Accepted(WorkedOut { nodes, landings })),
         Ok(Judgement::Rejected(reason)) => {
             drop(nodes);
             Ok(Judgement::Rejected(reason))
@@ -146,7 +146,7 @@ fn expanded(task: &Task<'_>, certificate: &Certificate) -> Result<Expanded, Allo
 pub fn judge_family(
     task: &Task<'_>,
     certificate: &Certificate,
-) -> Result<Judgement<Worked>, AllocError>
+) -> Result<Judgement<WorkedOut>, AllocError>
     ensures exact { IfOk result (λ judgement. IsJudgement (task_of task.now) certificate.now judgement) }
     ensures few { IfOk result (λ j. (f : _) → j ≡ Judgement.Accepted f → length f.nodes ≤ 65536) }
 {
@@ -161,7 +161,7 @@ pub fn judge_family(
 }
 
 // The verdict of a judgement.
-fn verdict_of(certificate: &Certificate, judgement: Judgement<Worked>) -> Judgement<u16>
+fn verdict_of(certificate: &Certificate, judgement: Judgement<WorkedOut>) -> Judgement<u16>
     ensures { (task : _) → IsJudgement task certificate.now judgement → IsVerdict task certificate.now result }
 {
     match judgement {

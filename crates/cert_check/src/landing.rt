@@ -4,19 +4,19 @@ ghost use Rattle.std.specs.Prelude.{◌≡◌, ◌≤◌, ◌<◌, ◌↔◌, le
 ghost use Rattle.edge_rules.specs.Views.{place_of};
 ghost use Rattle.edge_rules.specs.Expansion.{HasKeyAt};
 ghost use Rattle.edge_laws.specs.Expansions.{AreSeedsAscending};
-ghost use Rattle.call_graph.specs.Landings.{landing_of, landings_by};
+ghost use Rattle.family_edges.specs.Landings.{landing_of, landings_by};
 ghost use Rattle.cert_check.specs.Reading.{IsOpen};
 ghost use Rattle.cert_check.specs.Demands.{IsLeastOffered, IsOfferNoted, AreBeside, HasSlots, KeyBelow, lesser_key, AreTargets};
-ghost use Rattle.call_graph.specs.Clauses.{Grows};
+ghost use Rattle.family_edges.specs.Clauses.{Grows};
 ghost use Rattle.cert_check.specs.Sites.{LandsAt, LeadsAt, MissesAt};
 
 use crate::reading::tells_nothing;
 use abs_state::AbsState;
 use avr_model::listed::Listed;
-use call_graph::{Filled, Landing};
 use certificate::{Certificate, Seeded};
 use edge_rules::Edge;
-use mask_states::NodeKey;
+use family_edges::{Filled, Landing};
+use node_keys::NodeKey;
 use std::alloc::{AllocError, Global};
 
 // The nodes at which edges may land.

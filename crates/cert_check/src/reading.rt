@@ -6,7 +6,7 @@ ghost use Rattle.cert_check.specs.Reading.{facts_read, read_form, read_seeds, Te
 
 use abs_state::AbsState;
 use certificate::{Certificate, HeldState, NodeForm, Seed, Seeded, hulls_of};
-use mask_states::NodeKey;
+use node_keys::NodeKey;
 use pair_domain::{Facts, PairFacts};
 use std::alloc::{AllocError, Global};
 

@@ -1,6 +1,6 @@
 //! Judgements on a certificate.
 
-use mask_states::NodeKey;
+use node_keys::NodeKey;
 
 /// The reason for a refusal. Nodes and instances are numbered from 0 in order.
 #[derive(Clone, Copy)]

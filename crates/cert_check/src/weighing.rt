@@ -2,17 +2,17 @@
 
 ghost use Rattle.std.specs.Prelude.{◌≡◌, ◌≤◌, ◌↔◌, Contains, IsTrue};
 ghost use Rattle.avr_model.specs.Devices.{device_of, size_of};
-ghost use Rattle.mask_states.specs.Keys.{root_inst};
+ghost use Rattle.node_keys.specs.Keys.{root_inst};
 ghost use Rattle.certificate.specs.Claims.{IsClaim};
 ghost use Rattle.certificate.specs.Insts.{inst_keys};
 ghost use Rattle.cert_check.specs.Demands.{AreInstances, AreDemandsInside, IsInside, IsLeastOffered, IsOfferNoted, MeetsRank, LowRank, PairBelow, lesser_pair, MeetsNeed, LowNeed, NumberBelow, lesser_number, IsMost, more_asked, IsWeighed};
 
 use crate::demand::{Demand, need_at, number_of, rank_at};
 use crate::verdict::{Judgement, Reason};
-use call_graph::Task;
 use certificate::{Certificate, Inst};
+use family_edges::Task;
 use flash_image::Flash;
-use mask_states::InstKey;
+use node_keys::InstKey;
 
 // The lesser of two pairs, in lexicographic order.
 fn lesser_pair(least: Option<(usize, usize)>, pair: (usize, usize)) -> (usize, usize)

@@ -9,8 +9,8 @@ use Rattle.avr_model.specs.declared.assumption.Entry.TheVariants.{Pairs, Masks, 
 use Rattle.avr_model.specs.Assumptions.{is_before, is_line, has_line, has_pairs}
 use Rattle.avr_model.specs.declared.device.Device.{Device}
 use Rattle.vector_table.specs.Entries.{AreEntries, is_entry, fits_device, is_before_first, are_in_order}
-use Rattle.indirect_targets.specs.Exact.{AreEntriesOf}
-use Rattle.indirect_targets.proofs.AllLaws.{pushed, none_are_entries}
+use Rattle.assumption_files.specs.Exact.{AreEntriesOf}
+use Rattle.assumption_files.proofs.AllLaws.{pushed, none_are_entries}
 use Rattle.certificate.specs.declared.version.Version.{Version}
 use Rattle.certificate.specs.declared.version.Version.TheVariants.{One, Two, Three}
 use Rattle.certificate.specs.Versions.{is_first, is_third, written_by}

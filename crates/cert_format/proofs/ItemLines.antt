@@ -10,9 +10,9 @@ use Rattle.avr_model.specs.Devices.{depth_of}
 use Rattle.line_reading.specs.Reading.{dec_at, word_at, is_over}
 use Rattle.line_reading.specs.Words.{IsWord, WordLaws}
 use Rattle.line_reading.proofs.AllLaws.{map_some, bind_some, no_words}
-use Rattle.mask_states.specs.declared.keys.InstKey.{InstKey}
-use Rattle.mask_states.specs.declared.keys.NodeKey.{NodeKey}
-use Rattle.mask_states.specs.Keys.{offset_of}
+use Rattle.node_keys.specs.declared.keys.InstKey.{InstKey}
+use Rattle.node_keys.specs.declared.keys.NodeKey.{NodeKey}
+use Rattle.node_keys.specs.Keys.{offset_of}
 use Rattle.edge_rules.specs.declared.seeded.NodeForm.{NodeForm}
 use Rattle.edge_rules.specs.declared.seeded.NodeForm.TheVariants.{State, From}
 use Rattle.certificate.specs.declared.instance.Inst.{Inst}

@@ -2,26 +2,25 @@
 use Rattle.std.proofs.Common.{ℕ, suc, ◌+◌, ◌-◌, ◌<◌, ◌≤◌, ◌≡◌, List, [], ◌∷◌, ◌++◌, length, length-append, Bool, true, false, refl, ap, sym, ◌∙◌, arith, Some, None, cond, subst, slice_get, nat_le}
 use Rattle.std.specs.List.{AllByRecursion}
 use Rattle.std.specs.List.Sorted.{IsStrictlySortedBy}
-use Rattle.std.proofs.lemmas.Bool.{and_parts}
 use Rattle.std.proofs.lemmas.Bool.Decides.{nat_tests}
 use Rattle.std.proofs.lemmas.List.{map-append}
 use Rattle.std.specs.Prelude.{Contains, ◌≢◌, codes}
 use Rattle.avr_model.specs.declared.assumption.Entry.{Entry}
 use Rattle.avr_model.specs.declared.assumption.Entry.TheVariants.{Pairs, Masks, Jump, Store, Prove, Free, Never, Frame, Recur, Scratch}
-use Rattle.indirect_targets.specs.Reading.{is_entry_of, entry_in}
+use Rattle.assumption_files.specs.Reading.{is_entry_of, entry_in}
 use Rattle.cert_format.specs.LineReading.{inst_in, node_in}
-use Rattle.sb_base.specs.Lines.{words_of, spaced}
+use Rattle.text_base.specs.Lines.{words_of, spaced}
 use Rattle.line_reading.specs.Words.{IsWord, WordLaws}
 use Rattle.avr_model.specs.declared.device.Device.{Device}
-use Rattle.vector_table.specs.Entries.{is_entry, fits_device, is_above_last, most_entries}
-use Rattle.indirect_targets.specs.Spelling.{entry_words}
-use Rattle.indirect_targets.specs.Exact.{EntryWords, AreEntriesOf}
-use Rattle.indirect_targets.proofs.AllLaws.{pushed, follows, entry_is_words}
-use Rattle.mask_states.specs.declared.keys.InstKey.{InstKey}
-use Rattle.mask_states.specs.declared.keys.NodeKey.{NodeKey}
-use Rattle.mask_states.specs.Keys.{offset_of}
-use Rattle.mask_states.specs.Order.{inst_cmp, node_cmp}
-use Rattle.mask_states.specs.Laws.{KeysAreOrdered}
+use Rattle.vector_table.specs.Entries.{is_above_last, most_entries}
+use Rattle.assumption_files.specs.Spelling.{entry_words}
+use Rattle.assumption_files.specs.Exact.{EntryWords, AreEntriesOf}
+use Rattle.assumption_files.proofs.AllLaws.{pushed, follows, entry_is_words}
+use Rattle.node_keys.specs.declared.keys.InstKey.{InstKey}
+use Rattle.node_keys.specs.declared.keys.NodeKey.{NodeKey}
+use Rattle.node_keys.specs.Keys.{offset_of}
+use Rattle.node_keys.specs.Order.{inst_cmp, node_cmp}
+use Rattle.node_keys.specs.Laws.{KeysAreOrdered}
 use Rattle.edge_rules.specs.declared.seeded.NodeForm.{NodeForm}
 use Rattle.edge_rules.specs.Expansion.{Seeds}
 use Rattle.certificate.specs.declared.instance.Inst.{Inst}
@@ -30,7 +29,7 @@ use Rattle.cert_format.specs.declared.fault.CertFault.{CertFault}
 use Rattle.cert_format.specs.declared.fault.CertFault.TheVariants as fault
 use Rattle.certificate.specs.declared.limit.Limit.TheVariants as limit
 use Rattle.certificate.specs.Insts.{IsInst, inst_keys}
-use Rattle.certificate.specs.Claims.{cells_of, most_cells, most_instances, node_keys, FitsAt, AreFrom, Belongs}
+use Rattle.certificate.specs.Claims.{cells_of, most_cells, most_instances, seed_keys, FitsAt, AreFrom, Belongs}
 use Rattle.certificate.specs.Versions.{NodeIsOf, is_third}
 use Rattle.cert_words.specs.Text.{inst_words, inst_number, node_words, node_words_at}
 use Rattle.cert_format.specs.LineLaws.{InstLines, NodeLines, IsInstanceOf}
@@ -97,33 +96,33 @@ pub entries_admitted : (device : Device) (third : Bool) (front es : List Entry) 
     → Admitted (EntryOf device third) refused_entry front es
 entries_admitted device third front es h all placed = admitted_by (EntryOf device third) refused_entry (AreEntriesOf device) (entry_follows device) front es h (both_of device third (length front) es all placed)
 
-pub entry_spells : (device : Device) → WordLaws → EntryWords → (third : Bool) → Spells (λ at. entry_by device third) entry_words (EntryOf device third)
+pub entry_spells : (device : Device) → WordLaws → EntryWords → (third : Bool) → Spells (λ at. entry_by device third) (entry_words device) (EntryOf device third)
 entry_spells device k w third at text e h =
     let x = bind_some (entry_in device (words_of text)) _ e h in
     let last = cond_some {A = Entry} (is_admitted third x.0) x.0 e x.2 in
     let t = w.spelled device (words_of text) x.0 x.1 in
-    let P : Entry → Type 0 = λ y. (text ≡ spaced (entry_words y)) × EntryOf device third at y in
+    let P : Entry → Type 0 = λ y. (text ≡ spaced (entry_words device y)) × EntryOf device third at y in
     subst P last.1 (sym (k.line_words text) ∙ ap spaced t.0, (t.1, last.0))
 
 stand_words : WordLaws → (ws : List (List ℕ)) → ws ≢ [] → AllByRecursion IsWord ws → words_of (spaced ws) ≡ ws
 stand_words k [] some h = absurd (some refl)
 stand_words k (w ∷ ws) some h = k.words_stand w ws h
 
-entry_some : (e : Entry) → entry_words e ≢ []
-entry_some Pairs h = cc
-entry_some Masks h = cc
-entry_some (Jump site words) h = cc
-entry_some (Store site words) h = cc
-entry_some (Prove site) h = cc
-entry_some (Free site) h = cc
-entry_some (Never site) h = cc
-entry_some (Frame site) h = cc
-entry_some (Recur word depth) h = cc
-entry_some (Scratch site) h = cc
+entry_some : (device : Device) (e : Entry) → entry_words device e ≢ []
+entry_some device Pairs h = cc
+entry_some device Masks h = cc
+entry_some device (Jump site words) h = cc
+entry_some device (Store site words) h = cc
+entry_some device (Prove site) h = cc
+entry_some device (Free site) h = cc
+entry_some device (Never site) h = cc
+entry_some device (Frame site) h = cc
+entry_some device (Recur word depth) h = cc
+entry_some device (Scratch site) h = cc
 
-pub entry_reads : (device : Device) → WordLaws → EntryWords → (third : Bool) → Reads (λ at. entry_by device third) entry_words (EntryOf device third)
+pub entry_reads : (device : Device) → WordLaws → EntryWords → (third : Bool) → Reads (λ at. entry_by device third) (entry_words device) (EntryOf device third)
 entry_reads device k w third at e few h =
-    let read : entry_in device (words_of (spaced (entry_words e))) ≡ Some e = ap (entry_in device) (stand_words k (entry_words e) (entry_some e) (entry_is_words k e (and_parts (is_entry e) (fits_device device e) h.0).0)) ∙ w.read device e h.0 in
+    let read : entry_in device (words_of (spaced (entry_words device e))) ≡ Some e = ap (entry_in device) (stand_words k (entry_words device e) (entry_some device e) (entry_is_words k device e h.0)) ∙ w.read device e h.0 in
     rw (read, h.1) refl
 
 -- ---- instances
@@ -175,7 +174,7 @@ inst_reads device k l at x few h = ap (inst_in device) (k.words_stand (codes "in
 abbrev pub FitsNode : Device → Version → List Inst → ℕ → NodeKey × NodeForm → Type 0
 FitsNode device version insts at n = FitsAt device (is_third version) at n.0 n.1 × Belongs insts n.0 × NodeIsOf version n
 
-pub node_above_is : (ns : Seeds) (key : NodeKey) → is_node_above (last_in ns) key ≡ is_after node_cmp (node_keys ns) key
+pub node_above_is : (ns : Seeds) (key : NodeKey) → is_node_above (last_in ns) key ≡ is_after node_cmp (seed_keys ns) key
 node_above_is [] key = refl
 node_above_is (m ∷ []) key = refl
 node_above_is (m ∷ l ∷ ls) key =
@@ -192,7 +191,7 @@ both_none : (a b : Bool) (f g : CertFault) → a ≡ true → b ≡ true → con
 both_none a b f g e h = rw (e, h) refl
 
 abbrev has_room : Seeds → NodeKey → Bool
-has_room ns key = nat_le (cells_of (node_keys ns) + (1 + offset_of key.sp)) most_cells
+has_room ns key = nat_le (cells_of (seed_keys ns) + (1 + offset_of key.sp)) most_cells
 
 pub node_steady : Steady refused_node
 node_steady ns n a b h =
@@ -200,20 +199,20 @@ node_steady ns n a b h =
     both_none (is_node_above (last_in ns) n.0) (has_room ns n.0) (fault.Limit limit.Cells) (fault.Order b) t.0 t.1
 
 pub record NodesKeep (ns : Seeds) : Type 0 where
-  pub ascend : IsStrictlySortedBy node_cmp (node_keys ns)
-  pub few : cells_of (node_keys ns) ≤ most_cells
+  pub ascend : IsStrictlySortedBy node_cmp (seed_keys ns)
+  pub few : cells_of (seed_keys ns) ≤ most_cells
 
-pub keys_append : (ns ms : Seeds) → node_keys (ns ++ ms) ≡ node_keys ns ++ node_keys ms
+pub keys_append : (ns ms : Seeds) → seed_keys (ns ++ ms) ≡ seed_keys ns ++ seed_keys ms
 keys_append ns ms = map-append (λ (e : NodeKey × NodeForm). e.0) ns ms
 
 node_pushed : (device : Device) → KeysAreOrdered → (version : Version) (insts : List Inst) (ns : Seeds) (n : NodeKey × NodeForm) → NodesKeep ns → FitsNode device version insts (length ns) n → ((at : ℕ) → refused_node ns n at ≡ None) → NodesKeep (ns ++ n ∷ [])
 node_pushed device o version insts ns n h f none =
     let t = none_both (is_node_above (last_in ns) n.0) (has_room ns n.0) (fault.Limit limit.Cells) (fault.Order 0) (none 0) in
     let up = sym (node_above_is ns n.0) ∙ t.0 in
-    let room : cells_of (node_keys ns) + (1 + offset_of n.0.sp) ≤ most_cells = grind (arith, nat_tests, t.1) in
+    let room : cells_of (seed_keys ns) + (1 + offset_of n.0.sp) ≤ most_cells = grind (arith, nat_tests, t.1) in
     let P : List NodeKey → Type 0 = λ ks. IsStrictlySortedBy node_cmp ks in
     record {
-      ascend = subst P (sym (keys_append ns (n ∷ []))) (sorted_push node_cmp o.nodes (node_keys ns) n.0 h.ascend up);
+      ascend = subst P (sym (keys_append ns (n ∷ []))) (sorted_push node_cmp o.nodes (seed_keys ns) n.0 h.ascend up);
       few = omega (arith, cells_more ns n, room);
     }
 
@@ -234,9 +233,9 @@ node_follows : (ns : Seeds) (n : NodeKey × NodeForm) (ms : Seeds) → NodesKeep
 node_follows ns n ms h at =
     let P : List NodeKey → Type 0 = λ ks. IsStrictlySortedBy node_cmp ks in
     let keys = keys_append ns (n ∷ ms) in
-    let up = sorted_at node_cmp (node_keys ns) n.0 (node_keys ms) (subst P keys h.ascend) in
-    let few : cells_of (node_keys ns) + (1 + offset_of n.0.sp) ≤ most_cells =
-    omega (arith, h.few, ap cells_of keys, cells_append (node_keys ns) (node_keys (n ∷ ms)), cells_front n.0 (node_keys ms)) in
+    let up = sorted_at node_cmp (seed_keys ns) n.0 (seed_keys ms) (subst P keys h.ascend) in
+    let few : cells_of (seed_keys ns) + (1 + offset_of n.0.sp) ≤ most_cells =
+    omega (arith, h.few, ap cells_of keys, cells_append (seed_keys ns) (seed_keys (n ∷ ms)), cells_front n.0 (seed_keys ms)) in
     let room : has_room ns n.0 ≡ true = grind (arith, nat_tests, few) in
     both_none (is_node_above (last_in ns) n.0) (has_room ns n.0) (fault.Limit limit.Cells) (fault.Order at) (node_above_is ns n.0 ∙ up) room
 
@@ -271,7 +270,7 @@ pub all_from : (device : Device) (version : Version) (insts : List Inst) (at : �
 all_from device version insts at [] h = tt
 all_from device version insts at (n ∷ ns) h = (h.0.0, all_from device version insts (at + 1) ns h.1)
 
-pub all_belong : (device : Device) (version : Version) (insts : List Inst) (at : ℕ) (ns : Seeds) → AllFrom (FitsNode device version insts) at ns → AllByRecursion (Belongs insts) (node_keys ns)
+pub all_belong : (device : Device) (version : Version) (insts : List Inst) (at : ℕ) (ns : Seeds) → AllFrom (FitsNode device version insts) at ns → AllByRecursion (Belongs insts) (seed_keys ns)
 all_belong device version insts at [] h = tt
 all_belong device version insts at (n ∷ ns) h = (h.0.1, all_belong device version insts (at + 1) ns h.1)
 
@@ -279,6 +278,6 @@ pub all_of_version : (device : Device) (version : Version) (insts : List Inst) (
 all_of_version device version insts at [] h = tt
 all_of_version device version insts at (n ∷ ns) h = (h.0.2, all_of_version device version insts (at + 1) ns h.1)
 
-pub all_fit : (device : Device) (version : Version) (insts : List Inst) (at : ℕ) (ns : Seeds) → AreFrom device (is_third version) at ns → AllByRecursion (Belongs insts) (node_keys ns) → AllByRecursion (λ n. NodeIsOf version n) ns → AllFrom (FitsNode device version insts) at ns
+pub all_fit : (device : Device) (version : Version) (insts : List Inst) (at : ℕ) (ns : Seeds) → AreFrom device (is_third version) at ns → AllByRecursion (Belongs insts) (seed_keys ns) → AllByRecursion (λ n. NodeIsOf version n) ns → AllFrom (FitsNode device version insts) at ns
 all_fit device version insts at [] h g o = tt
 all_fit device version insts at (n ∷ ns) h g o = ((h.0, g.0, o.0), all_fit device version insts (at + 1) ns h.1 g.1 o.1)

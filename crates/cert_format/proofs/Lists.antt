@@ -11,7 +11,7 @@ use Rattle.std.proofs.lemmas.List.{append-nil, length_push}
 use Rattle.basics.specs.Booleans.{less_by_test}
 use Rattle.basics.specs.Items.{all_pushed}
 use Rattle.witness_replay.proofs.Exact.{as_words}
-use Rattle.sb_base.specs.Lines.{TextLine, Place, spaced}
+use Rattle.text_base.specs.Lines.{TextLine, Position, spaced}
 use Rattle.line_reading.specs.Reading.{then_at, line_by}
 use Rattle.line_reading.specs.Words.{whole, Passes}
 use Rattle.line_reading.proofs.AllLaws.{line_takes, line_again, passes_none, passes_more, passes_split, passes_end}
@@ -30,8 +30,8 @@ pub then_ok : {A B : Type 0} (d : Result A CertFault) (f : A → Result B CertFa
 then_ok (Ok x) f y e = (x, refl, e)
 then_ok (Err q) f y e = absurd (err_ok q y e)
 
-pub formed_ok : {A : Type 0} (d : Result (A × Place) Place) (z : A × Place) → formed d ≡ Ok z → d ≡ Ok z
-formed_ok {A} (Ok x) z e = ap (λ (y : A × Place). Ok y) (ok_is x z e)
+pub formed_ok : {A : Type 0} (d : Result (A × Position) Position) (z : A × Position) → formed d ≡ Ok z → d ≡ Ok z
+formed_ok {A} (Ok x) z e = ap (λ (y : A × Position). Ok y) (ok_is x z e)
 formed_ok {A} (Err q) z e = absurd (err_ok _ z e)
 
 pub unless_ok : {X : Type 0} (o : Option CertFault) (x y : X) → unless o x ≡ Ok y → (o ≡ None) × (x ≡ y)
@@ -63,7 +63,7 @@ AllFrom P at (x ∷ xs) = P at x × AllFrom P (at + 1) xs
 abbrev pub lines : {A : Type 0} → (A → List (List ℕ)) → List A → List TextLine
 lines words xs = map whole (map words xs)
 
-pub record LongerRead {A : Type 0} (words : A → List (List ℕ)) (P : ℕ → A → Type 0) (refused : List A → A → ℕ → Option CertFault) (xs : List A) (p : Place) (z : List A × Place) : Type 0 where
+pub record LongerRead {A : Type 0} (words : A → List (List ℕ)) (P : ℕ → A → Type 0) (refused : List A → A → ℕ → Option CertFault) (xs : List A) (p : Position) (z : List A × Position) : Type 0 where
   pub item : A
   pub fits : P (length xs) item
   pub none : refused xs item p.at ≡ None
@@ -71,7 +71,7 @@ pub record LongerRead {A : Type 0} (words : A → List (List ℕ)) (P : ℕ → 
   pub passes : Passes p (whole (words item) ∷ []) z.1
 
 pub longer_take : {A : Type 0} (by : ℕ → List ℕ → Option A) (words : A → List (List ℕ)) (P : ℕ → A → Type 0) (refused : List A → A → ℕ → Option CertFault) → Spells by words P
-    → (xs : List A) (p : Place) (z : List A × Place) → longer_at by refused xs p ≡ Ok z → LongerRead words P refused xs p z
+    → (xs : List A) (p : Position) (z : List A × Position) → longer_at by refused xs p ≡ Ok z → LongerRead words P refused xs p z
 unfolding longer_at
 longer_take {A} by words P refused spells xs p z e =
     let x = then_ok (formed (line_by (by (length xs)) p)) _ z e in
@@ -79,17 +79,17 @@ longer_take {A} by words P refused spells xs p z e =
     let none = unless_ok (refused xs x.0.0 p.at) (xs ++ x.0.0 ∷ []) ys.0 ys.1 in
     let t = line_takes (by (length xs)) p x.0.0 x.0.1 (formed_ok (line_by (by (length xs)) p) x.0 x.1) in
     let s = spells (length xs) t.text x.0.0 t.read in
-    let pair = ok_is {A = List A × Place} (ys.0, x.0.1) z ys.2 in
-    let Q : Place → Type 0 = λ q. Passes p (whole (words x.0.0) ∷ []) q in
+    let pair = ok_is {A = List A × Position} (ys.0, x.0.1) z ys.2 in
+    let Q : Position → Type 0 = λ q. Passes p (whole (words x.0.0) ∷ []) q in
     record {
       item = x.0.0;
       fits = s.1;
       none = none.0;
-      all = none.1 ∙ ap (λ (y : List A × Place). y.0) pair;
-      passes = subst Q (ap (λ (y : List A × Place). y.1) pair) (as_words (by (length xs)) p x.0.0 x.0.1 t (words x.0.0) s.0);
+      all = none.1 ∙ ap (λ (y : List A × Position). y.0) pair;
+      passes = subst Q (ap (λ (y : List A × Position). y.1) pair) (as_words (by (length xs)) p x.0.0 x.0.1 t (words x.0.0) s.0);
     }
 
-pub record ItemsRead {A : Type 0} (words : A → List (List ℕ)) (P : ℕ → A → Type 0) (refused : List A → A → ℕ → Option CertFault) (xs : List A) (n : ℕ) (p : Place) (z : List A × Place) : Type 0 where
+pub record ItemsRead {A : Type 0} (words : A → List (List ℕ)) (P : ℕ → A → Type 0) (refused : List A → A → ℕ → Option CertFault) (xs : List A) (n : ℕ) (p : Position) (z : List A × Position) : Type 0 where
   pub items : List A
   pub all : xs ++ items ≡ z.0
   pub number : length items ≡ n
@@ -97,11 +97,11 @@ pub record ItemsRead {A : Type 0} (words : A → List (List ℕ)) (P : ℕ → A
   pub passes : Passes p (lines words items) z.1
 
 pub items_take : {A : Type 0} (by : ℕ → List ℕ → Option A) (words : A → List (List ℕ)) (P : ℕ → A → Type 0) (refused : List A → A → ℕ → Option CertFault) → Spells by words P → Steady refused
-    → (xs : List A) (n : ℕ) (p : Place) (z : List A × Place) → items_from by refused xs n p ≡ Ok z → ItemsRead words P refused xs n p z
+    → (xs : List A) (n : ℕ) (p : Position) (z : List A × Position) → items_from by refused xs n p ≡ Ok z → ItemsRead words P refused xs n p z
 unfolding items_from
 items_take {A} by words P refused spells steady xs zero p z e =
-    let Q : List A × Place → Type 0 = λ y. ItemsRead words P refused xs 0 p y in
-    subst Q (ok_is {A = List A × Place} (xs, p) z e) (record { items = []; all = append-nil xs; number = refl; fit = tt; passes = passes_none p })
+    let Q : List A × Position → Type 0 = λ y. ItemsRead words P refused xs 0 p y in
+    subst Q (ok_is {A = List A × Position} (xs, p) z e) (record { items = []; all = append-nil xs; number = refl; fit = tt; passes = passes_none p })
 items_take {A} by words P refused spells steady xs (suc n) p z e =
     let y = then_ok (longer_at by refused xs p) _ z e in
     let one = longer_take by words P refused spells xs p y.0 y.1 in
@@ -116,16 +116,16 @@ items_take {A} by words P refused spells steady xs (suc n) p z e =
     }
 
 longer_again : {A : Type 0} (by : ℕ → List ℕ → Option A) (words : A → List (List ℕ)) (P : ℕ → A → Type 0) (refused : List A → A → ℕ → Option CertFault) → Reads by words P
-    → (xs : List A) (x : A) (p q : Place) → length xs ≤ 65536 → P (length xs) x → ((at : ℕ) → refused xs x at ≡ None) → Passes p (whole (words x) ∷ []) q → longer_at by refused xs p ≡ Ok (xs ++ x ∷ [], q)
+    → (xs : List A) (x : A) (p q : Position) → length xs ≤ 65536 → P (length xs) x → ((at : ℕ) → refused xs x at ≡ None) → Passes p (whole (words x) ∷ []) q → longer_at by refused xs p ≡ Ok (xs ++ x ∷ [], q)
 unfolding longer_at
 longer_again by words P refused reads xs x p q few fits none h =
     let line = line_again (by (length xs)) p q (spaced (words x)) x (reads (length xs) x few fits) h in
     rw (line, none p.at) refl
 
 pub items_again : {A : Type 0} (by : ℕ → List ℕ → Option A) (words : A → List (List ℕ)) (P : ℕ → A → Type 0) (refused : List A → A → ℕ → Option CertFault) → Reads by words P
-    → (xs ys : List A) (n : ℕ) (p q : Place) → length xs + n ≤ 65536 → Admitted P refused xs ys → length ys ≡ n → Passes p (lines words ys) q → items_from by refused xs n p ≡ Ok (xs ++ ys, q)
+    → (xs ys : List A) (n : ℕ) (p q : Position) → length xs + n ≤ 65536 → Admitted P refused xs ys → length ys ≡ n → Passes p (lines words ys) q → items_from by refused xs n p ≡ Ok (xs ++ ys, q)
 unfolding items_from
-items_again {A} by words P refused reads xs [] zero p q few a e h = ap₂ (λ (zs : List A) (r : Place). Ok (zs, r)) (sym (append-nil xs)) (passes_end p q h)
+items_again {A} by words P refused reads xs [] zero p q few a e h = ap₂ (λ (zs : List A) (r : Position). Ok (zs, r)) (sym (append-nil xs)) (passes_end p q h)
 items_again {A} by words P refused reads xs [] (suc n) p q few a e h = absurd (omega (arith, e))
 items_again {A} by words P refused reads xs (y ∷ ys) zero p q few a e h = absurd (omega (arith, e))
 items_again {A} by words P refused reads xs (y ∷ ys) (suc n) p q few a e h =

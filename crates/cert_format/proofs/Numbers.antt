@@ -5,9 +5,9 @@ use Rattle.std.specs.List.{position, AllByRecursion}
 use Rattle.std.proofs.lemmas.Bool.Decides.{nat_tests}
 use Rattle.basics.specs.Lists.{all_pass_if_none_fails, chosen}
 use Rattle.std.proofs.lemmas.Option.{none-some}
-use Rattle.sb_base.specs.Digits.{is_dec, number_from, has_extra_zero, dec_answer, unless_bad, capped}
-use Rattle.sb_base.specs.declared.digits.DigitFault.TheVariants.{WrongLength, BadDigit, TooGreat}
-use Rattle.sb_base.specs.Lines.{Lacks}
+use Rattle.text_base.specs.Digits.{is_dec, number_from, has_extra_zero, dec_answer, unless_bad, capped}
+use Rattle.text_base.specs.declared.digits.DigitFault.TheVariants.{WrongLength, BadDigit, TooGreat}
+use Rattle.text_base.specs.Lines.{Lacks}
 use Rattle.line_reading.specs.Reading.{word_at, is_over}
 use Rattle.line_reading.specs.Words.{IsWord}
 use Rattle.line_reading.proofs.AllLaws.{bind_some, no_words}

@@ -13,10 +13,10 @@ use Rattle.std.proofs.lemmas.Option.{same_Some, none-some, cond_some}
 use Rattle.witness_replay.proofs.Exact.{as_words}
 use Rattle.avr_model.specs.declared.device.Device.{Device}
 use Rattle.avr_model.specs.Devices.{depth_of}
-use Rattle.sb_base.specs.Digits.{dec_answer}
-use Rattle.sb_base.specs.declared.digits.DigitFault.{DigitFault}
-use Rattle.sb_base.specs.declared.digits.DigitFault.TheVariants.{WrongLength, BadDigit, TooGreat}
-use Rattle.sb_base.specs.Lines.{TextLine, Place, Lacks, lines_of, words_of, spaced, line}
+use Rattle.text_base.specs.Digits.{dec_answer}
+use Rattle.text_base.specs.declared.digits.DigitFault.{DigitFault}
+use Rattle.text_base.specs.declared.digits.DigitFault.TheVariants.{WrongLength, BadDigit, TooGreat}
+use Rattle.text_base.specs.Lines.{TextLine, Position, Lacks, lines_of, words_of, spaced, line}
 use Rattle.line_reading.specs.Reading.{dec_at, word_at, word_by, is_over, number_and, this_by, line_by}
 use Rattle.line_reading.specs.Words.{IsWord, whole, sizes, Passes, WordLaws}
 use Rattle.line_reading.proofs.AllLaws.{bind_some, map_some, no_words, line_takes, line_again, passes_none, passes_end, passes_more, passes_split, sizes_append, number_of}
@@ -38,13 +38,13 @@ use Rattle.cert_format.proofs.Lists.{ok_is, err_ok, then_ok, formed_ok, Admitted
 
 -- ---- places
 
-abbrev pub Stand : Place → List (List (List ℕ)) → Place → Type 0
+abbrev pub Stand : Position → List (List (List ℕ)) → Position → Type 0
 Stand p wss q = Passes p (map whole wss) q
 
-pub stand_more : (p m q : Place) (xs bs : List (List (List ℕ))) → Stand p xs m → Stand m bs q → Stand p (xs ++ bs) q
+pub stand_more : (p m q : Position) (xs bs : List (List (List ℕ))) → Stand p xs m → Stand m bs q → Stand p (xs ++ bs) q
 stand_more p m q xs bs h g = let P : List TextLine → Type 0 = λ ls. Passes p ls q in subst P (sym (map-append whole xs bs)) (passes_more p m q (map whole xs) (map whole bs) h g)
 
-pub stand_cut : (p q : Place) (xs bs : List (List (List ℕ))) → Stand p (xs ++ bs) q → (m : Place) × Stand p xs m × Stand m bs q
+pub stand_cut : (p q : Position) (xs bs : List (List (List ℕ))) → Stand p (xs ++ bs) q → (m : Position) × Stand p xs m × Stand m bs q
 stand_cut p q xs bs h =
     let P : List TextLine → Type 0 = λ ls. Passes p ls q in
     let g = subst P (map-append whole xs bs) h in (
@@ -54,7 +54,7 @@ stand_cut p q xs bs h =
     )
 
 -- the place of a reader before a text
-abbrev pub before : ℕ → List ℕ → Place
+abbrev pub before : ℕ → List ℕ → Position
 before at text = record { at = at; rest = lines_of text }
 
 -- lines of words are at a place exactly when their text is
@@ -95,12 +95,12 @@ this_is text t u e = (bytes_eq-Decides t text).0 (cond_some (bytes_eq t text) tt
 pub this_again : (text : List ℕ) → this_by text text ≡ Some tt
 this_again text = rw (same_text text) refl
 
-pub this_take : (ws : List (List ℕ)) (p : Place) (z : Unit {0} × Place) → formed (line_by (this_by (spaced ws)) p) ≡ Ok z → Stand p (ws ∷ []) z.1
+pub this_take : (ws : List (List ℕ)) (p : Position) (z : Unit {0} × Position) → formed (line_by (this_by (spaced ws)) p) ≡ Ok z → Stand p (ws ∷ []) z.1
 this_take ws p z e =
     let l = line_takes (this_by (spaced ws)) p z.0 z.1 (formed_ok (line_by (this_by (spaced ws)) p) z e) in
     as_words (this_by (spaced ws)) p z.0 z.1 l ws (this_is (spaced ws) l.text z.0 l.read)
 
-pub this_line : (ws : List (List ℕ)) (p q : Place) → Stand p (ws ∷ []) q → formed (line_by (this_by (spaced ws)) p) ≡ Ok (tt, q)
+pub this_line : (ws : List (List ℕ)) (p q : Position) → Stand p (ws ∷ []) q → formed (line_by (this_by (spaced ws)) p) ≡ Ok (tt, q)
 this_line ws p q h = ap formed (line_again (this_by (spaced ws)) p q (spaced ws) tt (this_again (spaced ws)) h)
 
 numbered_take : WordLaws → (name : List ℕ) (least most n : ℕ) (ws : List (List ℕ)) → most < 2 ^ 64 → numbered_in name least most ws ≡ Some n → (ws ≡ numbered name n) × (least ≤ n) × (n ≤ most)
@@ -122,14 +122,14 @@ pub numbered_again : WordLaws → (name : List ℕ) (least most n : ℕ) → mos
 unfolding numbered_in
 numbered_again k name least most n room large h = let t = k.dec_taken most n [] room h in rw (same_text name, t, test_from_at_most least n large) refl
 
-pub number_take : WordLaws → (name : List ℕ) (least most : ℕ) (p : Place) (z : ℕ × Place) → most < 2 ^ 64 → formed (line_by (numbered_by name least most) p) ≡ Ok z
+pub number_take : WordLaws → (name : List ℕ) (least most : ℕ) (p : Position) (z : ℕ × Position) → most < 2 ^ 64 → formed (line_by (numbered_by name least most) p) ≡ Ok z
     → Stand p (numbered name z.0 ∷ []) z.1 × (least ≤ z.0) × (z.0 ≤ most)
 number_take k name least most p z room e =
     let l = line_takes (numbered_by name least most) p z.0 z.1 (formed_ok (line_by (numbered_by name least most) p) z e) in
     let t = numbered_take k name least most z.0 (words_of l.text) room l.read in
     (as_words (numbered_by name least most) p z.0 z.1 l (numbered name z.0) (sym (k.line_words l.text) ∙ ap spaced t.0), t.1, t.2)
 
-pub number_line : WordLaws → (name : List ℕ) (least most n : ℕ) (p q : Place) → IsWord name → most < 2 ^ 64 → least ≤ n → n ≤ most → Stand p (numbered name n ∷ []) q → formed (line_by (numbered_by name least most) p) ≡ Ok (n, q)
+pub number_line : WordLaws → (name : List ℕ) (least most n : ℕ) (p q : Position) → IsWord name → most < 2 ^ 64 → least ≤ n → n ≤ most → Stand p (numbered name n ∷ []) q → formed (line_by (numbered_by name least most) p) ≡ Ok (n, q)
 number_line k name least most n p q word room large small h =
     ap formed (line_again (numbered_by name least most) p q (spaced (numbered name n)) n
     (ap (numbered_in name least most) (k.words_stand name (decimal n ∷ []) (numbered_plain k name n word (omega (arith, small, room)))) ∙ numbered_again k name least most n room large small) h)
@@ -162,31 +162,31 @@ count_again : WordLaws → (n : ℕ) → n ≤ most_nodes → count_in (numbered
 unfolding count_in
 count_again k n h = let t = number_of (dec_answer (decimal n) most_nodes) n (k.dec_taken most_nodes n [] (lit< tt) h) in rw t refl
 
-limited_ok : (d : Result (Option ℕ × Place) CertFault) (z : ℕ × Place) → limited d ≡ Ok z → d ≡ Ok (Some z.0, z.1)
-limited_ok (Ok (Some n, q)) z e = ap (λ (y : ℕ × Place). Ok (Some y.0, y.1)) (ok_is {A = ℕ × Place} (n, q) z e)
+limited_ok : (d : Result (Option ℕ × Position) CertFault) (z : ℕ × Position) → limited d ≡ Ok z → d ≡ Ok (Some z.0, z.1)
+limited_ok (Ok (Some n, q)) z e = ap (λ (y : ℕ × Position). Ok (Some y.0, y.1)) (ok_is {A = ℕ × Position} (n, q) z e)
 limited_ok (Ok (None, q)) z e = absurd (err_ok _ z e)
 limited_ok (Err f) z e = absurd (err_ok f z e)
 
-pub nodes_take : WordLaws → (p : Place) (z : ℕ × Place) → limited (formed (line_by count_by p)) ≡ Ok z → Stand p (numbered (codes "nodes") z.0 ∷ []) z.1 × (z.0 ≤ most_nodes)
+pub nodes_take : WordLaws → (p : Position) (z : ℕ × Position) → limited (formed (line_by count_by p)) ≡ Ok z → Stand p (numbered (codes "nodes") z.0 ∷ []) z.1 × (z.0 ≤ most_nodes)
 nodes_take k p z e =
     let l = line_takes count_by p (Some z.0) z.1 (formed_ok (line_by count_by p) (Some z.0, z.1) (limited_ok (formed (line_by count_by p)) z e)) in
     let t = count_take k (words_of l.text) z.0 l.read in
     (as_words count_by p (Some z.0) z.1 l (numbered (codes "nodes") z.0) (sym (k.line_words l.text) ∙ ap spaced t.0), t.1)
 
-pub nodes_line : WordLaws → (n : ℕ) (p q : Place) → n ≤ most_nodes → Stand p (numbered (codes "nodes") n ∷ []) q → limited (formed (line_by count_by p)) ≡ Ok (n, q)
+pub nodes_line : WordLaws → (n : ℕ) (p q : Position) → n ≤ most_nodes → Stand p (numbered (codes "nodes") n ∷ []) q → limited (formed (line_by count_by p)) ≡ Ok (n, q)
 nodes_line k n p q small h =
-    ap (λ (d : Result (Option ℕ × Place) Place). limited (formed d)) (line_again count_by p q (spaced (numbered (codes "nodes") n)) (Some n)
+    ap (λ (d : Result (Option ℕ × Position) Position). limited (formed d)) (line_again count_by p q (spaced (numbered (codes "nodes") n)) (Some n)
     (ap count_in (k.words_stand (codes "nodes") (decimal n ∷ []) (numbered_plain k (codes "nodes") n (plain (codes "nodes" ∷ []) refl).0 (omega (arith, small)))) ∙ count_again k n small) h)
 
 -- ---- a list
 
-pub record ListPart {A : Type 0} (name : List ℕ) (most : ℕ) (words : A → List (List ℕ)) (P : ℕ → A → Type 0) (refused : List A → A → ℕ → Option CertFault) (p : Place) (z : List A × Place) : Type 0 where
+pub record ListPart {A : Type 0} (name : List ℕ) (most : ℕ) (words : A → List (List ℕ)) (P : ℕ → A → Type 0) (refused : List A → A → ℕ → Option CertFault) (p : Position) (z : List A × Position) : Type 0 where
   pub fit : Admitted P refused [] z.0
   pub few : length z.0 ≤ most
   pub lines : Stand p (numbered name (length z.0) ∷ map words z.0) z.1
 
 pub list_take : {A : Type 0} (by : ℕ → List ℕ → Option A) (words : A → List (List ℕ)) (P : ℕ → A → Type 0) (refused : List A → A → ℕ → Option CertFault) → Spells by words P → Steady refused
-    → (name : List ℕ) (most n : ℕ) (p m : Place) (z : List A × Place) → Stand p (numbered name n ∷ []) m → n ≤ most → items_from by refused [] n m ≡ Ok z → ListPart name most words P refused p z
+    → (name : List ℕ) (most n : ℕ) (p m : Position) (z : List A × Position) → Stand p (numbered name n ∷ []) m → n ≤ most → items_from by refused [] n m ≡ Ok z → ListPart name most words P refused p z
 list_take {A} by words P refused spells steady name most n p m z count small e =
     let r = items_take by words P refused spells steady [] n m z e in
     let Q : ℕ → Type 0 = λ i. Stand p (numbered name i ∷ []) m in
@@ -195,7 +195,7 @@ list_take {A} by words P refused spells steady name most n p m z count small e =
     record { fit = t.0; few = t.1; lines = t.2 }
 
 pub list_again : {A : Type 0} (by : ℕ → List ℕ → Option A) (words : A → List (List ℕ)) (P : ℕ → A → Type 0) (refused : List A → A → ℕ → Option CertFault) → Reads by words P
-    → (name : List ℕ) (xs : List A) (p q : Place) → length xs ≤ 65536 → Admitted P refused [] xs → Stand p (numbered name (length xs) ∷ map words xs) q → (m : Place) × Stand p (numbered name (length xs) ∷ []) m × (items_from by refused [] (length xs) m ≡ Ok (xs, q))
+    → (name : List ℕ) (xs : List A) (p q : Position) → length xs ≤ 65536 → Admitted P refused [] xs → Stand p (numbered name (length xs) ∷ map words xs) q → (m : Position) × Stand p (numbered name (length xs) ∷ []) m × (items_from by refused [] (length xs) m ≡ Ok (xs, q))
 list_again by words P refused reads name xs p q few fit h =
     let s = passes_split p q (whole (numbered name (length xs))) (map whole (map words xs)) h in
     (s.0, s.1, items_again by words P refused reads [] xs (length xs) s.0 q (omega (arith, few)) fit refl s.2)
@@ -230,7 +230,7 @@ version_again false One = refl
 version_again false Two = refl
 version_again false Three = refl
 
-pub version_take : (says : Bool) (p : Place) (z : Version × Place) → formed (line_by (version_by says) p) ≡ Ok z → Stand p (version_line says z.0 ∷ []) z.1 × (says ≡ true → z.0 ≡ Two)
+pub version_take : (says : Bool) (p : Position) (z : Version × Position) → formed (line_by (version_by says) p) ≡ Ok z → Stand p (version_line says z.0 ∷ []) z.1 × (says ≡ true → z.0 ≡ Two)
 version_take says p z e =
     let l = line_takes (version_by says) p z.0 z.1 (formed_ok (line_by (version_by says) p) z e) in
     (as_words (version_by says) p z.0 z.1 l (version_line says z.0) (version_is says l.text z.0 l.read), later_by says l.text z.0 l.read)
@@ -294,12 +294,12 @@ named_word other name e = subst IsWord (class_named other name e) (class_word ot
 pub name_words : (name : List ℕ) → IsWord name → AllByRecursion IsWord (device_line name)
 name_words name h = ((plain (codes "device" ∷ []) refl).0, (h, tt))
 
-for_this_ok : (d : Result (Option Device × Place) CertFault) (z : Unit {0} × Place) → for_this d ≡ Ok z → d ≡ Ok (None, z.1)
-for_this_ok (Ok (None, q)) z e = ap (λ (y : Unit {0} × Place). Ok (None, y.1)) (ok_is {A = Unit {0} × Place} (tt, q) z e)
+for_this_ok : (d : Result (Option Device × Position) CertFault) (z : Unit {0} × Position) → for_this d ≡ Ok z → d ≡ Ok (None, z.1)
+for_this_ok (Ok (None, q)) z e = ap (λ (y : Unit {0} × Position). Ok (None, y.1)) (ok_is {A = Unit {0} × Position} (tt, q) z e)
 for_this_ok (Ok (Some other, q)) z e = absurd (err_ok _ z e)
 for_this_ok (Err f) z e = absurd (err_ok f z e)
 
-pub device_take : WordLaws → (says : Bool) (device : Device) (p : Place) (z : Unit {0} × Place) → device_at says device p ≡ Ok z → Stand p (device_lines says device) z.1
+pub device_take : WordLaws → (says : Bool) (device : Device) (p : Position) (z : Unit {0} × Position) → device_at says device p ≡ Ok z → Stand p (device_lines says device) z.1
 unfolding device_at
 device_take k true device p z e =
     let l = line_takes (device_by device) p None z.1 (formed_ok (line_by (device_by device) p) (None, z.1) (for_this_ok (formed (line_by (device_by device) p)) z e)) in
@@ -309,24 +309,24 @@ device_take k true device p z e =
       | inr h ↦ absurd (none-some h.0 h.1)
     ] in
     as_words (device_by device) p None z.1 l (device_line (class_of device)) (sym (k.line_words l.text) ∙ ap spaced (t.1 ∙ ap device_line own))
-device_take k false device p z e = let P : Unit {0} × Place → Type 0 = λ y. Stand p [] y.1 in subst P (ok_is {A = Unit {0} × Place} (tt, p) z e) (passes_none p)
+device_take k false device p z e = let P : Unit {0} × Position → Type 0 = λ y. Stand p [] y.1 in subst P (ok_is {A = Unit {0} × Position} (tt, p) z e) (passes_none p)
 
-device_again : WordLaws → (says : Bool) (device : Device) (p q : Place) → Stand p (device_lines says device) q → device_at says device p ≡ Ok (tt, q)
+device_again : WordLaws → (says : Bool) (device : Device) (p q : Position) → Stand p (device_lines says device) q → device_at says device p ≡ Ok (tt, q)
 unfolding device_at
 device_again k true device p q h =
     let name = class_of device in
-    ap (λ (d : Result (Option Device × Place) Place). for_this (formed d)) (line_again (device_by device) p q (spaced (device_line name)) None
+    ap (λ (d : Result (Option Device × Position) Position). for_this (formed d)) (line_again (device_by device) p q (spaced (device_line name)) None
     (ap (device_in device) (k.words_stand (codes "device") (name ∷ []) (name_words name (class_word device))) ∙ device_reads device name None (own_name device)) h)
-device_again k false device p q h = ap (λ (r : Place). Ok (tt, r)) (passes_end p q h)
+device_again k false device p q h = ap (λ (r : Position). Ok (tt, r)) (passes_end p q h)
 
 -- ---- the heading
 
-pub record HeadingPart (device : Device) (p : Place) (z : (Version × ℕ) × Place) : Type 0 where
+pub record HeadingPart (device : Device) (p : Position) (z : (Version × ℕ) × Position) : Type 0 where
   pub lines : Stand p (heading device z.0.0 z.0.1) z.1
   pub small : z.0.1 ≤ depth_of device
   pub later : says_device device ≡ true → z.0.0 ≡ Two
 
-pub heading_take : (device : Device) → WordLaws → (p : Place) (z : (Version × ℕ) × Place) → heading_at device p ≡ Ok z → HeadingPart device p z
+pub heading_take : (device : Device) → WordLaws → (p : Position) (z : (Version × ℕ) × Position) → heading_at device p ≡ Ok z → HeadingPart device p z
 unfolding heading_at
 heading_take device k p z e =
     let says = says_device device in
@@ -336,14 +336,14 @@ heading_take device k p z e =
     let b = number_take k (codes "bound") 0 (depth_of device) d.0.1 n.0 (depth_room device) n.1 in
     let first = version_take says p v.0 v.1 in
     let second = stand_more v.0.1 d.0.1 n.0.1 (device_lines says device) (numbered (codes "bound") n.0.0 ∷ []) (device_take k says device v.0.1 d.0 d.1) b.0 in
-    let P : (Version × ℕ) × Place → Type 0 = λ y. HeadingPart device p y in
-    subst P (ok_is {A = (Version × ℕ) × Place} ((v.0.0, n.0.0), n.0.1) z n.2) (record {
+    let P : (Version × ℕ) × Position → Type 0 = λ y. HeadingPart device p y in
+    subst P (ok_is {A = (Version × ℕ) × Position} ((v.0.0, n.0.0), n.0.1) z n.2) (record {
       lines = stand_more p v.0.1 n.0.1 (version_line says v.0.0 ∷ []) (device_lines says device ++ numbered (codes "bound") n.0.0 ∷ []) first.0 second;
       small = b.2;
       later = first.1;
     })
 
-pub heading_again : (device : Device) → WordLaws → (p : Place) (version : Version) (n : ℕ) (q : Place) → n ≤ depth_of device → Stand p (heading device version n) q → heading_at device p ≡ Ok ((version_read (says_device device) version, n), q)
+pub heading_again : (device : Device) → WordLaws → (p : Position) (version : Version) (n : ℕ) (q : Position) → n ≤ depth_of device → Stand p (heading device version n) q → heading_at device p ≡ Ok ((version_read (says_device device) version, n), q)
 unfolding heading_at
 heading_again device k p version n q small h =
     let says = says_device device in
@@ -376,21 +376,21 @@ unfolding ending_by
 ending_again false = refl
 ending_again true = refl
 
-pub record WitnessPart (device : Device) (p : Place) (z : Option Plan × Place) : Type 0 where
+pub record WitnessPart (device : Device) (p : Position) (z : Option Plan × Position) : Type 0 where
   pub schedule : IfSome z.0 (IsSchedule device)
   pub lines : Stand p (witness_lines z.0) z.1
 
-plan_take : (device : Device) → ScheduleIsSpelled → (b : Bool) (p m : Place) (z : Option Plan × Place) → Stand p (ending_words b ∷ []) m → plan_if device b m ≡ Ok z → WitnessPart device p z
+plan_take : (device : Device) → ScheduleIsSpelled → (b : Bool) (p m : Position) (z : Option Plan × Position) → Stand p (ending_words b ∷ []) m → plan_if device b m ≡ Ok z → WitnessPart device p z
 plan_take device read false p m z h e =
-    let P : Option Plan × Place → Type 0 = λ y. WitnessPart device p y in
-    subst P (ok_is {A = Option Plan × Place} (None, m) z e) (record { schedule = tt; lines = h })
+    let P : Option Plan × Position → Type 0 = λ y. WitnessPart device p y in
+    subst P (ok_is {A = Option Plan × Position} (None, m) z e) (record { schedule = tt; lines = h })
 plan_take device read true p m z h e =
     let s = then_ok (formed (schedule_at device m)) _ z e in
     let r = read device m s.0.0 s.0.1 (formed_ok (schedule_at device m) s.0 s.1) in
-    let P : Option Plan × Place → Type 0 = λ y. WitnessPart device p y in
-    subst P (ok_is {A = Option Plan × Place} (Some s.0.0, s.0.1) z s.2) (record { schedule = r.fits; lines = passes_more p m s.0.1 (whole attained_line ∷ []) (map whole (schedule_lines s.0.0)) h r.lines })
+    let P : Option Plan × Position → Type 0 = λ y. WitnessPart device p y in
+    subst P (ok_is {A = Option Plan × Position} (Some s.0.0, s.0.1) z s.2) (record { schedule = r.fits; lines = passes_more p m s.0.1 (whole attained_line ∷ []) (map whole (schedule_lines s.0.0)) h r.lines })
 
-pub witness_part : (device : Device) → ScheduleIsSpelled → (p : Place) (z : Option Plan × Place) → witness_at device p ≡ Ok z → WitnessPart device p z
+pub witness_part : (device : Device) → ScheduleIsSpelled → (p : Position) (z : Option Plan × Position) → witness_at device p ≡ Ok z → WitnessPart device p z
 unfolding witness_at
 witness_part device read p z e =
     let b = then_ok (formed (line_by ending_by p)) _ z e in
@@ -418,20 +418,20 @@ witness_again device k reads read (Some plan) at text h =
 
 -- ---- the end
 
-last_is : (ls : List TextLine) (p : Place) (z : Unit {0} × Place) → if_last ls p ≡ Ok z → (ls ≡ []) × (p ≡ z.1)
-last_is [] p z e = (refl, ap (λ (y : Unit {0} × Place). y.1) (ok_is {A = Unit {0} × Place} (tt, p) z e))
-last_is (l ∷ ls) p z e = absurd (err_ok {A = Unit {0} × Place} (fault.Malformed p.at) z e)
+last_is : (ls : List TextLine) (p : Position) (z : Unit {0} × Position) → if_last ls p ≡ Ok z → (ls ≡ []) × (p ≡ z.1)
+last_is [] p z e = (refl, ap (λ (y : Unit {0} × Position). y.1) (ok_is {A = Unit {0} × Position} (tt, p) z e))
+last_is (l ∷ ls) p z e = absurd (err_ok {A = Unit {0} × Position} (fault.Malformed p.at) z e)
 
-pub record EndPart (p q : Place) : Type 0 where
+pub record EndPart (p q : Position) : Type 0 where
   pub lines : Stand p (end_line ∷ []) q
   pub over : q.rest ≡ []
 
-pub end_part : (p : Place) (z : Unit {0} × Place) → end_at p ≡ Ok z → EndPart p z.1
+pub end_part : (p : Position) (z : Unit {0} × Position) → end_at p ≡ Ok z → EndPart p z.1
 unfolding end_at
 end_part p z e =
     let a = then_ok (formed (line_by (this_by (spaced end_line)) p)) _ z e in
     let last = last_is a.0.1.rest a.0.1 z a.2 in
-    let P : Place → Type 0 = λ y. EndPart p y in
+    let P : Position → Type 0 = λ y. EndPart p y in
     subst P last.1 (record { lines = this_take end_line p a.0 a.1; over = last.0 })
 
 pub end_again : WordLaws → (at : ℕ) → (behind : ℕ) × (end_at (before at (flat_map line (end_line ∷ []))) ≡ Ok (tt, before behind []))

@@ -15,18 +15,18 @@ use Rattle.avr_model.specs.Assumptions.{has_pairs}
 use Rattle.avr_model.specs.declared.device.Device.{Device}
 use Rattle.avr_model.specs.Devices.{depth_of}
 use Rattle.avr_model.specs.Names.{class_of}
-use Rattle.sb_base.specs.Answers.{Answers}
-use Rattle.sb_base.specs.Lines.{TextLine, Place, words_of, spaced}
+use Rattle.text_base.specs.Answers.{Answers}
+use Rattle.text_base.specs.Lines.{TextLine, Position, words_of, spaced}
 use Rattle.line_reading.specs.Reading.{first_by, this_by, line_by}
 use Rattle.line_reading.specs.Words.{IsWord, whole, Passes, WordLaws}
 use Rattle.line_reading.proofs.AllLaws.{passes_none, passes_more, line_takes}
 use Rattle.vector_table.specs.Entries.{is_above_last, most_entries}
-use Rattle.indirect_targets.specs.Exact.{AreEntriesOf}
-use Rattle.indirect_targets.specs.Spelling.{entry_words}
-use Rattle.mask_states.specs.declared.keys.NodeKey.{NodeKey}
-use Rattle.mask_states.specs.declared.keys.InstKey.{InstKey}
-use Rattle.mask_states.specs.Keys.{offset_of}
-use Rattle.mask_states.specs.Order.{inst_cmp, node_cmp}
+use Rattle.assumption_files.specs.Exact.{AreEntriesOf}
+use Rattle.assumption_files.specs.Spelling.{entry_words}
+use Rattle.node_keys.specs.declared.keys.NodeKey.{NodeKey}
+use Rattle.node_keys.specs.declared.keys.InstKey.{InstKey}
+use Rattle.node_keys.specs.Keys.{offset_of}
+use Rattle.node_keys.specs.Order.{inst_cmp, node_cmp}
 use Rattle.edge_rules.specs.declared.seeded.NodeForm.{NodeForm}
 use Rattle.edge_rules.specs.Expansion.{Seeds}
 use Rattle.witness_replay.specs.Spelling.{Plan}
@@ -37,14 +37,14 @@ use Rattle.certificate.specs.declared.version.Version.{Version}
 use Rattle.certificate.specs.declared.version.Version.TheVariants.{One, Two, Three}
 use Rattle.certificate.specs.Versions.{is_first, is_third, says_device}
 use Rattle.certificate.specs.Insts.{IsInst, inst_keys}
-use Rattle.certificate.specs.Claims.{Claim, IsClaim, IsCertificate, most_instances, most_nodes, most_cells, cells_of, node_keys}
+use Rattle.certificate.specs.Claims.{Claim, IsClaim, IsCertificate, most_instances, most_nodes, most_cells, cells_of, seed_keys}
 use Rattle.cert_words.specs.Text.{numbered, version_line, device_lines, heading, entry_lines, inst_lines, node_lines, inst_words, node_words, open_line, attained_line, witness_lines, end_line, front_lines}
 use Rattle.cert_format.specs.declared.fault.CertFault.{CertFault}
 use Rattle.cert_format.specs.declared.fault.CertFault.TheVariants as fault
 use Rattle.certificate.specs.declared.limit.Limit.{Limit}
 use Rattle.certificate.specs.declared.limit.Limit.TheVariants as limit
 use Rattle.cert_format.specs.Reading.{entry_by, inst_by, node_by, numbered_in, numbered_by, count_in, count_by, version_by, device_in, device_by, for_this, device_at, is_admitted, is_paired, version_with, ending_by, formed, limited, last_in, is_inst_above, is_node_above, refused_entry, refused_inst, refused_node, heading_at, least_entries, first_at, entries_at, insts_at, nodes_at, plan_if, witness_at, if_last, end_at, claim_at, claim_alone, certificate_in}
-use Rattle.cert_format.specs.Refusals.{Part, Begin, Named, IsNaming, Bound, Assume, FirstEntry, AnEntry, Instances, AnInst, Nodes, ANode, Ending, End, Nothing, StandsBefore, IsNextLine, IsNumbered, IsNodesLine, IsLow, IsTooMuch, IsStopped, IsCertificateRefused, IsCertificateDue, IsCertificateDueUnlessMemory, ReadCertificateIsDue, start}
+use Rattle.cert_format.specs.Refusals.{CertPart, Begin, Named, IsNaming, Bound, Assume, FirstEntry, AnEntry, Instances, AnInst, Nodes, ANode, Ending, End, Nothing, StandsBefore, IsNextLine, IsNumbered, IsNodesLine, IsLow, IsTooMuch, IsStopped, IsCertificateRefused, IsCertificateDue, IsCertificateDueUnlessMemory, ReadCertificateIsDue, start}
 use Rattle.cert_words.proofs.AllLaws.{depth_room}
 use Rattle.cert_format.proofs.Numbers.{decimal_word, nodes_count, too_many}
 use Rattle.cert_format.proofs.Lists.{err_ok, formed_ok, AllFrom, all_of_any, admitted_all, sorted_at, sorted_push, lines}
@@ -85,7 +85,7 @@ with_insts device version n es xs small h mode later hx ax few = certificate_of 
 
 -- the version by the assumptions, where these decide it
 
-settled_heading : (device : Device) (version : Version) (n : ℕ) (es : List Entry) (p q : Place) → Stand p (heading device version n) q → Stand p (heading device (version_with (says_device device) version es) n) q
+settled_heading : (device : Device) (version : Version) (n : ℕ) (es : List Entry) (p q : Position) → Stand p (heading device version n) q → Stand p (heading device (version_with (says_device device) version es) n) q
 settled_heading device version n es p q h =
     let P : List (List ℕ) → Type 0 = λ l. Stand p (l ∷ (device_lines (says_device device) device ++ numbered (codes "bound") n ∷ [])) q in
     subst P (same_line (says_device device) version es) h
@@ -96,7 +96,7 @@ paired_settled false version es = refl
 
 -- ---- a line that isn't of its form
 
-malformed : (device : Device) (p : Place) (c : Claim) (part : Part) (q : Place) (g : CertFault) → StandsBefore device p c part q → IsStopped c part q.rest → g ≡ fault.Malformed q.at → IsCertificateRefused device p g
+malformed : (device : Device) (p : Position) (c : Claim) (part : CertPart) (q : Position) (g : CertFault) → StandsBefore device p c part q → IsStopped c part q.rest → g ≡ fault.Malformed q.at → IsCertificateRefused device p g
 malformed device p c part q g h stop e =
     let P : CertFault → Type 0 = λ f. IsCertificateRefused device p f in
     subst P (sym e) (q, refl, inl (record { claim = c; part = part; stands = h; stop = stop }))
@@ -121,10 +121,10 @@ no_version says ls none ws next h = not_next (version_by says) ls ws (version_re
 
 -- ---- the device
 
-for_this_err : (d : Result (Option Device × Place) CertFault) (g : CertFault) → for_this d ≡ Err g → (d ≡ Err g) ⊎ ((q : Place) × (other : Device) × (d ≡ Ok (Some other, q)) × (g ≡ fault.Other other))
-for_this_err (Ok (None, q)) g e = absurd (err_ok {A = Unit {0} × Place} g (tt, q) (sym e))
-for_this_err (Ok (Some other, q)) g e = inr (q, other, refl, sym (err_is {A = Unit {0} × Place} (fault.Other other) g e))
-for_this_err (Err f) g e = inl (ap (λ (x : CertFault). Err x) (err_is {A = Unit {0} × Place} f g e))
+for_this_err : (d : Result (Option Device × Position) CertFault) (g : CertFault) → for_this d ≡ Err g → (d ≡ Err g) ⊎ ((q : Position) × (other : Device) × (d ≡ Ok (Some other, q)) × (g ≡ fault.Other other))
+for_this_err (Ok (None, q)) g e = absurd (err_ok {A = Unit {0} × Position} g (tt, q) (sym e))
+for_this_err (Ok (Some other, q)) g e = inr (q, other, refl, sym (err_is {A = Unit {0} × Position} (fault.Other other) g e))
+for_this_err (Err f) g e = inl (ap (λ (x : CertFault). Err x) (err_is {A = Unit {0} × Position} f g e))
 
 no_name : (device : Device) → WordLaws → (ls : List TextLine) → first_by (device_by device) ls ≡ None → (ws : List (List ℕ)) → IsNextLine ls ws → IsNaming (λ name other. ⊤) ws → ⊥
 no_name device k ls none ws next h =
@@ -133,10 +133,10 @@ no_name device k ls none ws next h =
     ∙ ap (device_in device) (k.words_stand (codes "device") (h.0 ∷ []) (name_words h.0 (named_word h.1 h.0 h.2))) ∙ device_reads device h.0 t.0 t.1)
 
 -- where the text says its device, this claim stands before it
-device_stops : (device : Device) → WordLaws → (says : Bool) → says_device device ≡ says → (version : Version) (p v : Place) (g : CertFault) → (says ≡ true → version ≡ Two) → Stand p (version_line (says_device device) version ∷ []) v → device_at says device v ≡ Err g
+device_stops : (device : Device) → WordLaws → (says : Bool) → says_device device ≡ says → (version : Version) (p v : Position) (g : CertFault) → (says ≡ true → version ≡ Two) → Stand p (version_line (says_device device) version ∷ []) v → device_at says device v ≡ Err g
     → IsCertificateRefused device p g
 unfolding device_at
-device_stops device k false is version p v g later lines e = absurd (err_ok {A = Unit {0} × Place} g (tt, v) (sym e))
+device_stops device k false is version p v g later lines e = absurd (err_ok {A = Unit {0} × Position} g (tt, v) (sym e))
 device_stops device k true is version p v g later lines e =
     let P : CertFault → Type 0 = λ f. IsCertificateRefused device p f in
     let c = claim_to device version 0 (firsts version) [] [] None in
@@ -162,7 +162,7 @@ device_stops device k true is version p v g later lines e =
 
 -- ---- the heading
 
-heading_stops : (device : Device) → WordLaws → (p : Place) (g : CertFault) → heading_at device p ≡ Err g → IsCertificateRefused device p g
+heading_stops : (device : Device) → WordLaws → (p : Position) (g : CertFault) → heading_at device p ≡ Err g → IsCertificateRefused device p g
 unfolding heading_at
 heading_stops device k p g e =
     let says = says_device device in
@@ -185,7 +185,7 @@ heading_stops device k p g e =
                     lines = stand_more p v.0.1 d.0.1 (version_line says v.0.0 ∷ []) (device_lines says device) first.0 (device_take k says device v.0.1 d.0 d.1);
                   })
                   (no_number k (codes "bound") 0 (depth_of device) d.0.1.rest (plain (codes "bound" ∷ []) refl).0 (depth_room device) t.0) t.1
-              | inr b ↦ absurd (err_ok {A = (Version × ℕ) × Place} g ((v.0.0, b.0.0), b.0.1) (sym b.2))
+              | inr b ↦ absurd (err_ok {A = (Version × ℕ) × Position} g ((v.0.0, b.0.0), b.0.1) (sym b.2))
             ]
           ]
     ]
@@ -193,7 +193,7 @@ heading_stops device k p g e =
 -- ---- a list
 
 -- a number of items, and some of them, after lines
-behind : {A : Type 0} (words : A → List (List ℕ)) (name : List ℕ) (front : List (List (List ℕ))) (p a m q : Place) (n : ℕ) (xs : List A) → Stand p front a → Stand a (numbered name n ∷ []) m → Passes m (lines words xs) q
+behind : {A : Type 0} (words : A → List (List ℕ)) (name : List ℕ) (front : List (List (List ℕ))) (p a m q : Position) (n : ℕ) (xs : List A) → Stand p front a → Stand a (numbered name n ∷ []) m → Passes m (lines words xs) q
     → Stand p (front ++ numbered name n ∷ map words xs) q
 behind words name front p a m q n xs h count items =
     stand_more p a q front (numbered name n ∷ map words xs) h (passes_more a m q (whole (numbered name n) ∷ []) (map whole (map words xs)) count items)
@@ -209,14 +209,14 @@ entry_low es e at g h = low_by (is_above_last es e) (fault.Order at) g h
 inst_low : (xs : List Inst) (x : Inst) (at : ℕ) (g : CertFault) → refused_inst xs x at ≡ Some g → (is_inst_above (last_in xs) x ≡ false) × (g ≡ fault.Order at)
 inst_low xs x at g h = low_by (is_inst_above (last_in xs) x) (fault.Order at) g h
 
-out_of_order : (device : Device) (p : Place) (c : Claim) (part : Part) (q : Place) (ws : List (List ℕ)) (g : CertFault) → StandsBefore device p c part q → IsNextLine q.rest ws → IsLow c part ws → g ≡ fault.Order q.at → IsCertificateRefused device p g
+out_of_order : (device : Device) (p : Position) (c : Claim) (part : CertPart) (q : Position) (ws : List (List ℕ)) (g : CertFault) → StandsBefore device p c part q → IsNextLine q.rest ws → IsLow c part ws → g ≡ fault.Order q.at → IsCertificateRefused device p g
 out_of_order device p c part q ws g h next low e =
     let P : CertFault → Type 0 = λ f. IsCertificateRefused device p f in
     subst P (sym e) (record { claim = c; part = part; place = q; words = ws; stands = h; offset = refl; next = next; low = low })
 
 -- ---- assumptions
 
-entry_stops : (device : Device) → LowerLaws → (p : Place) (c : Claim) (paired : Bool) (n : ℕ) (q : Place) (g : CertFault) → paired ≡ is_paired c.device c.version → StandsBefore device p c (AnEntry n) q → Stop (λ at. entry_by c.device paired) entry_words (EntryOf c.device paired) refused_entry c.assumptions q g → IsCertificateRefused device p g
+entry_stops : (device : Device) → LowerLaws → (p : Position) (c : Claim) (paired : Bool) (n : ℕ) (q : Position) (g : CertFault) → paired ≡ is_paired c.device c.version → StandsBefore device p c (AnEntry n) q → Stop (λ at. entry_by c.device paired) (entry_words c.device) (EntryOf c.device paired) refused_entry c.assumptions q g → IsCertificateRefused device p g
 entry_stops device b p c paired n q g is h stop = elim stop [
   | inl f ↦ malformed device p c (AnEntry n) q g h
       (λ ws next form. not_next (entry_by c.device paired) q.rest ws form.0 f.0 next
@@ -224,7 +224,7 @@ entry_stops device b p c paired n q g is h stop = elim stop [
       ∙ entry_reads c.device b.words b.entries paired 0 form.0 (omega arith) (form.1, ap (λ (x : Bool). is_admitted x form.0) is ∙ form.2))) f.1
   | inr r ↦
       let low = entry_low c.assumptions r.item q.at g r.refuses in
-      out_of_order device p c (AnEntry n) q (entry_words r.item) g h r.next (r.item, r.fits.0, ap (λ (x : Bool). is_admitted x r.item) (sym is) ∙ r.fits.1, refl, low.0) low.1
+      out_of_order device p c (AnEntry n) q (entry_words c.device r.item) g h r.next (r.item, r.fits.0, ap (λ (x : Bool). is_admitted x r.item) (sym is) ∙ r.fits.1, refl, low.0) low.1
 ]
 
 three_two : Three ≢ Two
@@ -238,40 +238,40 @@ silent device later = elim (decided (says_device device)) [
 ]
 
 -- the first line of the third version
-first_stops : (device : Device) (version : Version) (p a m : Place) (n count : ℕ) (g : CertFault) → n ≤ depth_of device → (says_device device ≡ true → version ≡ Two) → Stand p (heading device version n) a → Stand a (numbered (codes "assume") count ∷ []) m → least_entries version ≤ count → count ≤ most_entries
+first_stops : (device : Device) (version : Version) (p a m : Position) (n count : ℕ) (g : CertFault) → n ≤ depth_of device → (says_device device ≡ true → version ≡ Two) → Stand p (heading device version n) a → Stand a (numbered (codes "assume") count ∷ []) m → least_entries version ≤ count → count ≤ most_entries
     → first_at version m ≡ Err g → IsCertificateRefused device p g
 unfolding first_at
-first_stops device One p a m n count g small later h k least most e = absurd (err_ok {A = List Entry × Place} g ([], m) (sym e))
-first_stops device Two p a m n count g small later h k least most e = absurd (err_ok {A = List Entry × Place} g ([], m) (sym e))
-first_stops device Three p a m n count g small later h k least most e = elim (then_stop (formed (line_by (this_by (spaced (entry_words Pairs))) m)) _ g e) [
+first_stops device One p a m n count g small later h k least most e = absurd (err_ok {A = List Entry × Position} g ([], m) (sym e))
+first_stops device Two p a m n count g small later h k least most e = absurd (err_ok {A = List Entry × Position} g ([], m) (sym e))
+first_stops device Three p a m n count g small later h k least most e = elim (then_stop (formed (line_by (this_by (spaced (entry_words device Pairs))) m)) _ g e) [
   | inl f ↦
-      let t = line_stop (this_by (spaced (entry_words Pairs))) m g f in
+      let t = line_stop (this_by (spaced (entry_words device Pairs))) m g f in
       malformed device p (claim_to device Three n (firsts Three) [] [] None) (FirstEntry count) m g
-      (record { is = refl; fits = bound_only device Three n small (λ s. refl); room = (silent device later, refl, least, most); lines = stand_more p a m (heading device Three n) (numbered (codes "assume") count ∷ []) h k }) (no_this (entry_words Pairs) m.rest t.0) t.1
-  | inr u ↦ absurd (err_ok {A = List Entry × Place} g (Pairs ∷ [], u.0.1) (sym u.2))
+      (record { is = refl; fits = bound_only device Three n small (λ s. refl); room = (silent device later, refl, least, most); lines = stand_more p a m (heading device Three n) (numbered (codes "assume") count ∷ []) h k }) (no_this (entry_words device Pairs) m.rest t.0) t.1
+  | inr u ↦ absurd (err_ok {A = List Entry × Position} g (Pairs ∷ [], u.0.1) (sym u.2))
 ]
 
-abbrev EntriesStop : Device → Version → List Entry → ℕ → Place → CertFault → Type 0
-EntriesStop device version front n p g = ItemsStop (λ at. entry_by device (is_paired device version)) entry_words (EntryOf device (is_paired device version)) refused_entry front n p g
+abbrev EntriesStop : Device → Version → List Entry → ℕ → Position → CertFault → Type 0
+EntriesStop device version front n p g = ItemsStop (λ at. entry_by device (is_paired device version)) (entry_words device) (EntryOf device (is_paired device version)) refused_entry front n p g
 
 -- a line after the first ones
-further_stops : (device : Device) → LowerLaws → (version : Version) (p a m f : Place) (n count : ℕ) (g : CertFault) → n ≤ depth_of device → (says_device device ≡ true → version ≡ Two) → Stand p (heading device version n) a → Stand a (numbered (codes "assume") count ∷ []) m → least_entries version ≤ count → count ≤ most_entries
-    → Stand m (map entry_words (firsts version)) f → EntriesStop device version (firsts version) (count - least_entries version) f g → IsCertificateRefused device p g
+further_stops : (device : Device) → LowerLaws → (version : Version) (p a m f : Position) (n count : ℕ) (g : CertFault) → n ≤ depth_of device → (says_device device ≡ true → version ≡ Two) → Stand p (heading device version n) a → Stand a (numbered (codes "assume") count ∷ []) m → least_entries version ≤ count → count ≤ most_entries
+    → Stand m (map (entry_words device) (firsts version)) f → EntriesStop device version (firsts version) (count - least_entries version) f g → IsCertificateRefused device p g
 further_stops device b version p a m f n count g small later h k least most first s =
     let says = says_device device in
     let all : List Entry = firsts version ++ s.items in
     let number : length all < count = omega (arith, length-append (firsts version) s.items, firsts_count version, s.fewer, least) in
     let settled = version_with says version all in
-    let some = some_stand version m f s.place s.items first s.passes in
+    let some = some_stand device version m f s.place s.items first s.passes in
     entry_stops device b p (claim_to device settled n all [] [] None) (is_paired device version) count s.place g (paired_settled says version all)
     (record {
       is = refl;
       fits = with_entries device settled n all small (some_keep device version s.items s.fit (omega (arith, number, most))) (some_mode device version s.items s.fit) (with_later says version all);
       room = (number, most);
-      lines = behind entry_words (codes "assume") (heading device settled n) p a m s.place count all (settled_heading device version n all p a h) k some;
+      lines = behind (entry_words device) (codes "assume") (heading device settled n) p a m s.place count all (settled_heading device version n all p a h) k some;
     }) s.stop
 
-entries_stops : (device : Device) → LowerLaws → (version : Version) (p a : Place) (n : ℕ) (g : CertFault) → n ≤ depth_of device → (says_device device ≡ true → version ≡ Two) → Stand p (heading device version n) a → entries_at device version a ≡ Err g → IsCertificateRefused device p g
+entries_stops : (device : Device) → LowerLaws → (version : Version) (p a : Position) (n : ℕ) (g : CertFault) → n ≤ depth_of device → (says_device device ≡ true → version ≡ Two) → Stand p (heading device version n) a → entries_at device version a ≡ Err g → IsCertificateRefused device p g
 unfolding entries_at
 entries_stops device b version p a n g small later h e = elim (then_stop (formed (line_by (numbered_by (codes "assume") (least_entries version) most_entries) a)) _ g e) [
   | inl f ↦
@@ -283,9 +283,9 @@ entries_stops device b version p a n g small later h e = elim (then_stop (formed
       elim (then_stop (first_at version m.0.1) _ g m.2) [
         | inl f ↦ first_stops device version p a m.0.1 n m.0.0 g small later h count.0 count.1 count.2 f
         | inr f ↦
-            let first = first_take version m.0.1 f.0 f.1 in
+            let first = first_take device version m.0.1 f.0 f.1 in
             let paired = is_paired device version in
-            let s = items_stop (λ at. entry_by device paired) entry_words (EntryOf device paired) refused_entry (entry_spells device b.words b.entries paired) entry_steady f.0.0 (m.0.0 - least_entries version) f.0.1 g f.2 in
+            let s = items_stop (λ at. entry_by device paired) (entry_words device) (EntryOf device paired) refused_entry (entry_spells device b.words b.entries paired) entry_steady f.0.0 (m.0.0 - least_entries version) f.0.1 g f.2 in
             let P : List Entry → Type 0 = λ front. EntriesStop device version front (m.0.0 - least_entries version) f.0.1 g in
             further_stops device b version p a m.0.1 f.0.1 n m.0.0 g small later h count.0 count.1 count.2 first.lines (subst P first.all s)
       ]
@@ -299,17 +299,17 @@ not_ascending xs x low h =
     let up = sorted_at inst_cmp (inst_keys xs) x.key [] (subst P (map-append (λ (y : Inst). y.key) xs (x ∷ [])) h) in
     false≢true (sym low ∙ inst_above_is xs x ∙ up)
 
-inst_stops : (device : Device) → LowerLaws → (p : Place) (c : Claim) (n : ℕ) (q : Place) (g : CertFault) → StandsBefore device p c (AnInst n) q → Stop (λ at. inst_by c.device) (inst_words c.device) (AnyInst c.device) refused_inst c.instances q g → IsCertificateRefused device p g
+inst_stops : (device : Device) → LowerLaws → (p : Position) (c : Claim) (n : ℕ) (q : Position) (g : CertFault) → StandsBefore device p c (AnInst n) q → Stop (λ at. inst_by c.device) (inst_words c.device) (AnyInst c.device) refused_inst c.instances q g → IsCertificateRefused device p g
 inst_stops device b p c n q g h stop = elim stop [
   | inl f ↦ malformed device p c (AnInst n) q g h
       (λ ws next form. not_next (inst_by c.device) q.rest ws form.0 f.0 next (ap (λ (xs : List (List ℕ)). inst_by c.device (spaced xs)) form.2 ∙ inst_reads c.device b.words b.insts 0 form.0 (omega arith) form.1)) f.1
   | inr r ↦ let low = inst_low c.instances r.item q.at g r.refuses in out_of_order device p c (AnInst n) q (inst_words c.device r.item) g h r.next (r.item, r.fits, refl, not_ascending c.instances r.item low.0) low.1
 ]
 
-insts_stops : (device : Device) → LowerLaws → (version : Version) (p a d : Place) (n : ℕ) (es : List Entry) (g : CertFault) → n ≤ depth_of device → AreEntriesOf device es → is_third version ≡ has_pairs es → (says_device device ≡ true → is_first version ≡ false) → Stand p (heading device version n) a → Stand a (entry_lines es) d → insts_at device d ≡ Err g → IsCertificateRefused device p g
+insts_stops : (device : Device) → LowerLaws → (version : Version) (p a d : Position) (n : ℕ) (es : List Entry) (g : CertFault) → n ≤ depth_of device → AreEntriesOf device es → is_third version ≡ has_pairs es → (says_device device ≡ true → is_first version ≡ false) → Stand p (heading device version n) a → Stand a (entry_lines device es) d → insts_at device d ≡ Err g → IsCertificateRefused device p g
 unfolding insts_at
 insts_stops device b version p a d n es g small he mode later h k e =
-    let front = stand_more p a d (heading device version n) (entry_lines es) h k in
+    let front = stand_more p a d (heading device version n) (entry_lines device es) h k in
     elim (then_stop (formed (line_by (numbered_by (codes "instances") 0 most_instances) d)) _ g e) [
       | inl f ↦
           let t = line_stop (numbered_by (codes "instances") 0 most_instances) d g f in
@@ -319,13 +319,13 @@ insts_stops device b version p a d n es g small he mode later h k e =
           let count = number_take b.words (codes "instances") 0 most_instances d m.0 (lit< tt) m.1 in
           let s = items_stop (λ at. inst_by device) (inst_words device) (AnyInst device) refused_inst (inst_spells device b.words b.insts) inst_steady [] m.0.0 m.0.1 g m.2 in
           let fit = all_of_any (IsInst device) 0 s.items (admitted_all (AnyInst device) refused_inst [] s.items s.fit) in
-          let some = behind (inst_words device) (codes "instances") (entry_lines es) a d m.0.1 s.place m.0.0 s.items k count.0 s.passes in
+          let some = behind (inst_words device) (codes "instances") (entry_lines device es) a d m.0.1 s.place m.0.0 s.items k count.0 s.passes in
           inst_stops device b p (claim_to device version n es s.items [] None) m.0.0 s.place g
           (record {
             is = refl;
             fits = with_insts device version n es s.items small he mode later fit (insts_kept device b.keys s.items s.fit) (omega (arith, s.fewer, count.2));
             room = (s.fewer, count.2);
-            lines = stand_more p a s.place (heading device version n) (entry_lines es ++ numbered (codes "instances") m.0.0 ∷ map (inst_words device) s.items) h some;
+            lines = stand_more p a s.place (heading device version n) (entry_lines device es ++ numbered (codes "instances") m.0.0 ∷ map (inst_words device) s.items) h some;
           }) s.stop
     ]
 
@@ -336,25 +336,25 @@ node_low_by true true l f g e = absurd (none-some g e)
 node_low_by true false l f g e = inr (refl, refl, sym (same_Some l g e))
 node_low_by false b l f g e = inl (refl, sym (same_Some f g e))
 
-nodes_not_ascending : (ns : Seeds) (n : NodeKey × NodeForm) → is_node_above (last_in ns) n.0 ≡ false → IsStrictlySortedBy node_cmp (node_keys (ns ++ n ∷ [])) → ⊥
+nodes_not_ascending : (ns : Seeds) (n : NodeKey × NodeForm) → is_node_above (last_in ns) n.0 ≡ false → IsStrictlySortedBy node_cmp (seed_keys (ns ++ n ∷ [])) → ⊥
 nodes_not_ascending ns n low h =
     let P : List NodeKey → Type 0 = λ ks. IsStrictlySortedBy node_cmp ks in
-    let up = sorted_at node_cmp (node_keys ns) n.0 [] (subst P (keys_append ns (n ∷ [])) h) in
+    let up = sorted_at node_cmp (seed_keys ns) n.0 [] (subst P (keys_append ns (n ∷ [])) h) in
     false≢true (sym low ∙ node_above_is ns n.0 ∙ up)
 
-too_much : LowerLaws → (c : Claim) (n : NodeKey × NodeForm) → IsStrictlySortedBy node_cmp (node_keys c.nodes) → is_node_above (last_in c.nodes) n.0 ≡ true
-    → nat_le (cells_of (node_keys c.nodes) + (1 + offset_of n.0.sp)) most_cells ≡ false → IsTooMuch c n
+too_much : LowerLaws → (c : Claim) (n : NodeKey × NodeForm) → IsStrictlySortedBy node_cmp (seed_keys c.nodes) → is_node_above (last_in c.nodes) n.0 ≡ true
+    → nat_le (cells_of (seed_keys c.nodes) + (1 + offset_of n.0.sp)) most_cells ≡ false → IsTooMuch c n
 too_much b c n ascend up room =
     let P : List NodeKey → Type 0 = λ ks. IsStrictlySortedBy node_cmp ks in
-    let full : most_cells < cells_of (node_keys c.nodes) + (1 + offset_of n.0.sp) = grind (arith, nat_tests, room) in (
-      subst P (sym (keys_append c.nodes (n ∷ []))) (sorted_push node_cmp b.keys.nodes (node_keys c.nodes) n.0 ascend (sym (node_above_is c.nodes n.0) ∙ up)),
+    let full : most_cells < cells_of (seed_keys c.nodes) + (1 + offset_of n.0.sp) = grind (arith, nat_tests, room) in (
+      subst P (sym (keys_append c.nodes (n ∷ []))) (sorted_push node_cmp b.keys.nodes (seed_keys c.nodes) n.0 ascend (sym (node_above_is c.nodes n.0) ∙ up)),
       omega (arith, full, cells_more c.nodes n),
     )
 
-node_refused : (device : Device) → LowerLaws → (p : Place) (c : Claim) (n : ℕ) (q : Place) (g : CertFault) → StandsBefore device p c (ANode n) q → ItemRefused (node_words c.device c.version c.instances) (FitsNode c.device c.version c.instances) refused_node c.nodes q g → IsCertificateRefused device p g
+node_refused : (device : Device) → LowerLaws → (p : Position) (c : Claim) (n : ℕ) (q : Position) (g : CertFault) → StandsBefore device p c (ANode n) q → ItemRefused (node_words c.device c.version c.instances) (FitsNode c.device c.version c.instances) refused_node c.nodes q g → IsCertificateRefused device p g
 node_refused device b p c n q g h r =
     let P : CertFault → Type 0 = λ f. IsCertificateRefused device p f in
-    elim (node_low_by (is_node_above (last_in c.nodes) r.item.0) (nat_le (cells_of (node_keys c.nodes) + (1 + offset_of r.item.0.sp)) most_cells) (fault.Limit limit.Cells) (fault.Order q.at) g r.refuses) [
+    elim (node_low_by (is_node_above (last_in c.nodes) r.item.0) (nat_le (cells_of (seed_keys c.nodes) + (1 + offset_of r.item.0.sp)) most_cells) (fault.Limit limit.Cells) (fault.Order q.at) g r.refuses) [
       | inl low ↦ out_of_order device p c (ANode n) q (node_words c.device c.version c.instances r.item) g h r.next (r.item, r.fits.0, r.fits.1, r.fits.2, refl, nodes_not_ascending c.nodes r.item low.0) low.1
       | inr full ↦ subst P (sym full.2) (record {
         claim = c;
@@ -367,7 +367,7 @@ node_refused device b p c n q g h r =
       })
     ]
 
-node_stops : (device : Device) → LowerLaws → (p : Place) (c : Claim) (n : ℕ) (q : Place) (g : CertFault) → StandsBefore device p c (ANode n) q → Stop (node_by c.device c.version c.instances) (node_words c.device c.version c.instances) (FitsNode c.device c.version c.instances) refused_node c.nodes q g → IsCertificateRefused device p g
+node_stops : (device : Device) → LowerLaws → (p : Position) (c : Claim) (n : ℕ) (q : Position) (g : CertFault) → StandsBefore device p c (ANode n) q → Stop (node_by c.device c.version c.instances) (node_words c.device c.version c.instances) (FitsNode c.device c.version c.instances) refused_node c.nodes q g → IsCertificateRefused device p g
 node_stops device b p c n q g h stop = elim stop [
   | inl f ↦ malformed device p c (ANode n) q g h
       (λ ws next form. not_next (node_by c.device c.version c.instances (length c.nodes)) q.rest ws form.0 f.0 next
@@ -376,10 +376,10 @@ node_stops device b p c n q g h stop = elim stop [
   | inr r ↦ node_refused device b p c n q g h r
 ]
 
-limited_err : (d : Result (Option ℕ × Place) CertFault) (g : CertFault) → limited d ≡ Err g → (d ≡ Err g) ⊎ ((q : Place) × (d ≡ Ok (None, q)) × (g ≡ fault.Limit limit.Nodes))
-limited_err (Ok (Some n, q)) g e = absurd (err_ok {A = ℕ × Place} g (n, q) (sym e))
-limited_err (Ok (None, q)) g e = inr (q, refl, sym (err_is {A = ℕ × Place} (fault.Limit limit.Nodes) g e))
-limited_err (Err f) g e = inl (ap (λ (x : CertFault). Err x) (err_is {A = ℕ × Place} f g e))
+limited_err : (d : Result (Option ℕ × Position) CertFault) (g : CertFault) → limited d ≡ Err g → (d ≡ Err g) ⊎ ((q : Position) × (d ≡ Ok (None, q)) × (g ≡ fault.Limit limit.Nodes))
+limited_err (Ok (Some n, q)) g e = absurd (err_ok {A = ℕ × Position} g (n, q) (sym e))
+limited_err (Ok (None, q)) g e = inr (q, refl, sym (err_is {A = ℕ × Position} (fault.Limit limit.Nodes) g e))
+limited_err (Err f) g e = inl (ap (λ (x : CertFault). Err x) (err_is {A = ℕ × Position} f g e))
 
 no_count : WordLaws → (ls : List TextLine) → first_by count_by ls ≡ None → (ws : List (List ℕ)) → IsNextLine ls ws → IsNodesLine (λ w. ⊤) ws → ⊥
 no_count k ls none ws next h =
@@ -388,7 +388,7 @@ no_count k ls none ws next h =
     ∙ ap count_in (k.words_stand (codes "nodes") (h.0 ∷ []) ((plain (codes "nodes" ∷ []) refl).0, (decimal_word h.0 h.1, tt))) ∙ t.1)
 
 -- the line `nodes N`
-count_stops : (device : Device) → LowerLaws → (p : Place) (c : Claim) (q : Place) (g : CertFault) → StandsBefore device p c Nodes q → limited (formed (line_by count_by q)) ≡ Err g → IsCertificateRefused device p g
+count_stops : (device : Device) → LowerLaws → (p : Position) (c : Claim) (q : Position) (g : CertFault) → StandsBefore device p c Nodes q → limited (formed (line_by count_by q)) ≡ Err g → IsCertificateRefused device p g
 count_stops device b p c q g h e =
     let P : CertFault → Type 0 = λ f. IsCertificateRefused device p f in
     elim (limited_err (formed (line_by count_by q)) g e) [
@@ -406,11 +406,11 @@ count_stops device b p c q g h e =
           })
     ]
 
-nodes_stops : (device : Device) → LowerLaws → (version : Version) (p a d f : Place) (n : ℕ) (es : List Entry) (xs : List Inst) (g : CertFault) → n ≤ depth_of device → AreEntriesOf device es → is_third version ≡ has_pairs es → (says_device device ≡ true → is_first version ≡ false) → AllByRecursion (IsInst device) xs → IsStrictlySortedBy inst_cmp (inst_keys xs) → length xs ≤ most_instances
-    → Stand p (heading device version n) a → Stand a (entry_lines es) d → Stand d (inst_lines device xs) f → nodes_at device version xs f ≡ Err g → IsCertificateRefused device p g
+nodes_stops : (device : Device) → LowerLaws → (version : Version) (p a d f : Position) (n : ℕ) (es : List Entry) (xs : List Inst) (g : CertFault) → n ≤ depth_of device → AreEntriesOf device es → is_third version ≡ has_pairs es → (says_device device ≡ true → is_first version ≡ false) → AllByRecursion (IsInst device) xs → IsStrictlySortedBy inst_cmp (inst_keys xs) → length xs ≤ most_instances
+    → Stand p (heading device version n) a → Stand a (entry_lines device es) d → Stand d (inst_lines device xs) f → nodes_at device version xs f ≡ Err g → IsCertificateRefused device p g
 unfolding nodes_at
 nodes_stops device b version p a d f n es xs g small he mode later hx ax few h k j e =
-    let front = stand_more p a f (heading device version n) (entry_lines es ++ inst_lines device xs) h (stand_more a d f (entry_lines es) (inst_lines device xs) k j) in
+    let front = stand_more p a f (heading device version n) (entry_lines device es ++ inst_lines device xs) h (stand_more a d f (entry_lines device es) (inst_lines device xs) k j) in
     elim (then_stop (limited (formed (line_by count_by f))) _ g e) [
       | inl l ↦ count_stops device b p (claim_to device version n es xs [] None) f g (record { is = refl; fits = with_insts device version n es xs small he mode later hx ax few; room = tt; lines = front }) l
       | inr m ↦
@@ -422,29 +422,29 @@ nodes_stops device b version p a d f n es xs g small he mode later hx ax few h k
             is = refl;
             fits = certificate_of device version n es xs s.items small he mode later hx ax few (admitted_all (FitsNode device version xs) refused_node [] s.items s.fit) (nodes_kept device b.keys version xs s.items s.fit) (omega (arith, s.fewer, count.1));
             room = (s.fewer, count.1);
-            lines = stand_more p a s.place (heading device version n) (entry_lines es ++ (inst_lines device xs ++ numbered (codes "nodes") m.0.0 ∷ map (node_words device version xs) s.items)) h
-                (stand_more a d s.place (entry_lines es) (inst_lines device xs ++ numbered (codes "nodes") m.0.0 ∷ map (node_words device version xs) s.items) k some);
+            lines = stand_more p a s.place (heading device version n) (entry_lines device es ++ (inst_lines device xs ++ numbered (codes "nodes") m.0.0 ∷ map (node_words device version xs) s.items)) h
+                (stand_more a d s.place (entry_lines device es) (inst_lines device xs ++ numbered (codes "nodes") m.0.0 ∷ map (node_words device version xs) s.items) k some);
           }) s.stop
     ]
 
 -- ---- the schedule and the end
 
-plan_stops : (device : Device) → RefusedScheduleIsStuck → (p : Place) (c : Claim) (bl : Bool) (q m : Place) (g : CertFault) → c.device ≡ device → IsClaim c → Stand p (front_lines c) q → Stand q (ending_words bl ∷ []) m → plan_if device bl m ≡ Err g → IsCertificateRefused device p g
-plan_stops device stuck p c false q m g is h front line e = absurd (err_ok {A = Option Plan × Place} g (None, m) (sym e))
+plan_stops : (device : Device) → RefusedScheduleIsStuck → (p : Position) (c : Claim) (bl : Bool) (q m : Position) (g : CertFault) → c.device ≡ device → IsClaim c → Stand p (front_lines c) q → Stand q (ending_words bl ∷ []) m → plan_if device bl m ≡ Err g → IsCertificateRefused device p g
+plan_stops device stuck p c false q m g is h front line e = absurd (err_ok {A = Option Plan × Position} g (None, m) (sym e))
 plan_stops device stuck p c true q m g is h front line e =
     let P : CertFault → Type 0 = λ f. IsCertificateRefused device p f in
     elim (then_stop (formed (schedule_at device m)) _ g e) [
       | inl f ↦
           let r = formed_err (schedule_at device m) g f in
           subst P (sym r.2) (r.0, refl, inr (record { claim = c; is = is; fits = h; begin = m; lines = stand_more p q m (front_lines c) (attained_line ∷ []) front line; stuck = stuck device m r.0 r.1 }))
-      | inr s ↦ absurd (err_ok {A = Option Plan × Place} g (Some s.0.0, s.0.1) (sym s.2))
+      | inr s ↦ absurd (err_ok {A = Option Plan × Position} g (Some s.0.0, s.0.1) (sym s.2))
     ]
 
 no_ending : (ls : List TextLine) → first_by ending_by ls ≡ None → (ws : List (List ℕ)) → IsNextLine ls ws → (ws ≡ open_line) ⊎ (ws ≡ attained_line) → ⊥
 no_ending ls none ws next (inl h) = not_next ending_by ls ws false none next (ap (λ (xs : List (List ℕ)). ending_by (spaced xs)) h ∙ ending_again false)
 no_ending ls none ws next (inr h) = not_next ending_by ls ws true none next (ap (λ (xs : List (List ℕ)). ending_by (spaced xs)) h ∙ ending_again true)
 
-witness_stops : (device : Device) → RefusedScheduleIsStuck → (p : Place) (c : Claim) (q : Place) (g : CertFault) → c.device ≡ device → IsCertificate c → Stand p (front_lines c) q → witness_at device q ≡ Err g → IsCertificateRefused device p g
+witness_stops : (device : Device) → RefusedScheduleIsStuck → (p : Position) (c : Claim) (q : Position) (g : CertFault) → c.device ≡ device → IsCertificate c → Stand p (front_lines c) q → witness_at device q ≡ Err g → IsCertificateRefused device p g
 unfolding witness_at
 witness_stops device stuck p c q g is h front e = elim (then_stop (formed (line_by ending_by q)) _ g e) [
   | inl f ↦ let t = line_stop ending_by q g f in malformed device p c Ending q g (record { is = is; fits = h; room = tt; lines = front }) (no_ending q.rest t.0) t.1
@@ -456,11 +456,11 @@ witness_stops device stuck p c q g is h front e = elim (then_stop (formed (line_
 lines_left : (l : TextLine) (ls : List TextLine) → l ∷ ls ≢ []
 lines_left l ls h = cc
 
-last_stop : (ls : List TextLine) (q : Place) (g : CertFault) → if_last ls q ≡ Err g → (ls ≢ []) × (g ≡ fault.Malformed q.at)
-last_stop [] q g e = absurd (err_ok {A = Unit {0} × Place} g (tt, q) (sym e))
-last_stop (l ∷ ls) q g e = (lines_left l ls, sym (err_is {A = Unit {0} × Place} (fault.Malformed q.at) g e))
+last_stop : (ls : List TextLine) (q : Position) (g : CertFault) → if_last ls q ≡ Err g → (ls ≢ []) × (g ≡ fault.Malformed q.at)
+last_stop [] q g e = absurd (err_ok {A = Unit {0} × Position} g (tt, q) (sym e))
+last_stop (l ∷ ls) q g e = (lines_left l ls, sym (err_is {A = Unit {0} × Position} (fault.Malformed q.at) g e))
 
-end_stops : (device : Device) (p : Place) (c : Claim) (q r : Place) (g : CertFault) → c.device ≡ device → IsCertificate c → Stand p (front_lines c) q → Stand q (witness_lines c.witness) r → end_at r ≡ Err g → IsCertificateRefused device p g
+end_stops : (device : Device) (p : Position) (c : Claim) (q r : Position) (g : CertFault) → c.device ≡ device → IsCertificate c → Stand p (front_lines c) q → Stand q (witness_lines c.witness) r → end_at r ≡ Err g → IsCertificateRefused device p g
 unfolding end_at
 end_stops device p c q r g is h front witness e = elim (then_stop (formed (line_by (this_by (spaced end_line)) r)) _ g e) [
   | inl f ↦
@@ -475,8 +475,8 @@ end_stops device p c q r g is h front witness e = elim (then_stop (formed (line_
 
 -- ---- the whole
 
-behind_nodes : (device : Device) → LowerLaws → (version : Version) (p : Place) (n : ℕ) (es : List Entry) (xs : List Inst) (ns : Seeds) (q : Place) (g : CertFault) → IsCertificate (claim_to device version n es xs ns None)
-    → Stand p (front_lines (claim_to device version n es xs ns None)) q → (r : Place × Option Plan) → witness_at device q ≡ Ok (r.1, r.0) → end_at r.0 ≡ Err g → IsCertificateRefused device p g
+behind_nodes : (device : Device) → LowerLaws → (version : Version) (p : Position) (n : ℕ) (es : List Entry) (xs : List Inst) (ns : Seeds) (q : Position) (g : CertFault) → IsCertificate (claim_to device version n es xs ns None)
+    → Stand p (front_lines (claim_to device version n es xs ns None)) q → (r : Position × Option Plan) → witness_at device q ≡ Ok (r.1, r.0) → end_at r.0 ≡ Err g → IsCertificateRefused device p g
 behind_nodes device b version p n es xs ns q g h front r e f =
     let w = witness_part device b.schedule_spelled q (r.1, r.0) e in
     end_stops device p (claim_to device version n es xs ns r.1) q r.0 g refl
@@ -486,7 +486,7 @@ behind_nodes device b version p n es xs ns q g h front r e f =
       schedule = w.schedule;
     }) front w.lines f
 
-claim_stops : (device : Device) → LowerLaws → RefusedScheduleIsStuck → (p : Place) (g : CertFault) → claim_at device p ≡ Err g → IsCertificateRefused device p g
+claim_stops : (device : Device) → LowerLaws → RefusedScheduleIsStuck → (p : Position) (g : CertFault) → claim_at device p ≡ Err g → IsCertificateRefused device p g
 unfolding claim_at
 claim_stops device k stuck p g e = elim (then_stop (heading_at device p) _ g e) [
   | inl h ↦ heading_stops device k.words p g h
@@ -514,13 +514,13 @@ claim_stops device k stuck p g e = elim (then_stop (heading_at device p) _ g e) 
                         let c = claim_to device version b.0.0.1 a.0.0 i.0.0 n.0.0 None in
                         let whole_claim =
                         certificate_of device version b.0.0.1 a.0.0 i.0.0 n.0.0 top.small are mode later fit ascend insts.few (admitted_all (FitsNode device version i.0.0) refused_node [] n.0.0 nodes.fit) (nodes_kept device k.keys version i.0.0 n.0.0 nodes.fit) nodes.few in
-                        let front = stand_more p b.0.1 n.0.1 (heading device version b.0.0.1) (entry_lines a.0.0 ++ (inst_lines device i.0.0 ++ node_lines device version i.0.0 n.0.0)) top_lines
-                        (stand_more b.0.1 a.0.1 n.0.1 (entry_lines a.0.0) (inst_lines device i.0.0 ++ node_lines device version i.0.0 n.0.0) entries.lines (stand_more a.0.1 i.0.1 n.0.1 (inst_lines device i.0.0) (node_lines device version i.0.0 n.0.0) insts.lines nodes.lines)) in
+                        let front = stand_more p b.0.1 n.0.1 (heading device version b.0.0.1) (entry_lines device a.0.0 ++ (inst_lines device i.0.0 ++ node_lines device version i.0.0 n.0.0)) top_lines
+                        (stand_more b.0.1 a.0.1 n.0.1 (entry_lines device a.0.0) (inst_lines device i.0.0 ++ node_lines device version i.0.0 n.0.0) entries.lines (stand_more a.0.1 i.0.1 n.0.1 (inst_lines device i.0.0) (node_lines device version i.0.0 n.0.0) insts.lines nodes.lines)) in
                         elim (then_stop (witness_at device n.0.1) _ g n.2) [
                           | inl h ↦ witness_stops device stuck p c n.0.1 g refl whole_claim front h
                           | inr w ↦ elim (then_stop (end_at w.0.1) _ g w.2) [
                             | inl h ↦ behind_nodes device k version p b.0.0.1 a.0.0 i.0.0 n.0.0 n.0.1 g whole_claim front (w.0.1, w.0.0) w.1 h
-                            | inr d ↦ absurd (err_ok {A = Claim × Place} g (claim_to device version b.0.0.1 a.0.0 i.0.0 n.0.0 w.0.0, d.0.1) (sym d.2))
+                            | inr d ↦ absurd (err_ok {A = Claim × Position} g (claim_to device version b.0.0.1 a.0.0 i.0.0 n.0.0 w.0.0, d.0.1) (sym d.2))
                           ]
                         ]
                   ]
@@ -528,7 +528,7 @@ claim_stops device k stuck p g e = elim (then_stop (heading_at device p) _ g e) 
       ]
 ]
 
-alone_err : (d : Result (Claim × Place) CertFault) (g : CertFault) → claim_alone d ≡ Err g → d ≡ Err g
+alone_err : (d : Result (Claim × Position) CertFault) (g : CertFault) → claim_alone d ≡ Err g → d ≡ Err g
 alone_err (Ok x) g e = absurd (err_ok {A = Claim} g x.0 (sym e))
 alone_err (Err f) g e = ap (λ (x : CertFault). Err x) (err_is {A = Claim} f g e)
 

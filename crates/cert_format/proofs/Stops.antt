@@ -3,7 +3,7 @@ use Rattle.std.proofs.Common.{ℕ, zero, suc, ◌<◌, ◌≡◌, List, [], ◌�
 use Rattle.basics.specs.Lists.{nil_not_cons, same_head}
 use Rattle.std.proofs.lemmas.Option.{none-some}
 use Rattle.witness_replay.proofs.Exact.{as_words}
-use Rattle.sb_base.specs.Lines.{TextLine, Place, spaced}
+use Rattle.text_base.specs.Lines.{TextLine, Position, spaced}
 use Rattle.line_reading.specs.Reading.{then_at, first_by, line_by}
 use Rattle.line_reading.specs.Words.{whole, Passes}
 use Rattle.line_reading.proofs.AllLaws.{line_takes, line_refuses, passes_none, passes_more}
@@ -22,28 +22,28 @@ pub then_stop : {A B : Type 0} (d : Result A CertFault) (f : A → Result B Cert
 then_stop {A} {B} (Ok x) f g e = inr (x, refl, e)
 then_stop {A} {B} (Err r) f g e = inl (ap (λ (x : CertFault). Err x) (err_is {A = B} r g e))
 
-pub formed_err : {A : Type 0} (d : Result (A × Place) Place) (g : CertFault) → formed d ≡ Err g → (r : Place) × (d ≡ Err r) × (g ≡ fault.Malformed r.at)
-formed_err {A} (Ok x) g e = absurd (err_ok {A = A × Place} g x (sym e))
-formed_err {A} (Err r) g e = (r, refl, sym (err_is {A = A × Place} (fault.Malformed r.at) g e))
+pub formed_err : {A : Type 0} (d : Result (A × Position) Position) (g : CertFault) → formed d ≡ Err g → (r : Position) × (d ≡ Err r) × (g ≡ fault.Malformed r.at)
+formed_err {A} (Ok x) g e = absurd (err_ok {A = A × Position} g x (sym e))
+formed_err {A} (Err r) g e = (r, refl, sym (err_is {A = A × Position} (fault.Malformed r.at) g e))
 
 -- a line that isn't read
-pub line_stop : {A : Type 0} (f : List ℕ → Option A) (p : Place) (g : CertFault) → formed (line_by f p) ≡ Err g → (first_by f p.rest ≡ None) × (g ≡ fault.Malformed p.at)
+pub line_stop : {A : Type 0} (f : List ℕ → Option A) (p : Position) (g : CertFault) → formed (line_by f p) ≡ Err g → (first_by f p.rest ≡ None) × (g ≡ fault.Malformed p.at)
 line_stop f p g e =
     let r = formed_err (line_by f p) g e in
     let l = line_refuses f p r.0 r.1 in
-    (l.0, r.2 ∙ ap (λ (q : Place). fault.Malformed q.at) (sym l.1))
+    (l.0, r.2 ∙ ap (λ (q : Position). fault.Malformed q.at) (sym l.1))
 
 -- a line that one reading refuses does not have the words that it accepts
 pub not_next : {A : Type 0} (f : List ℕ → Option A) (ls : List TextLine) (ws : List (List ℕ)) (x : A) → first_by f ls ≡ None → IsNextLine ls ws → f (spaced ws) ≡ Some x → ⊥
 not_next f [] ws x none next e = next
 not_next f (l ∷ ls) ws x none next e = none-some x (sym none ∙ ap (λ (y : TextLine). first_by f (y ∷ ls)) next ∙ e)
 
-passes_next : (p : Place) (ws : List (List ℕ)) (q : Place) (ls : List TextLine) → ls ≡ p.rest → Passes p (whole ws ∷ []) q → IsNextLine ls ws
+passes_next : (p : Position) (ws : List (List ℕ)) (q : Position) (ls : List TextLine) → ls ≡ p.rest → Passes p (whole ws ∷ []) q → IsNextLine ls ws
 passes_next p ws q [] is h = absurd (nil_not_cons (whole ws) q.rest (is ∙ h.lines))
 passes_next p ws q (l ∷ ls) is h = same_head l (whole ws) ls q.rest (is ∙ h.lines)
 
 -- the line that is passed is the next one
-pub is_next : (p : Place) (ws : List (List ℕ)) (q : Place) → Passes p (whole ws ∷ []) q → IsNextLine p.rest ws
+pub is_next : (p : Position) (ws : List (List ℕ)) (q : Position) → Passes p (whole ws ∷ []) q → IsNextLine p.rest ws
 is_next p ws q h = passes_next p ws q p.rest refl h
 
 -- ---- lists
@@ -53,18 +53,18 @@ unless_err {X} None x g e = absurd (err_ok {A = X} g x (sym e))
 unless_err {X} (Some f) x g e = ap (λ (y : CertFault). Some y) (err_is {A = X} f g e)
 
 -- an item that is read and refused
-pub record ItemRefused {A : Type 0} (words : A → List (List ℕ)) (P : ℕ → A → Type 0) (refused : List A → A → ℕ → Option CertFault) (xs : List A) (p : Place) (g : CertFault) : Type 0 where
+pub record ItemRefused {A : Type 0} (words : A → List (List ℕ)) (P : ℕ → A → Type 0) (refused : List A → A → ℕ → Option CertFault) (xs : List A) (p : Position) (g : CertFault) : Type 0 where
   pub item : A
   pub fits : P (length xs) item
   pub refuses : refused xs item p.at ≡ Some g
   pub next : IsNextLine p.rest (words item)
 
 -- no item is read, or a refused one
-abbrev pub Stop : {A : Type 0} → (ℕ → List ℕ → Option A) → (A → List (List ℕ)) → (ℕ → A → Type 0) → (List A → A → ℕ → Option CertFault) → List A → Place → CertFault → Type 0
+abbrev pub Stop : {A : Type 0} → (ℕ → List ℕ → Option A) → (A → List (List ℕ)) → (ℕ → A → Type 0) → (List A → A → ℕ → Option CertFault) → List A → Position → CertFault → Type 0
 Stop by words P refused xs p g = ((first_by (by (length xs)) p.rest ≡ None) × (g ≡ fault.Malformed p.at)) ⊎ ItemRefused words P refused xs p g
 
 longer_stop : {A : Type 0} (by : ℕ → List ℕ → Option A) (words : A → List (List ℕ)) (P : ℕ → A → Type 0) (refused : List A → A → ℕ → Option CertFault) → Spells by words P
-    → (xs : List A) (p : Place) (g : CertFault) → longer_at by refused xs p ≡ Err g → Stop by words P refused xs p g
+    → (xs : List A) (p : Position) (g : CertFault) → longer_at by refused xs p ≡ Err g → Stop by words P refused xs p g
 unfolding longer_at
 longer_stop {A} by words P refused spells xs p g e = elim (then_stop (formed (line_by (by (length xs)) p)) _ g e) [
   | inl h ↦ inl (line_stop (by (length xs)) p g h)
@@ -78,23 +78,23 @@ longer_stop {A} by words P refused spells xs p g e = elim (then_stop (formed (li
           refuses = unless_err (refused xs x.0.0 p.at) (xs ++ x.0.0 ∷ []) g h;
           next = is_next p (words x.0.0) x.0.1 (as_words (by (length xs)) p x.0.0 x.0.1 t (words x.0.0) s.0);
         })
-        | inr y ↦ absurd (err_ok {A = List A × Place} g (y.0, x.0.1) (sym y.2))
+        | inr y ↦ absurd (err_ok {A = List A × Position} g (y.0, x.0.1) (sym y.2))
       ]
 ]
 
 -- the items before the line that stops the list
-pub record ItemsStop {A : Type 0} (by : ℕ → List ℕ → Option A) (words : A → List (List ℕ)) (P : ℕ → A → Type 0) (refused : List A → A → ℕ → Option CertFault) (xs : List A) (n : ℕ) (p : Place) (g : CertFault) : Type 0 where
+pub record ItemsStop {A : Type 0} (by : ℕ → List ℕ → Option A) (words : A → List (List ℕ)) (P : ℕ → A → Type 0) (refused : List A → A → ℕ → Option CertFault) (xs : List A) (n : ℕ) (p : Position) (g : CertFault) : Type 0 where
   pub items : List A
   pub fewer : length items < n
   pub fit : Admitted P refused xs items
-  pub place : Place
+  pub place : Position
   pub passes : Passes p (lines words items) place
   pub stop : Stop by words P refused (xs ++ items) place g
 
 pub items_stop : {A : Type 0} (by : ℕ → List ℕ → Option A) (words : A → List (List ℕ)) (P : ℕ → A → Type 0) (refused : List A → A → ℕ → Option CertFault) → Spells by words P → Steady refused
-    → (xs : List A) (n : ℕ) (p : Place) (g : CertFault) → items_from by refused xs n p ≡ Err g → ItemsStop by words P refused xs n p g
+    → (xs : List A) (n : ℕ) (p : Position) (g : CertFault) → items_from by refused xs n p ≡ Err g → ItemsStop by words P refused xs n p g
 unfolding items_from
-items_stop {A} by words P refused spells steady xs zero p g e = absurd (err_ok {A = List A × Place} g (xs, p) (sym e))
+items_stop {A} by words P refused spells steady xs zero p g e = absurd (err_ok {A = List A × Position} g (xs, p) (sym e))
 items_stop {A} by words P refused spells steady xs (suc n) p g e =
     let Q : List A → Type 0 = λ ys. Stop by words P refused ys p g in
     elim (then_stop (longer_at by refused xs p) _ g e) [

@@ -11,15 +11,15 @@ use Rattle.avr_model.specs.declared.assumption.Entry.TheVariants.{Pairs}
 use Rattle.avr_model.specs.Assumptions.{has_pairs}
 use Rattle.avr_model.specs.declared.device.Device.{Device}
 use Rattle.avr_model.specs.Devices.{depth_of}
-use Rattle.sb_base.specs.Answers.{Answers}
-use Rattle.sb_base.specs.Lines.{Place, lines_of, spaced, line, joined}
+use Rattle.text_base.specs.Answers.{Answers}
+use Rattle.text_base.specs.Lines.{Position, lines_of, spaced, line, joined}
 use Rattle.line_reading.specs.Words.{IsWord, WordLaws}
 use Rattle.vector_table.specs.Entries.{is_entry, fits_device, most_entries}
-use Rattle.indirect_targets.specs.Spelling.{entry_words}
-use Rattle.indirect_targets.specs.Exact.{EntryWords, AreEntriesOf}
-use Rattle.indirect_targets.proofs.AllLaws.{entry_is_words}
-use Rattle.mask_states.specs.Order.{inst_cmp}
-use Rattle.mask_states.specs.Laws.{KeysAreOrdered}
+use Rattle.assumption_files.specs.Spelling.{entry_words}
+use Rattle.assumption_files.specs.Exact.{EntryWords, AreEntriesOf}
+use Rattle.assumption_files.proofs.AllLaws.{entry_is_words}
+use Rattle.node_keys.specs.Order.{inst_cmp}
+use Rattle.node_keys.specs.Laws.{KeysAreOrdered}
 use Rattle.edge_rules.specs.Expansion.{Seeds}
 use Rattle.witness_replay.specs.Spelling.{Plan}
 use Rattle.witness_replay.specs.Exact.{TextIsReading, ReadScheduleIsSpelled as ScheduleIsSpelled, SpelledScheduleIsRead as ScheduleIsRead}
@@ -59,29 +59,29 @@ pub record LowerLaws : Type 0 where
 
 -- ---- the lists
 
-pub record FirstPart (version : Version) (p : Place) (z : List Entry × Place) : Type 0 where
+pub record FirstPart (device : Device) (version : Version) (p : Position) (z : List Entry × Position) : Type 0 where
   pub all : z.0 ≡ firsts version
-  pub lines : Stand p (map entry_words (firsts version)) z.1
+  pub lines : Stand p (map (entry_words device) (firsts version)) z.1
 
-pub first_take : (version : Version) (p : Place) (z : List Entry × Place) → first_at version p ≡ Ok z → FirstPart version p z
+pub first_take : (device : Device) (version : Version) (p : Position) (z : List Entry × Position) → first_at version p ≡ Ok z → FirstPart device version p z
 unfolding first_at
-first_take One p z e = let P : List Entry × Place → Type 0 = λ y. FirstPart One p y in subst P (ok_is {A = List Entry × Place} ([], p) z e) (record { all = refl; lines = passes_none p })
-first_take Two p z e = let P : List Entry × Place → Type 0 = λ y. FirstPart Two p y in subst P (ok_is {A = List Entry × Place} ([], p) z e) (record { all = refl; lines = passes_none p })
-first_take Three p z e =
-    let u = then_ok (formed (line_by (this_by (spaced (entry_words Pairs))) p)) _ z e in
-    let P : List Entry × Place → Type 0 = λ y. FirstPart Three p y in
-    subst P (ok_is {A = List Entry × Place} (Pairs ∷ [], u.0.1) z u.2) (record { all = refl; lines = this_take (entry_words Pairs) p u.0 u.1 })
+first_take device One p z e = let P : List Entry × Position → Type 0 = λ y. FirstPart device One p y in subst P (ok_is {A = List Entry × Position} ([], p) z e) (record { all = refl; lines = passes_none p })
+first_take device Two p z e = let P : List Entry × Position → Type 0 = λ y. FirstPart device Two p y in subst P (ok_is {A = List Entry × Position} ([], p) z e) (record { all = refl; lines = passes_none p })
+first_take device Three p z e =
+    let u = then_ok (formed (line_by (this_by (spaced (entry_words device Pairs))) p)) _ z e in
+    let P : List Entry × Position → Type 0 = λ y. FirstPart device Three p y in
+    subst P (ok_is {A = List Entry × Position} (Pairs ∷ [], u.0.1) z u.2) (record { all = refl; lines = this_take (entry_words device Pairs) p u.0 u.1 })
 
-first_again : (version : Version) (p q : Place) → Stand p (map entry_words (firsts version)) q → first_at version p ≡ Ok (firsts version, q)
+first_again : (device : Device) (version : Version) (p q : Position) → Stand p (map (entry_words device) (firsts version)) q → first_at version p ≡ Ok (firsts version, q)
 unfolding first_at
-first_again One p q h = ap (λ (r : Place). Ok ([], r)) (passes_end p q h)
-first_again Two p q h = ap (λ (r : Place). Ok ([], r)) (passes_end p q h)
-first_again Three p q h = rw (this_line (entry_words Pairs) p q h) refl
+first_again device One p q h = ap (λ (r : Position). Ok ([], r)) (passes_end p q h)
+first_again device Two p q h = ap (λ (r : Position). Ok ([], r)) (passes_end p q h)
+first_again device Three p q h = rw (this_line (entry_words device Pairs) p q h) refl
 
-pub record EntriesPart (device : Device) (version : Version) (p : Place) (z : List Entry × Place) : Type 0 where
+pub record EntriesPart (device : Device) (version : Version) (p : Position) (z : List Entry × Position) : Type 0 where
   pub are : AreEntriesOf device z.0
   pub mode : is_third (version_with (says_device device) version z.0) ≡ has_pairs z.0
-  pub lines : Stand p (entry_lines z.0) z.1
+  pub lines : Stand p (entry_lines device z.0) z.1
 
 abbrev pub SomeAdmitted : Device → Version → List Entry → Type 0
 SomeAdmitted device version items = Admitted (EntryOf device (is_paired device version)) refused_entry (firsts version) items
@@ -95,16 +95,16 @@ some_mode device version items h =
     let P : Bool → Type 0 = λ b. Admitted (EntryOf device (b || is_third version)) refused_entry (firsts version) items in
     with_mode (says_device device) version (firsts version ++ items) (λ none. sym (modes_kept device (is_third version) (firsts version) items (sym (firsts_mode version)) (subst P none h)))
 
-pub some_stand : (version : Version) (m s q : Place) (items : List Entry) → Stand m (map entry_words (firsts version)) s → Stand s (map entry_words items) q → Stand m (map entry_words (firsts version ++ items)) q
-some_stand version m s q items h g =
+pub some_stand : (device : Device) (version : Version) (m s q : Position) (items : List Entry) → Stand m (map (entry_words device) (firsts version)) s → Stand s (map (entry_words device) items) q → Stand m (map (entry_words device) (firsts version ++ items)) q
+some_stand device version m s q items h g =
     let P : List (List (List ℕ)) → Type 0 = λ wss. Stand m wss q in
-    subst P (sym (map-append entry_words (firsts version) items)) (stand_more m s q (map entry_words (firsts version)) (map entry_words items) h g)
+    subst P (sym (map-append (entry_words device) (firsts version) items)) (stand_more m s q (map (entry_words device) (firsts version)) (map (entry_words device) items) h g)
 
 some_count : (version : Version) (items : List Entry) (n : ℕ) → least_entries version ≤ n → length items ≡ n - least_entries version → length (firsts version ++ items) ≡ n
 some_count version items n least e = omega (arith, length-append (firsts version) items, firsts_count version, least, e)
 
-entries_part : (device : Device) (version : Version) (p m s : Place) (n : ℕ) (z : List Entry × Place) → Stand p (numbered (codes "assume") n ∷ []) m → least_entries version ≤ n → n ≤ most_entries → Stand m (map entry_words (firsts version)) s
-    → ItemsRead entry_words (EntryOf device (is_paired device version)) refused_entry (firsts version) (n - least_entries version) s z → EntriesPart device version p z
+entries_part : (device : Device) (version : Version) (p m s : Position) (n : ℕ) (z : List Entry × Position) → Stand p (numbered (codes "assume") n ∷ []) m → least_entries version ≤ n → n ≤ most_entries → Stand m (map (entry_words device) (firsts version)) s
+    → ItemsRead (entry_words device) (EntryOf device (is_paired device version)) refused_entry (firsts version) (n - least_entries version) s z → EntriesPart device version p z
 entries_part device version p m s n z count least most first r =
     let all : List Entry = firsts version ++ r.items in
     let number : length all ≡ n = some_count version r.items n least r.number in
@@ -113,19 +113,19 @@ entries_part device version p m s n z count least most first r =
     subst Q r.all (record {
       are = some_keep device version r.items r.fit (omega (arith, number, most));
       mode = some_mode device version r.items r.fit;
-      lines = stand_more p m z.1 (numbered (codes "assume") (length all) ∷ []) (map entry_words all) (subst P (sym number) count) (some_stand version m s z.1 r.items first r.passes);
+      lines = stand_more p m z.1 (numbered (codes "assume") (length all) ∷ []) (map (entry_words device) all) (subst P (sym number) count) (some_stand device version m s z.1 r.items first r.passes);
     })
 
-pub entries_take : (device : Device) → LowerLaws → (version : Version) (p : Place) (z : List Entry × Place) → entries_at device version p ≡ Ok z → EntriesPart device version p z
+pub entries_take : (device : Device) → LowerLaws → (version : Version) (p : Position) (z : List Entry × Position) → entries_at device version p ≡ Ok z → EntriesPart device version p z
 unfolding entries_at
 entries_take device b version p z e =
     let paired = is_paired device version in
     let n = then_ok (formed (line_by (numbered_by (codes "assume") (least_entries version) most_entries) p)) _ z e in
     let count = number_take b.words (codes "assume") (least_entries version) most_entries p n.0 (lit< tt) n.1 in
     let f = then_ok (first_at version n.0.1) _ z n.2 in
-    let first = first_take version n.0.1 f.0 f.1 in
-    let r = items_take (λ at. entry_by device paired) entry_words (EntryOf device paired) refused_entry (entry_spells device b.words b.entries paired) entry_steady f.0.0 (n.0.0 - least_entries version) f.0.1 z f.2 in
-    let P : List Entry → Type 0 = λ front. ItemsRead entry_words (EntryOf device paired) refused_entry front (n.0.0 - least_entries version) f.0.1 z in
+    let first = first_take device version n.0.1 f.0 f.1 in
+    let r = items_take (λ at. entry_by device paired) (entry_words device) (EntryOf device paired) refused_entry (entry_spells device b.words b.entries paired) entry_steady f.0.0 (n.0.0 - least_entries version) f.0.1 z f.2 in
+    let P : List Entry → Type 0 = λ front. ItemsRead (entry_words device) (EntryOf device paired) refused_entry front (n.0.0 - least_entries version) f.0.1 z in
     entries_part device version p n.0.1 f.0.1 n.0.0 z count.0 count.1 count.2 first.lines (subst P first.all r)
 
 all_behind : {A : Type 0} (P : A → Type 0) (front xs : List A) → AllByRecursion P (front ++ xs) → AllByRecursion P xs
@@ -137,47 +137,47 @@ all_fitting : (device : Device) (es : List Entry) → AllByRecursion (λ e. is_e
 all_fitting device [] h g = tt
 all_fitting device (e ∷ es) h g = (and_from (is_entry e) (fits_device device e) h.0 g.0, all_fitting device es h.1 g.1)
 
-entries_of : (device : Device) → LowerLaws → (version : Version) (p : Place) (rest : List Entry) (q : Place) → AreEntriesOf device (firsts version ++ rest) → AllByRecursion (λ e. is_admitted (is_paired device version) e ≡ true) rest
-    → Stand p (entry_lines (firsts version ++ rest)) q → entries_at device version p ≡ Ok (firsts version ++ rest, q)
+entries_of : (device : Device) → LowerLaws → (version : Version) (p : Position) (rest : List Entry) (q : Position) → AreEntriesOf device (firsts version ++ rest) → AllByRecursion (λ e. is_admitted (is_paired device version) e ≡ true) rest
+    → Stand p (entry_lines device (firsts version ++ rest)) q → entries_at device version p ≡ Ok (firsts version ++ rest, q)
 unfolding entries_at
 entries_of device b version p rest q h admitted s =
     let all : List Entry = firsts version ++ rest in
     let size : length all ≡ least_entries version + length rest = omega (arith, length-append (firsts version) rest, firsts_count version) in
     let few = h.are.few in
-    let c = stand_cut p q (numbered (codes "assume") (length all) ∷ []) (map entry_words all) s in
+    let c = stand_cut p q (numbered (codes "assume") (length all) ∷ []) (map (entry_words device) all) s in
     let P : List (List (List ℕ)) → Type 0 = λ wss. Stand c.0 wss q in
-    let d = stand_cut c.0 q (map entry_words (firsts version)) (map entry_words rest) (subst P (map-append entry_words (firsts version) rest) c.2) in
+    let d = stand_cut c.0 q (map (entry_words device) (firsts version)) (map (entry_words device) rest) (subst P (map-append (entry_words device) (firsts version) rest) c.2) in
     let number = number_line b.words (codes "assume") (least_entries version) most_entries (length all) p c.0 (plain (codes "assume" ∷ []) refl).0 (lit< tt) (omega (arith, size)) few c.1 in
     let fits = all_behind (FitsEntry device) (firsts version) rest (all_fitting device all (recursion_from_All (λ e. is_entry e ≡ true) all h.are.each) (recursion_from_All (λ e. fits_device device e ≡ true) all h.fit)) in
     let paired = is_paired device version in
-    let items = items_again (λ at. entry_by device paired) entry_words (EntryOf device paired) refused_entry (entry_reads device b.words b.entries paired) (firsts version) rest (length all - least_entries version) d.0 q
+    let items = items_again (λ at. entry_by device paired) (entry_words device) (EntryOf device paired) refused_entry (entry_reads device b.words b.entries paired) (firsts version) rest (length all - least_entries version) d.0 q
     (omega (arith, size, few, firsts_count version)) (entries_admitted device paired (firsts version) rest h fits admitted) (omega (arith, size)) d.2 in
-    rw (number, first_again version c.0 d.0 d.1) items
+    rw (number, first_again device version c.0 d.0 d.1) items
 
-entries_again : (device : Device) → LowerLaws → (version : Version) (p : Place) (es : List Entry) (q : Place) → AreEntriesOf device es → is_third version ≡ has_pairs es → Stand p (entry_lines es) q
+entries_again : (device : Device) → LowerLaws → (version : Version) (p : Position) (es : List Entry) (q : Position) → AreEntriesOf device es → is_third version ≡ has_pairs es → Stand p (entry_lines device es) q
     → entries_at device (version_read (says_device device) version) p ≡ Ok (es, q)
 entries_again device b version p es q h mode s =
     let read = version_read (says_device device) version in
     let t = begins_read (says_device device) version es h.are mode in
-    let P : List Entry → Type 0 = λ xs. Stand p (entry_lines xs) q in
+    let P : List Entry → Type 0 = λ xs. Stand p (entry_lines device xs) q in
     let Q : List Entry → Type 0 = λ xs. entries_at device read p ≡ Ok (xs, q) in
     subst Q (sym t.all) (entries_of device b read p t.rest q (subst (AreEntriesOf device) t.all h) t.admitted (subst P t.all s))
 
-pub insts_take : (device : Device) → LowerLaws → (p : Place) (z : List Inst × Place) → insts_at device p ≡ Ok z → ListPart (codes "instances") most_instances (inst_words device) (AnyInst device) refused_inst p z
+pub insts_take : (device : Device) → LowerLaws → (p : Position) (z : List Inst × Position) → insts_at device p ≡ Ok z → ListPart (codes "instances") most_instances (inst_words device) (AnyInst device) refused_inst p z
 unfolding insts_at
 insts_take device b p z e =
     let n = then_ok (formed (line_by (numbered_by (codes "instances") 0 most_instances) p)) _ z e in
     let count = number_take b.words (codes "instances") 0 most_instances p n.0 (lit< tt) n.1 in
     list_take (λ at. inst_by device) (inst_words device) (AnyInst device) refused_inst (inst_spells device b.words b.insts) inst_steady (codes "instances") most_instances n.0.0 p n.0.1 z count.0 count.2 n.2
 
-insts_again : (device : Device) → LowerLaws → (p : Place) (xs : List Inst) (q : Place) → IsStrictlySortedBy inst_cmp (inst_keys xs) → AllByRecursion (IsInst device) xs → length xs ≤ most_instances → Stand p (inst_lines device xs) q → insts_at device p ≡ Ok (xs, q)
+insts_again : (device : Device) → LowerLaws → (p : Position) (xs : List Inst) (q : Position) → IsStrictlySortedBy inst_cmp (inst_keys xs) → AllByRecursion (IsInst device) xs → length xs ≤ most_instances → Stand p (inst_lines device xs) q → insts_at device p ≡ Ok (xs, q)
 unfolding insts_at
 insts_again device b p xs q ascend all few s =
     let r = list_again (λ at. inst_by device) (inst_words device) (AnyInst device) refused_inst (inst_reads device b.words b.insts) (codes "instances") xs p q (omega (arith, few)) (insts_admitted device xs ascend all) s in
     let count = number_line b.words (codes "instances") 0 most_instances (length xs) p r.0 (plain (codes "instances" ∷ []) refl).0 (lit< tt) (omega arith) few r.1 in
     rw count r.2
 
-pub nodes_part : (device : Device) → LowerLaws → (version : Version) (insts : List Inst) → IsStrictlySortedBy inst_cmp (inst_keys insts) → (p : Place) (z : Seeds × Place) → nodes_at device version insts p ≡ Ok z
+pub nodes_part : (device : Device) → LowerLaws → (version : Version) (insts : List Inst) → IsStrictlySortedBy inst_cmp (inst_keys insts) → (p : Position) (z : Seeds × Position) → nodes_at device version insts p ≡ Ok z
     → ListPart (codes "nodes") most_nodes (node_words device version insts) (FitsNode device version insts) refused_node p z
 unfolding nodes_at
 nodes_part device b version insts ascend p z e =
@@ -185,7 +185,7 @@ nodes_part device b version insts ascend p z e =
     let count = nodes_take b.words p n.0 n.1 in
     list_take (node_by device version insts) (node_words device version insts) (FitsNode device version insts) refused_node (node_spells device b.words b.nodes b.keys version insts ascend) node_steady (codes "nodes") most_nodes n.0.0 p n.0.1 z count.0 count.1 n.2
 
-nodes_again : (device : Device) → LowerLaws → (version : Version) (insts : List Inst) → length insts ≤ most_instances → (p : Place) (ns : Seeds) (q : Place) → NodesKeep ns → AllFrom (FitsNode device version insts) 0 ns → length ns ≤ most_nodes
+nodes_again : (device : Device) → LowerLaws → (version : Version) (insts : List Inst) → length insts ≤ most_instances → (p : Position) (ns : Seeds) (q : Position) → NodesKeep ns → AllFrom (FitsNode device version insts) 0 ns → length ns ≤ most_nodes
     → Stand p (node_lines device version insts ns) q → nodes_at device version insts p ≡ Ok (ns, q)
 unfolding nodes_at
 nodes_again device b version insts few p ns q keep all most s =
@@ -219,7 +219,7 @@ claim_of device version n es xs ns w small he mode later hx ax few hn kn most = 
   of_device = later;
 }
 
-claim_by : (device : Device) → LowerLaws → (read : Version) (n : ℕ) (a c d : Place) (es : List Entry × Place) (xs : List Inst × Place) (ns : Seeds × Place) (w : Option Plan) → n ≤ depth_of device → entries_at device read a ≡ Ok es → insts_at device c ≡ Ok xs
+claim_by : (device : Device) → LowerLaws → (read : Version) (n : ℕ) (a c d : Position) (es : List Entry × Position) (xs : List Inst × Position) (ns : Seeds × Position) (w : Option Plan) → n ≤ depth_of device → entries_at device read a ≡ Ok es → insts_at device c ≡ Ok xs
     → nodes_at device (version_with (says_device device) read es.0) xs.0 d ≡ Ok ns
     → IsClaim (record { device = device; version = version_with (says_device device) read es.0; bound = n; assumptions = es.0; instances = xs.0; nodes = ns.0; witness = w })
 claim_by device b read n a c d es xs ns w small e f g =
@@ -231,13 +231,13 @@ claim_by device b read n a c d es xs ns w small e f g =
     claim_of device version n es.0 xs.0 ns.0 w small entries.are entries.mode (with_later (says_device device) read es.0) (all_of_any (IsInst device) 0 xs.0 (admitted_all (AnyInst device) refused_inst [] xs.0 insts.fit)) ascend insts.few
     (admitted_all (FitsNode device version xs.0) refused_node [] ns.0 nodes.fit) (nodes_kept device b.keys version xs.0 ns.0 nodes.fit) nodes.few
 
-record ClaimRead (device : Device) (p : Place) (z : Claim × Place) : Type 0 where
+record ClaimRead (device : Device) (p : Position) (z : Claim × Position) : Type 0 where
   pub is : z.0.device ≡ device
   pub certificate : IsCertificate z.0
   pub lines : Stand p (certificate_lines z.0) z.1
   pub over : z.1.rest ≡ []
 
-claim_take : (device : Device) → LowerLaws → (p : Place) (z : Claim × Place) → claim_at device p ≡ Ok z → ClaimRead device p z
+claim_take : (device : Device) → LowerLaws → (p : Position) (z : Claim × Position) → claim_at device p ≡ Ok z → ClaimRead device p z
 unfolding claim_at
 claim_take device k p z e =
     let b = then_ok (heading_at device p) _ z e in
@@ -256,23 +256,23 @@ claim_take device k p z e =
     let end = end_part w.0.1 d.0 d.1 in
     let last = stand_more n.0.1 w.0.1 d.0.1 (witness_lines w.0.0) (end_line ∷ []) witness.lines end.lines in
     let third = stand_more a.0.1 i.0.1 n.0.1 (inst_lines device i.0.0) (node_lines device version i.0.0 n.0.0) insts.lines nodes.lines in
-    let second = stand_more b.0.1 a.0.1 n.0.1 (entry_lines a.0.0) (inst_lines device i.0.0 ++ node_lines device version i.0.0 n.0.0) entries.lines third in
+    let second = stand_more b.0.1 a.0.1 n.0.1 (entry_lines device a.0.0) (inst_lines device i.0.0 ++ node_lines device version i.0.0 n.0.0) entries.lines third in
     let H : List (List ℕ) → Type 0 = λ l. Stand p (l ∷ (device_lines says device ++ numbered (codes "bound") b.0.0.1 ∷ [])) b.0.1 in
-    let first = stand_more p b.0.1 n.0.1 (heading device version b.0.0.1) (entry_lines a.0.0 ++ (inst_lines device i.0.0 ++ node_lines device version i.0.0 n.0.0)) (subst H (same_line says b.0.0.0 a.0.0) top.lines) second in
-    let all = stand_more p n.0.1 d.0.1 (heading device version b.0.0.1 ++ (entry_lines a.0.0 ++ (inst_lines device i.0.0 ++ node_lines device version i.0.0 n.0.0))) (witness_lines w.0.0 ++ end_line ∷ []) first last in
-    let P : Claim × Place → Type 0 = λ y. ClaimRead device p y in
-    subst P (ok_is {A = Claim × Place} (record { device = device; version = version; bound = b.0.0.1; assumptions = a.0.0; instances = i.0.0; nodes = n.0.0; witness = w.0.0 }, d.0.1) z d.2) (record {
+    let first = stand_more p b.0.1 n.0.1 (heading device version b.0.0.1) (entry_lines device a.0.0 ++ (inst_lines device i.0.0 ++ node_lines device version i.0.0 n.0.0)) (subst H (same_line says b.0.0.0 a.0.0) top.lines) second in
+    let all = stand_more p n.0.1 d.0.1 (heading device version b.0.0.1 ++ (entry_lines device a.0.0 ++ (inst_lines device i.0.0 ++ node_lines device version i.0.0 n.0.0))) (witness_lines w.0.0 ++ end_line ∷ []) first last in
+    let P : Claim × Position → Type 0 = λ y. ClaimRead device p y in
+    subst P (ok_is {A = Claim × Position} (record { device = device; version = version; bound = b.0.0.1; assumptions = a.0.0; instances = i.0.0; nodes = n.0.0; witness = w.0.0 }, d.0.1) z d.2) (record {
       is = refl;
       certificate = record { claim = claim_by device k b.0.0.0 b.0.0.1 b.0.1 a.0.1 i.0.1 a.0 i.0 n.0 w.0.0 top.small a.1 i.1 n.1; schedule = witness.schedule };
       lines = all;
       over = end.over;
     })
 
-alone : (d : Result (Claim × Place) CertFault) (c : Claim) → claim_alone d ≡ Ok c → (q : Place) × (d ≡ Ok (c, q))
+alone : (d : Result (Claim × Position) CertFault) (c : Claim) → claim_alone d ≡ Ok c → (q : Position) × (d ≡ Ok (c, q))
 alone (Ok x) c e = (x.1, ap (λ (y : Claim). Ok (y, x.1)) (ok_is x.0 c e))
 alone (Err f) c e = absurd (err_ok f c e)
 
-spelled_text : WordLaws → (device : Device) (text : List ℕ) (c : Claim) (q : Place) → ClaimRead device (before 0 text) (c, q) → text ≡ text_of c
+spelled_text : WordLaws → (device : Device) (text : List ℕ) (c : Claim) (q : Position) → ClaimRead device (before 0 text) (c, q) → text ≡ text_of c
 spelled_text k device text c q h =
     let t = k.lines_text (before 0 text) (certificate_lines c) q h.lines in
     let none : joined q.rest ≡ [] = ap joined h.over in
@@ -312,22 +312,23 @@ front_plain : LowerLaws → (c : Claim) → IsClaim c → AllByRecursion (AllByR
 front_plain b c h =
     let k = b.words in
     let bound = numbered_plain k (codes "bound") c.bound (plain (codes "bound" ∷ []) refl).0 (omega (arith, h.bound_fits, depth_room c.device)) in
-    let entries : AllByRecursion (AllByRecursion IsWord) (entry_lines c.assumptions) = (
+    let entries : AllByRecursion (AllByRecursion IsWord) (entry_lines c.device c.assumptions) = (
       numbered_plain k (codes "assume") (length c.assumptions) (plain (codes "assume" ∷ []) refl).0 (omega (arith, h.entries_fit.few)),
-      all_plain entry_words (λ e. is_entry e ≡ true) (entry_is_words k) c.assumptions (recursion_from_All (λ e. is_entry e ≡ true) c.assumptions h.entries_fit.each),
+      all_plain (entry_words c.device) (FitsEntry c.device) (entry_is_words k c.device) c.assumptions
+          (all_fitting c.device c.assumptions (recursion_from_All (λ e. is_entry e ≡ true) c.assumptions h.entries_fit.each) (recursion_from_All (λ e. fits_device c.device e ≡ true) c.assumptions h.entries_of_device)),
     ) in
     let insts : AllByRecursion (AllByRecursion IsWord) (inst_lines c.device c.instances) = (numbered_plain k (codes "instances") (length c.instances) (plain (codes "instances" ∷ []) refl).0 (omega (arith, h.few_insts)), all_plain (inst_words c.device) (IsInst c.device) (b.insts.words c.device) c.instances h.insts_fit) in
     let nodes : AllByRecursion (AllByRecursion IsWord) (node_lines c.device c.version c.instances c.nodes) = (
       numbered_plain k (codes "nodes") (length c.nodes) (plain (codes "nodes" ∷ []) refl).0 (omega (arith, h.few_nodes)),
       node_plain_all c.device b c.version c.instances h.few_insts 0 c.nodes (omega (arith, h.few_nodes)) (fitting_nodes c h),
     ) in
-    joined_plain (heading c.device c.version c.bound) (entry_lines c.assumptions ++ (inst_lines c.device c.instances ++ node_lines c.device c.version c.instances c.nodes)) (heading_plain (says_device c.device) c.device c.version c.bound bound) (joined_plain (entry_lines c.assumptions) (inst_lines c.device c.instances ++ node_lines c.device c.version c.instances c.nodes) entries (joined_plain (inst_lines c.device c.instances) (node_lines c.device c.version c.instances c.nodes) insts nodes))
+    joined_plain (heading c.device c.version c.bound) (entry_lines c.device c.assumptions ++ (inst_lines c.device c.instances ++ node_lines c.device c.version c.instances c.nodes)) (heading_plain (says_device c.device) c.device c.version c.bound bound) (joined_plain (entry_lines c.device c.assumptions) (inst_lines c.device c.instances ++ node_lines c.device c.version c.instances c.nodes) entries (joined_plain (inst_lines c.device c.instances) (node_lines c.device c.version c.instances c.nodes) insts nodes))
 
-again_at : LowerLaws → (c : Claim) → IsClaim c → (p q : Place) → Stand p (front_lines c) q
-    → (a : Place) × (d : Place) × (f : Place) × (heading_at c.device p ≡ Ok ((version_read (says_device c.device) c.version, c.bound), a)) × (entries_at c.device (version_read (says_device c.device) c.version) a ≡ Ok (c.assumptions, d)) × (insts_at c.device d ≡ Ok (c.instances, f)) × (nodes_at c.device c.version c.instances f ≡ Ok (c.nodes, q))
+again_at : LowerLaws → (c : Claim) → IsClaim c → (p q : Position) → Stand p (front_lines c) q
+    → (a : Position) × (d : Position) × (f : Position) × (heading_at c.device p ≡ Ok ((version_read (says_device c.device) c.version, c.bound), a)) × (entries_at c.device (version_read (says_device c.device) c.version) a ≡ Ok (c.assumptions, d)) × (insts_at c.device d ≡ Ok (c.instances, f)) × (nodes_at c.device c.version c.instances f ≡ Ok (c.nodes, q))
 again_at b c h p q s =
-    let x = stand_cut p q (heading c.device c.version c.bound) (entry_lines c.assumptions ++ (inst_lines c.device c.instances ++ node_lines c.device c.version c.instances c.nodes)) s in
-    let y = stand_cut x.0 q (entry_lines c.assumptions) (inst_lines c.device c.instances ++ node_lines c.device c.version c.instances c.nodes) x.2 in
+    let x = stand_cut p q (heading c.device c.version c.bound) (entry_lines c.device c.assumptions ++ (inst_lines c.device c.instances ++ node_lines c.device c.version c.instances c.nodes)) s in
+    let y = stand_cut x.0 q (entry_lines c.device c.assumptions) (inst_lines c.device c.instances ++ node_lines c.device c.version c.instances c.nodes) x.2 in
     let z = stand_cut y.0 q (inst_lines c.device c.instances) (node_lines c.device c.version c.instances c.nodes) y.2 in (
       x.0,
       y.0,
@@ -344,7 +345,7 @@ text_parts c =
     ∙ ap (λ (xs : List ℕ). flat_map line (front_lines c) ++ xs) (flat_map-append line (witness_lines c.witness) (end_line ∷ []))
 
 claim_again : LowerLaws → (c : Claim) → IsCertificate c
-    → (q : Place) × (claim_at c.device (before 0 (flat_map line (front_lines c) ++ (flat_map line (witness_lines c.witness) ++ flat_map line (end_line ∷ [])))) ≡ Ok (c, q))
+    → (q : Position) × (claim_at c.device (before 0 (flat_map line (front_lines c) ++ (flat_map line (witness_lines c.witness) ++ flat_map line (end_line ∷ [])))) ≡ Ok (c, q))
 unfolding claim_at
 claim_again b c h =
     let text : List ℕ = flat_map line (witness_lines c.witness) ++ flat_map line (end_line ∷ []) in
@@ -368,7 +369,7 @@ one_text k a b h g same e = ok_is a b (sym (spelled_is_read k a h) ∙ ap₂ (λ
 -- ---- what is answered
 
 -- the claim read at the beginning of a text is that of the text
-pub answered : (device : Device) (text : List ℕ) (p q : Place) (r : Result Claim CertFault) → p ≡ record { at = 0; rest = lines_of text } → Answers (λ c. (c, q)) fault.Memory r (claim_at device p) → Answers (λ c. c) fault.Memory r (certificate_in device text)
+pub answered : (device : Device) (text : List ℕ) (p q : Position) (r : Result Claim CertFault) → p ≡ record { at = 0; rest = lines_of text } → Answers (λ c. (c, q)) fault.Memory r (claim_at device p) → Answers (λ c. c) fault.Memory r (certificate_in device text)
 unfolding certificate_in
 answered device text p q (Ok c) e h = ap claim_alone (rw e at h)
 answered device text p q (Err f) e h = λ other. ap claim_alone (rw e at (h other))

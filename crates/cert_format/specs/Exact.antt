@@ -3,8 +3,8 @@ use Rattle.std.specs.Prelude.{◌≡◌, ◌≤◌, ℕ, List, None, Result, Ok}
 use Rattle.avr_model.specs.declared.assumption.Entry.{Entry}
 use Rattle.avr_model.specs.declared.device.Device.{Device}
 use Rattle.avr_model.specs.Devices.{depth_of}
-use Rattle.sb_base.specs.Answers.{Answers}
-use Rattle.sb_base.specs.Lines.{Place}
+use Rattle.text_base.specs.Answers.{Answers}
+use Rattle.text_base.specs.Lines.{Position}
 use Rattle.edge_rules.specs.Expansion.{Seeds}
 use Rattle.certificate.specs.declared.instance.Inst.{Inst}
 use Rattle.certificate.specs.declared.version.Version.{Version}
@@ -34,6 +34,6 @@ CertificatesHaveOneText = (a b : Claim) → IsCertificate a → IsCertificate b 
 -- the parts that are read form a claim
 abbrev pub PartsMakeClaims : Type 0
 PartsMakeClaims =
-    (device : Device) (version : Version) (a b c d : Place) (n : ℕ) (es : List Entry) (xs : List Inst) (ns : Seeds) → n ≤ depth_of device
+    (device : Device) (version : Version) (a b c d : Position) (n : ℕ) (es : List Entry) (xs : List Inst) (ns : Seeds) → n ≤ depth_of device
     → entries_at device version a ≡ Ok (es, b) → insts_at device b ≡ Ok (xs, c) → nodes_at device (version_with (says_device device) version es) xs c ≡ Ok (ns, d)
     → IsClaim (record { device = device; version = version_with (says_device device) version es; bound = n; assumptions = es; instances = xs; nodes = ns; witness = None })

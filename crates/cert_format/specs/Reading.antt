@@ -8,26 +8,26 @@ use Rattle.avr_model.specs.declared.assumption.Entry.TheVariants.{Pairs, Masks, 
 use Rattle.avr_model.specs.declared.device.Device.{Device}
 use Rattle.avr_model.specs.Names.{class_of, device_of_class}
 use Rattle.avr_model.specs.Devices.{depth_of}
-use Rattle.sb_base.specs.Answers.{Answers}
-use Rattle.sb_base.specs.Digits.{dec_answer}
-use Rattle.sb_base.specs.declared.digits.DigitFault.{DigitFault}
-use Rattle.sb_base.specs.declared.digits.DigitFault.TheVariants.{WrongLength, BadDigit, TooGreat}
-use Rattle.sb_base.specs.Lines.{TextLine, Place, lines_of, words_of}
+use Rattle.text_base.specs.Answers.{Answers}
+use Rattle.text_base.specs.Digits.{dec_answer}
+use Rattle.text_base.specs.declared.digits.DigitFault.{DigitFault}
+use Rattle.text_base.specs.declared.digits.DigitFault.TheVariants.{WrongLength, BadDigit, TooGreat}
+use Rattle.text_base.specs.Lines.{TextLine, Position, lines_of, words_of}
 use Rattle.line_reading.specs.Reading.{◌>>=◌, dec_at, word_at, word_by, is_over, then_at, this_by, line_by}
 use Rattle.vector_table.specs.Entries.{is_above_last, most_entries}
-use Rattle.mask_states.specs.Keys.{offset_of}
-use Rattle.mask_states.specs.Order.{inst_cmp, node_cmp}
-use Rattle.mask_states.specs.declared.keys.NodeKey.{NodeKey}
+use Rattle.node_keys.specs.Keys.{offset_of}
+use Rattle.node_keys.specs.Order.{inst_cmp, node_cmp}
+use Rattle.node_keys.specs.declared.keys.NodeKey.{NodeKey}
 use Rattle.edge_rules.specs.declared.seeded.NodeForm.{NodeForm}
 use Rattle.edge_rules.specs.Expansion.{Seeds}
-use Rattle.indirect_targets.specs.Reading.{entry_in}
+use Rattle.assumption_files.specs.Reading.{entry_in}
 use Rattle.witness_replay.specs.Spelling.{Plan}
 use Rattle.witness_replay.specs.Reading.{schedule_at}
 use Rattle.certificate.specs.declared.instance.Inst.{Inst}
 use Rattle.certificate.specs.declared.version.Version.{Version}
 use Rattle.certificate.specs.declared.version.Version.TheVariants.{One, Two, Three}
 use Rattle.certificate.specs.Versions.{is_third, says_device, written_version}
-use Rattle.certificate.specs.Claims.{Claim, most_instances, most_nodes, most_cells, cells_of, node_keys}
+use Rattle.certificate.specs.Claims.{Claim, most_instances, most_nodes, most_cells, cells_of, seed_keys}
 use Rattle.certificate.specs.declared.limit.Limit.TheVariants as limit
 use Rattle.cert_format.specs.declared.fault.CertFault.{CertFault}
 use Rattle.cert_format.specs.declared.fault.CertFault.TheVariants as fault
@@ -36,16 +36,16 @@ use Rattle.cert_format.specs.LineReading.{inst_in, node_in}
 -- ---- the answer of a call that reads
 
 -- What is read up to this place, seen by `view`, is what is due, or memory ran out.
-abbrev pub ReadsAs : {X Y : Type 0} → (X → Y) → Place → Result X CertFault → Result (Y × Place) CertFault → Type 0
+abbrev pub ReadsAs : {X Y : Type 0} → (X → Y) → Position → Result X CertFault → Result (Y × Position) CertFault → Type 0
 ReadsAs view place answer due = Answers (λ x. (view x, place)) fault.Memory answer due
 
-abbrev pub Reads : {X : Type 0} → Place → Result X CertFault → Result (X × Place) CertFault → Type 0
+abbrev pub Reads : {X : Type 0} → Position → Result X CertFault → Result (X × Position) CertFault → Type 0
 Reads place answer due = Answers (λ x. (x, place)) fault.Memory answer due
 
 -- ---- one line
 
 -- a line with the wrong form is malformed
-abbrev pub formed : {A : Type 0} → Result (A × Place) Place → Result (A × Place) CertFault
+abbrev pub formed : {A : Type 0} → Result (A × Position) Position → Result (A × Position) CertFault
 formed (Ok x) = Ok x
 formed (Err q) = Err (fault.Malformed q.at)
 
@@ -148,7 +148,7 @@ refused_inst xs x at = if is_inst_above (last_in xs) x then None else Some (faul
 
 abbrev pub refused_node : Seeds → NodeKey × NodeForm → ℕ → Option CertFault
 refused_node ns n at =
-    if is_node_above (last_in ns) n.0 then (if nat_le (cells_of (node_keys ns) + (1 + offset_of n.0.sp)) most_cells then None else Some (fault.Limit limit.Cells))
+    if is_node_above (last_in ns) n.0 then (if nat_le (cells_of (seed_keys ns) + (1 + offset_of n.0.sp)) most_cells then None else Some (fault.Limit limit.Cells))
     else Some (fault.Order at)
 
 abbrev pub unless : {X : Type 0} → Option CertFault → X → Result X CertFault
@@ -178,11 +178,11 @@ pub record NodesSoFar : Type 0 where
   pub nodes : Seeds
 
 -- the items so far with that of the next line, which is read by their number
-unfoldable pub longer_at : {A : Type 0} → (ℕ → List ℕ → Option A) → (List A → A → ℕ → Option CertFault) → List A → Place → Result (List A × Place) CertFault
+unfoldable pub longer_at : {A : Type 0} → (ℕ → List ℕ → Option A) → (List A → A → ℕ → Option CertFault) → List A → Position → Result (List A × Position) CertFault
 longer_at by refused xs p = then_at (formed (line_by (by (length xs)) p)) (λ x. then_at (with_item refused xs x.0 p.at) (λ ys. Ok (ys, x.1)))
 
 -- the items so far with those of this many lines
-unfoldable pub items_from : {A : Type 0} → (ℕ → List ℕ → Option A) → (List A → A → ℕ → Option CertFault) → List A → ℕ → Place → Result (List A × Place) CertFault
+unfoldable pub items_from : {A : Type 0} → (ℕ → List ℕ → Option A) → (List A → A → ℕ → Option CertFault) → List A → ℕ → Position → Result (List A × Position) CertFault
 items_from by refused xs zero p = Ok (xs, p)
 items_from by refused xs (suc n) p = then_at (longer_at by refused xs p) (λ x. items_from by refused x.0 n x.1)
 
@@ -197,28 +197,28 @@ abbrev pub AddsText : {S A : Type 0} → Gathering S A → S → S → List ℕ 
 AddsText g old new text answer = Answers (λ u. g.0 new) fault.Memory answer (with_text (g.1 old) g.2 (g.0 old) text.0 text.1)
 
 -- the same for the next line; a list and the place of the next line are a pair
-abbrev pub AddsLine : {S A : Type 0} → Gathering S A → S × Place → S × Place → Result (Unit {0}) CertFault → Type 0
+abbrev pub AddsLine : {S A : Type 0} → Gathering S A → S × Position → S × Position → Result (Unit {0}) CertFault → Type 0
 AddsLine g old new answer = Answers (λ u. (g.0 new.0, new.1)) fault.Memory answer (longer_at (g.1 old.0) g.2 (g.0 old.0) old.1)
 
 -- the same for this many lines
-abbrev pub AddsLines : {S A : Type 0} → ℕ → Gathering S A → S × Place → S × Place → Result (Unit {0}) CertFault → Type 0
+abbrev pub AddsLines : {S A : Type 0} → ℕ → Gathering S A → S × Position → S × Position → Result (Unit {0}) CertFault → Type 0
 AddsLines count g old new answer = Answers (λ u. (g.0 new.0, new.1)) fault.Memory answer (items_from (g.1 old.0) g.2 (g.0 old.0) count old.1)
 
 -- ---- parts of several lines
 
 -- a certificate for another device is refused
-abbrev pub for_this : Result (Option Device × Place) CertFault → Result (Unit {0} × Place) CertFault
+abbrev pub for_this : Result (Option Device × Position) CertFault → Result (Unit {0} × Position) CertFault
 for_this (Ok (None, q)) = Ok (tt, q)
 for_this (Ok (Some other, q)) = Err (fault.Other other)
 for_this (Err f) = Err f
 
 -- the line that says the device, if there is one
-unfoldable pub device_at : Bool → Device → Place → Result (Unit {0} × Place) CertFault
+unfoldable pub device_at : Bool → Device → Position → Result (Unit {0} × Position) CertFault
 device_at true device p = for_this (formed (line_by (device_by device) p))
 device_at false device p = Ok (tt, p)
 
 -- the version, the device and the bound
-unfoldable pub heading_at : Device → Place → Result ((Version × ℕ) × Place) CertFault
+unfoldable pub heading_at : Device → Position → Result ((Version × ℕ) × Position) CertFault
 heading_at device p =
     then_at (formed (line_by (version_by (says_device device)) p)) (λ v.
     then_at (device_at (says_device device) device v.1) (λ d.
@@ -231,7 +231,7 @@ least_entries Two = 0
 least_entries Three = 1
 
 -- the first entries: in the third version the line `pairs`
-unfoldable pub first_at : Version → Place → Result (List Entry × Place) CertFault
+unfoldable pub first_at : Version → Position → Result (List Entry × Position) CertFault
 first_at One p = Ok ([], p)
 first_at Two p = Ok ([], p)
 first_at Three p = then_at (formed (line_by (this_by (codes "pairs")) p)) (λ u. Ok (Pairs ∷ [], u.1))
@@ -240,7 +240,7 @@ first_at Three p = then_at (formed (line_by (this_by (codes "pairs")) p)) (λ u.
 abbrev pub is_paired : Device → Version → Bool
 is_paired device version = says_device device || is_third version
 
-unfoldable pub entries_at : Device → Version → Place → Result (List Entry × Place) CertFault
+unfoldable pub entries_at : Device → Version → Position → Result (List Entry × Position) CertFault
 entries_at device version p =
     then_at (formed (line_by (numbered_by (codes "assume") (least_entries version) most_entries) p)) (λ n.
     then_at (first_at version n.1) (λ f. items_from (λ at. entry_by device (is_paired device version)) refused_entry f.0 (n.0 - least_entries version) f.1))
@@ -250,35 +250,35 @@ abbrev pub version_with : Bool → Version → List Entry → Version
 version_with true version entries = written_version entries
 version_with false version entries = version
 
-unfoldable pub insts_at : Device → Place → Result (List Inst × Place) CertFault
+unfoldable pub insts_at : Device → Position → Result (List Inst × Position) CertFault
 insts_at device p = then_at (formed (line_by (numbered_by (codes "instances") 0 most_instances) p)) (λ n. items_from (λ at. inst_by device) refused_inst [] n.0 n.1)
 
-abbrev pub limited : Result (Option ℕ × Place) CertFault → Result (ℕ × Place) CertFault
+abbrev pub limited : Result (Option ℕ × Position) CertFault → Result (ℕ × Position) CertFault
 limited (Ok (Some n, q)) = Ok (n, q)
 limited (Ok (None, q)) = Err (fault.Limit limit.Nodes)
 limited (Err f) = Err f
 
-unfoldable pub nodes_at : Device → Version → List Inst → Place → Result (Seeds × Place) CertFault
+unfoldable pub nodes_at : Device → Version → List Inst → Position → Result (Seeds × Position) CertFault
 nodes_at device version insts p = then_at (limited (formed (line_by count_by p))) (λ n. items_from (node_by device version insts) refused_node [] n.0 n.1)
 
-abbrev pub plan_if : Device → Bool → Place → Result (Option Plan × Place) CertFault
+abbrev pub plan_if : Device → Bool → Position → Result (Option Plan × Position) CertFault
 plan_if device false p = Ok (None, p)
 plan_if device true p = then_at (formed (schedule_at device p)) (λ s. Ok (Some s.0, s.1))
 
-unfoldable pub witness_at : Device → Place → Result (Option Plan × Place) CertFault
+unfoldable pub witness_at : Device → Position → Result (Option Plan × Position) CertFault
 witness_at device p = then_at (formed (line_by ending_by p)) (λ e. plan_if device e.0 e.1)
 
-abbrev pub if_last : List TextLine → Place → Result (Unit {0} × Place) CertFault
+abbrev pub if_last : List TextLine → Position → Result (Unit {0} × Position) CertFault
 if_last [] p = Ok (tt, p)
 if_last (l ∷ ls) p = Err (fault.Malformed p.at)
 
 -- the last line, with nothing after it
-unfoldable pub end_at : Place → Result (Unit {0} × Place) CertFault
+unfoldable pub end_at : Position → Result (Unit {0} × Position) CertFault
 end_at p = then_at (formed (line_by (this_by (codes "end")) p)) (λ e. if_last e.1.rest e.1)
 
 -- ---- the whole
 
-unfoldable pub claim_at : Device → Place → Result (Claim × Place) CertFault
+unfoldable pub claim_at : Device → Position → Result (Claim × Position) CertFault
 claim_at device p =
     then_at (heading_at device p) (λ b.
     then_at (entries_at device b.0.0 b.1) (λ a.
@@ -287,7 +287,7 @@ claim_at device p =
     then_at (witness_at device n.1) (λ w.
     then_at (end_at w.1) (λ e. Ok (record { device = device; version = version_with (says_device device) b.0.0 a.0; bound = b.0.1; assumptions = a.0; instances = i.0; nodes = n.0; witness = w.0 }, e.1)))))))
 
-abbrev pub claim_alone : Result (Claim × Place) CertFault → Result Claim CertFault
+abbrev pub claim_alone : Result (Claim × Position) CertFault → Result Claim CertFault
 claim_alone (Ok x) = Ok x.0
 claim_alone (Err f) = Err f
 

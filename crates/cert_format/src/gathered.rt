@@ -3,9 +3,9 @@
 ghost use Rattle.std.specs.Prelude.{◌≡◌, ◌≤◌, ◌<◌, ◌+◌, ◌||◌, ℕ, List, [], Option, length};
 ghost use Rattle.avr_model.specs.State.{SIZE};
 ghost use Rattle.avr_model.specs.Assumptions.{has_pairs};
-ghost use Rattle.sb_base.specs.Answers.{Answers};
+ghost use Rattle.text_base.specs.Answers.{Answers};
 ghost use Rattle.avr_model.specs.declared.device.Device as device_type;
-ghost use Rattle.mask_states.specs.Keys.{offset_of};
+ghost use Rattle.node_keys.specs.Keys.{offset_of};
 ghost use Rattle.certificate.specs.Versions.{says_device};
 ghost use Rattle.cert_format.specs.declared.fault.CertFault.{CertFault};
 ghost use Rattle.cert_format.specs.declared.fault.CertFault.TheVariants as fault;
@@ -13,15 +13,15 @@ ghost use Rattle.cert_format.specs.Reading.{is_admitted, last_in, is_node_above,
 
 use crate::fault::CertFault;
 use crate::lines::{instance_of, node_of};
+use assumption_files::entry_of;
 use avr_model::assumption::Entry;
 use avr_model::device::Device;
 use certificate::{Inst, Limit, MOST_CELLS, Version, says_device};
 use edge_rules::NodeForm;
-use indirect_targets::entry_of;
-use mask_states::NodeKey;
-use sb_base::LineReader;
+use node_keys::NodeKey;
 use std::alloc::Global;
 use std::marker::Model;
+use text_base::LineReader;
 use vector_table::{AssumeFault, Assumptions};
 
 // A list that is read line by line.
@@ -187,14 +187,14 @@ pub(crate) struct NodeList<'a> {
 
 impl<'a> Model for NodeList<'a> {
     ghost use Rattle.std.specs.Prelude.{◌≡◌, ◌≤◌};
-    ghost use Rattle.certificate.specs.Claims.{most_cells, cells_of, node_keys};
+    ghost use Rattle.certificate.specs.Claims.{most_cells, cells_of, seed_keys};
     ghost use Rattle.cert_format.specs.Reading.{NodesSoFar};
 
     ghost Value = { NodesSoFar };
 
     ghost view = { λ l. record { version = l.version; instances = l.instances.now; nodes = l.nodes.items } };
 
-    ghost invariant = { λ l. (l.cells ≡ cells_of (node_keys l.nodes.items)) × (l.cells ≤ most_cells) };
+    ghost invariant = { λ l. (l.cells ≡ cells_of (seed_keys l.nodes.items)) × (l.cells ≤ most_cells) };
 }
 
 // Whether a node is above the last one.

@@ -4,10 +4,10 @@ ghost use Rattle.cert_format.specs.LineLaws.{InstLines, NodeLines};
 ghost use Rattle.cert_format.specs.Exact.{ReadCertificateIsSpelled, SpelledCertificateIsRead, CertificatesHaveOneText, PartsMakeClaims};
 ghost use Rattle.cert_format.specs.Refusals.{ReadCertificateIsDue};
 
+use assumption_files::laws::list_texts;
 use cert_words::laws::key_words;
-use indirect_targets::laws::list_texts;
 use line_reading::laws::word_laws;
-use mask_states::laws::keys_are_ordered;
+use node_keys::laws::keys_are_ordered;
 use witness_replay::laws::{reading_is_exact, reading_is_text};
 
 /// Reading and spelling of the lines of instances and nodes are inverse.

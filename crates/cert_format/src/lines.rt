@@ -3,8 +3,8 @@
 ghost use Rattle.std.specs.Prelude.{◌≡◌, ◌≤◌, IfSome, IfOk};
 ghost use Rattle.std.specs.Option.{option_map};
 ghost use Rattle.avr_model.specs.Devices.{depth_of};
-ghost use Rattle.sb_base.specs.Lines.{words_of};
-ghost use Rattle.mask_states.specs.Keys.{offset_of};
+ghost use Rattle.text_base.specs.Lines.{words_of};
+ghost use Rattle.node_keys.specs.Keys.{offset_of};
 ghost use Rattle.cert_format.specs.LineReading.{inst_in, whole_key_at, node_in};
 
 use avr_model::device::Device;
@@ -12,9 +12,9 @@ use cert_words::{inst_key_of, is_root, node_form_of, node_key_of};
 use certificate::{Inst, Version};
 use edge_rules::NodeForm;
 use line_reading::{dec_word, expect_word, is_over};
-use mask_states::NodeKey;
-use sb_base::Words;
+use node_keys::NodeKey;
 use std::alloc::{AllocError, Global};
+use text_base::Words;
 
 // The instance of a line of a certificate for the device.
 #[tactic(auto, unfolding(crate::specs::LineReading::inst_in))]

@@ -4,7 +4,7 @@ ghost use Rattle.std.specs.Prelude.{◌≡◌, ◌≤◌, ◌<◌, true, Some, N
 ghost use Rattle.avr_model.specs.Devices.{depth_of};
 ghost use Rattle.avr_model.specs.Assumptions.{has_pairs};
 ghost use Rattle.avr_model.specs.declared.assumption.Entry.TheVariants.{Pairs};
-ghost use Rattle.sb_base.specs.Answers.{Answers};
+ghost use Rattle.text_base.specs.Answers.{Answers};
 ghost use Rattle.line_reading.specs.Reading.{first_by, line_by};
 ghost use Rattle.cert_format.specs.declared.fault.CertFault.TheVariants as fault;
 ghost use Rattle.certificate.specs.Claims.{IsCertificate, most_nodes};
@@ -18,17 +18,17 @@ ghost use Rattle.cert_format.specs.Refusals.{IsCertificateDueUnlessMemory};
 use crate::fault::CertFault;
 use crate::gathered::{NodeList, read_each};
 use crate::laws::certificate_texts;
+use assumption_files::MOST_ENTRIES;
 use avr_model::device::Device;
 use avr_model::naming::{class_of, device_of_class};
 use certificate::{
     Certificate, Inst, Limit, MOST_INSTANCES, MOST_NODES, Version, says_device, written_version,
 };
 use edge_rules::NodeForm;
-use indirect_targets::MOST_ENTRIES;
 use line_reading::{dec_word, expect_word, is_over, peek_text, take_line, take_text};
-use mask_states::NodeKey;
-use sb_base::{DigitFault, LineReader, Words, read_dec};
+use node_keys::NodeKey;
 use std::alloc::Global;
+use text_base::{DigitFault, LineReader, Words, read_dec};
 use vector_table::{Assumptions, Entry};
 use witness_replay::{Schedule, ScheduleFault};
 

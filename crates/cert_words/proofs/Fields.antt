@@ -8,7 +8,7 @@ use Rattle.std.proofs.lemmas.Slice.Eq.{bytes_eq-Decides}
 use Rattle.std.proofs.lemmas.Option.{cond_some, same_Some as some_is, none-some}
 use Rattle.basics.specs.Lists.{same_head_and_tail}
 use Rattle.basics.specs.Numbers.{less_from_test, test_from_less}
-use Rattle.sb_base.specs.Digits.{hex_digits}
+use Rattle.text_base.specs.Digits.{hex_digits}
 use Rattle.line_reading.specs.Reading.{hex_at, dec_at, word_at, word_by}
 use Rattle.line_reading.specs.Words.{IsWord, WordLaws}
 use Rattle.line_reading.proofs.AllLaws.{bind_some, map_some}

@@ -9,25 +9,27 @@ use Rattle.std.proofs.lemmas.Option.{cond_some, same_Some, none-some}
 use Rattle.basics.specs.Lists.{chosen, same_head_and_tail}
 use Rattle.basics.specs.Numbers.{less_from_test, at_most_from_test}
 use Rattle.avr_model.specs.declared.device.Device.{Device}
-use Rattle.avr_model.specs.Devices.{limit_of}
+use Rattle.avr_model.specs.Devices.{limit_of, word_digits}
 use Rattle.avr_model.specs.Vectors.{last_vector, is_vector, vector_word}
 use Rattle.avr_model.proofs.AllLaws.{devices_are_alike}
 use Rattle.witness_replay.proofs.Runs.{bit_word}
-use Rattle.sb_base.specs.Digits.{hex_digits}
+use Rattle.text_base.specs.Digits.{hex_digits}
+use Rattle.assumption_files.specs.Spelling.{word_address_text}
+use Rattle.assumption_files.specs.Reading.{word_address_at}
 use Rattle.line_reading.specs.Letters.{letter_at}
-use Rattle.line_reading.specs.Reading.{hex_at, dec_at, word_by}
+use Rattle.line_reading.specs.Reading.{dec_at, word_by}
 use Rattle.line_reading.specs.Words.{IsWord, WordLaws}
 use Rattle.line_reading.proofs.AllLaws.{bind_some, map_some, letter_take}
 use Rattle.witness_replay.specs.Spelling.{bit}
-use Rattle.mask_states.specs.declared.keys.Kind.{Kind}
-use Rattle.mask_states.specs.declared.keys.Kind.TheVariants.{Root, Call, Vector}
-use Rattle.mask_states.specs.declared.keys.InstKey.{InstKey}
+use Rattle.node_keys.specs.declared.keys.Kind.{Kind}
+use Rattle.node_keys.specs.declared.keys.Kind.TheVariants.{Root, Call, Vector}
+use Rattle.node_keys.specs.declared.keys.InstKey.{InstKey}
 use Rattle.certificate.specs.Versions.{says_device}
 use Rattle.certificate.specs.Insts.{is_vector_word, fits_kind}
 use Rattle.cert_words.specs.KeySpelling.{kind_word, masks_digits, inst_key_words}
 use Rattle.cert_words.specs.KeyReading.{masks_at, flag_at, vector_in, kind_in, inst_key_at}
 use Rattle.cert_words.specs.KeyLaws.{IsInstKey, InstKeyWords}
-use Rattle.cert_words.proofs.Limits.{vector_room, word_digits, masks_fit}
+use Rattle.cert_words.proofs.Limits.{vector_room, word_fits, masks_fit}
 use Rattle.cert_words.proofs.Words.{joined_word}
 use Rattle.cert_words.proofs.Fields.{hex_take, dec_take, masks_take, masks_again, flag_take, flag_again, word_by_take}
 
@@ -82,16 +84,16 @@ either : (a b : Bool) → a || b ≡ true → (a ≡ true) ⊎ (b ≡ true)
 either true b e = inl refl
 either false b e = inr e
 
-vector_low : (device : Device) (v entry : ℕ) → v ≤ last_vector device → is_vector_word device v entry ≡ true → entry < 65536
+vector_low : (device : Device) (v entry : ℕ) → v ≤ last_vector device → is_vector_word device v entry ≡ true → entry < limit_of device
 vector_low device v entry most e = elim (chosen (says_device device) _ _ true e) [
-  | inl says ↦ omega (arith, eqb-true entry (vector_word device v) says.1, devices_are_alike.vectors device v most, devices_are_alike.most_words device)
+  | inl says ↦ omega (arith, eqb-true entry (vector_word device v) says.1, devices_are_alike.vectors device v most, devices_are_alike.in_limit device)
   | inr none ↦ elim (either (entry == 2 * (v - 1)) (entry == v - 1) none.1) [
     | inl h ↦ omega (arith, most, devices_are_alike.most_vectors device, eqb-true entry (2 * (v - 1)) h)
     | inr h ↦ omega (arith, most, devices_are_alike.most_vectors device, eqb-true entry (v - 1) h)
   ]
 ]
 
-vector_fits : (device : Device) (v entry masks : ℕ) (i : Bool) → fits_kind device (Vector v) entry masks i ≡ true → (v ≤ last_vector device) × (entry < 65536)
+vector_fits : (device : Device) (v entry masks : ℕ) (i : Bool) → fits_kind device (Vector v) entry masks i ≡ true → (v ≤ last_vector device) × (entry < limit_of device)
 vector_fits device v entry masks i e =
     let a = and_parts (is_vector device v && is_vector_word device v entry) (not i) e in
     let b = and_parts (is_vector device v) (is_vector_word device v entry) a.0 in
@@ -103,13 +105,16 @@ numbered device Root entry masks i e = tt
 numbered device Call entry masks i e = tt
 numbered device (Vector v) entry masks i e = (vector_fits device v entry masks i e).0
 
-small_entry : (device : Device) (kd : Kind) (entry masks : ℕ) (i : Bool) → fits_kind device kd entry masks i ≡ true → entry < 16 ^ 4
-small_entry device Root entry masks i e =
+entry_below : (device : Device) (kd : Kind) (entry masks : ℕ) (i : Bool) → fits_kind device kd entry masks i ≡ true → entry < limit_of device
+entry_below device Root entry masks i e =
     let a = and_parts ((entry == 0) && (masks == 0)) (not i) e in
     let none = eqb-true entry 0 (and_parts (entry == 0) (masks == 0) a.0).0 in
     omega (arith, none)
-small_entry device Call entry masks i e = word_digits device entry (less_from_test entry (limit_of device) e)
-small_entry device (Vector v) entry masks i e = omega (arith, (vector_fits device v entry masks i e).1)
+entry_below device Call entry masks i e = less_from_test entry (limit_of device) e
+entry_below device (Vector v) entry masks i e = (vector_fits device v entry masks i e).1
+
+small_entry : (device : Device) (kd : Kind) (entry masks : ℕ) (i : Bool) → fits_kind device kd entry masks i ≡ true → entry < 16 ^ word_digits device
+small_entry device kd entry masks i e = word_fits device entry (entry_below device kd entry masks i e)
 
 -- ---- the key
 
@@ -121,7 +126,7 @@ key_take : WordLaws → (device : Device) (ws : List (List ℕ)) (z : InstKey ×
 unfolding inst_key_at
 key_take k device ws z e =
     let kd = bind_some (word_by (kind_in device) ws) _ z e in
-    let en = bind_some (hex_at 4 kd.0.1) _ z kd.2 in
+    let en = bind_some (word_address_at device kd.0.1) _ z kd.2 in
     let m = bind_some (masks_at device en.0.1) _ z en.2 in
     let i = bind_some (flag_at m.0.1) _ z m.2 in
     let key : InstKey = record { kind = kd.0.0; entry = en.0.0; masks = m.0.0; i = i.0.0 } in
@@ -130,7 +135,7 @@ key_take k device ws z e =
     let masks = masks_take k device en.0.1 m.0 m.1 in
     let P : InstKey × List (List ℕ) → Type 0 = λ y. IsKeyRead device ws y in
     subst P last.1 (record {
-      words = w.1 ∙ ap₂ cons (kind_take k device w.0 kd.0.0 w.2) ((hex_take k 4 kd.0.1 en.0 en.1).0 ∙ ap (cons (hex_digits en.0.0 4)) (masks.0 ∙ ap (cons (hex_digits m.0.0 (masks_digits device))) (flag_take k m.0.1 i.0 i.1)));
+      words = w.1 ∙ ap₂ cons (kind_take k device w.0 kd.0.0 w.2) ((hex_take k (word_digits device) kd.0.1 en.0 en.1).0 ∙ ap (cons (word_address_text device en.0.0)) (masks.0 ∙ ap (cons (hex_digits m.0.0 (masks_digits device))) (flag_take k m.0.1 i.0 i.1)));
       fits = record { kind = last.0; masks = masks.1 };
     })
 
@@ -141,7 +146,7 @@ key_again : WordLaws → (device : Device) (key : InstKey) (rest : List (List �
 unfolding inst_key_at
 key_again k device key rest h =
     let kd = kind_again k device key.kind (numbered device key.kind key.entry key.masks key.i h.kind) in
-    let en = k.hex_taken 4 key.entry (hex_digits key.masks (masks_digits device) ∷ bit key.i ∷ rest) (small_entry device key.kind key.entry key.masks key.i h.kind) in
+    let en = k.hex_taken (word_digits device) key.entry (hex_digits key.masks (masks_digits device) ∷ bit key.i ∷ rest) (small_entry device key.kind key.entry key.masks key.i h.kind) in
     let m = masks_again k device key.masks (bit key.i ∷ rest) h.masks in
     let i = flag_again k key.i rest in
     rw (kd, en, m, i, h.kind) refl
@@ -150,7 +155,7 @@ key_plain : WordLaws → (device : Device) (key : InstKey) → IsInstKey device 
 key_plain k device key h = (
   kind_is_word k device key.kind (numbered device key.kind key.entry key.masks key.i h.kind),
   (
-    k.hex_word key.entry 4 (small_entry device key.kind key.entry key.masks key.i h.kind),
+    k.hex_word key.entry (word_digits device) (small_entry device key.kind key.entry key.masks key.i h.kind),
     (k.hex_word key.masks (masks_digits device) (masks_fit device key.masks h.masks), (bit_word key.i, tt)),
   ),
 )

@@ -2,7 +2,7 @@
 use Rattle.std.proofs.Common.{ℕ, zero, suc, ◌*◌, ◌^◌, ◌<◌, ◌≤◌, ◌≡◌, refl, subst, arith}
 use Rattle.std.proofs.Math.Nat.{pow-le-pow_right, pow-suc}
 use Rattle.avr_model.specs.declared.device.Device.{Device}
-use Rattle.avr_model.specs.Devices.{limit_of, depth_of}
+use Rattle.avr_model.specs.Devices.{limit_of, word_digits, depth_of}
 use Rattle.avr_model.specs.Vectors.{last_vector, enable_count}
 use Rattle.avr_model.proofs.AllLaws.{devices_are_alike}
 use Rattle.cert_words.specs.KeySpelling.{masks_digits}
@@ -13,9 +13,9 @@ depth_room device = omega (arith, devices_are_alike.most_depth device)
 pub vector_room : (device : Device) → last_vector device < 2 ^ 64
 vector_room device = omega (arith, devices_are_alike.most_vectors device)
 
--- four digits are enough for a word address
-pub word_digits : (device : Device) (a : ℕ) → a < limit_of device → a < 16 ^ 4
-word_digits device a h = omega (arith, h, devices_are_alike.most_limit device)
+-- the digits of a word address are enough for it
+pub word_fits : (device : Device) (a : ℕ) → a < limit_of device → a < 16 ^ word_digits device
+word_fits device a h = omega (arith, h, devices_are_alike.in_digits device)
 
 hex_power : (d : ℕ) → 2 ^ (4 * d) ≡ 16 ^ d
 hex_power zero = refl

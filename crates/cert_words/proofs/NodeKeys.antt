@@ -8,21 +8,23 @@ use Rattle.basics.specs.Lists.{chosen, same_head_and_tail}
 use Rattle.witness_replay.proofs.Runs.{bit_word}
 use Rattle.basics.specs.Numbers.{less_from_test, test_from_less}
 use Rattle.avr_model.specs.declared.device.Device.{Device}
-use Rattle.avr_model.specs.Devices.{limit_of, depth_of}
-use Rattle.sb_base.specs.Digits.{hex_digits}
+use Rattle.avr_model.specs.Devices.{limit_of, word_digits, depth_of}
+use Rattle.text_base.specs.Digits.{hex_digits}
+use Rattle.assumption_files.specs.Spelling.{word_address_text}
+use Rattle.assumption_files.specs.Reading.{word_address_at}
 use Rattle.line_reading.specs.Reading.{hex_at, word_by}
 use Rattle.line_reading.specs.Words.{IsWord, WordLaws}
 use Rattle.line_reading.proofs.AllLaws.{bind_some, map_some, length_hex}
 use Rattle.witness_replay.specs.Spelling.{bit}
-use Rattle.mask_states.specs.declared.keys.Kind.{Kind}
-use Rattle.mask_states.specs.declared.keys.Kind.TheVariants.{Root, Call, Vector}
-use Rattle.mask_states.specs.declared.keys.InstKey.{InstKey}
-use Rattle.mask_states.specs.declared.keys.NodeKey.{NodeKey}
-use Rattle.mask_states.specs.declared.keys.High.{High}
-use Rattle.mask_states.specs.declared.keys.High.TheVariants as high
-use Rattle.mask_states.specs.declared.keys.SpForm.{SpForm}
-use Rattle.mask_states.specs.declared.keys.SpForm.TheVariants.{Closed, Open}
-use Rattle.mask_states.specs.Keys.{offset_of, PickFits}
+use Rattle.node_keys.specs.declared.keys.Kind.{Kind}
+use Rattle.node_keys.specs.declared.keys.Kind.TheVariants.{Root, Call, Vector}
+use Rattle.node_keys.specs.declared.keys.InstKey.{InstKey}
+use Rattle.node_keys.specs.declared.keys.NodeKey.{NodeKey}
+use Rattle.node_keys.specs.declared.keys.High.{High}
+use Rattle.node_keys.specs.declared.keys.High.TheVariants as high
+use Rattle.node_keys.specs.declared.keys.SpForm.{SpForm}
+use Rattle.node_keys.specs.declared.keys.SpForm.TheVariants.{Closed, Open}
+use Rattle.node_keys.specs.Keys.{offset_of, PickFits}
 use Rattle.local_rules.specs.Cover.{HighFitsKind, FormFitsKind, IsKey}
 use Rattle.certificate.specs.declared.version.Version.{Version}
 use Rattle.certificate.specs.declared.version.Version.TheVariants.{One, Two, Three}
@@ -34,7 +36,7 @@ use Rattle.cert_words.specs.KeyReading.{masks_at, flag_at, is_root, pick_in, pic
 use Rattle.cert_words.specs.Fits.{IsHigh, IsSpForm}
 use Rattle.cert_words.specs.Laws.{ValueWords}
 use Rattle.cert_words.specs.KeyLaws.{IsPlaceSpelled, PlaceWords}
-use Rattle.cert_words.proofs.Limits.{word_digits, masks_fit}
+use Rattle.cert_words.proofs.Limits.{word_fits, masks_fit}
 use Rattle.cert_words.proofs.Fields.{hex_take, masks_take, masks_again, flag_take, flag_again, word_by_take}
 use Rattle.cert_words.proofs.InstKeys.{cons}
 
@@ -129,7 +131,7 @@ pick_plain k Three pick h = (pick_is_word k pick h, tt)
 key_take : WordLaws → ValueWords → (device : Device) (version : Version) (inst : InstKey) (ws : List (List ℕ)) (z : NodeKey × List (List ℕ)) → node_key_at device version inst ws ≡ Some z → IsPlaceSpelled device version inst ws z.1 z.0
 unfolding node_key_at
 key_take k v device version inst ws z e =
-    let pc = bind_some (hex_at 4 ws) _ z e in
+    let pc = bind_some (word_address_at device ws) _ z e in
     let m = bind_some (masks_at device pc.0.1) _ z pc.2 in
     let i = bind_some (flag_at m.0.1) _ z m.2 in
     let d = bind_some (flag_at i.0.1) _ z i.2 in
@@ -144,7 +146,7 @@ key_take k v device version inst ws z e =
     let below : pc.0.0 < limit_of device = less_from_test pc.0.0 (limit_of device) last.0 in
     let P : NodeKey × List (List ℕ) → Type 0 = λ y. IsPlaceSpelled device version inst ws y.1 y.0 in
     subst P last.1 (record {
-      words = (hex_take k 4 ws pc.0 pc.1).0 ∙ ap (cons (hex_digits pc.0.0 4)) (masks.0 ∙ ap (cons (hex_digits m.0.0 (masks_digits device))) (flag_take k m.0.1 i.0 i.1
+      words = (hex_take k (word_digits device) ws pc.0 pc.1).0 ∙ ap (cons (word_address_text device pc.0.0)) (masks.0 ∙ ap (cons (hex_digits m.0.0 (masks_digits device))) (flag_take k m.0.1 i.0 i.1
           ∙ ap (cons (bit i.0.0)) (flag_take k i.0.1 d.0 d.1 ∙ ap (cons (bit d.0.0)) (w.1 ∙ ap₂ cons form.0 pick.words))));
       key_fits = record { word = below; small = form_offset device (is_root inst.kind) f.0.0 form.1; masks = masks.1; fits = form_fits device inst.kind f.0.0 form.1; pick = pick.fits };
       of_version = pick.of_version;
@@ -158,7 +160,7 @@ key_again : WordLaws → ValueWords → (device : Device) (version : Version) (k
 unfolding node_key_at
 key_again k v device version key rest h g =
     let behind : List (List ℕ) = pick_words version key.pick ++ rest in
-    let pc = k.hex_taken 4 key.pc (hex_digits key.masks (masks_digits device) ∷ bit key.i ∷ bit key.delay ∷ form_word key.sp ∷ behind) (word_digits device key.pc h.word) in
+    let pc = k.hex_taken (word_digits device) key.pc (hex_digits key.masks (masks_digits device) ∷ bit key.i ∷ bit key.delay ∷ form_word key.sp ∷ behind) (word_fits device key.pc h.word) in
     let m = masks_again k device key.masks (bit key.i ∷ bit key.delay ∷ form_word key.sp ∷ behind) h.masks in
     let i = flag_again k key.i (bit key.delay ∷ form_word key.sp ∷ behind) in
     let d = flag_again k key.delay (form_word key.sp ∷ behind) in
@@ -169,7 +171,7 @@ key_again k v device version key rest h g =
 
 key_plain : WordLaws → ValueWords → (device : Device) (version : Version) (key : NodeKey) → IsKey device key → AllByRecursion IsWord (place_words device version key)
 key_plain k v device version key h = (
-  k.hex_word key.pc 4 (word_digits device key.pc h.word),
+  k.hex_word key.pc (word_digits device) (word_fits device key.pc h.word),
   (
     k.hex_word key.masks (masks_digits device) (masks_fit device key.masks h.masks),
     (

@@ -6,7 +6,7 @@ use Rattle.std.specs.Int.{bit_at}
 use Rattle.std.specs.Int.RustNames.{bit_and}
 use Rattle.avr_model.specs.declared.device.Device.{Device}
 use Rattle.avr_model.specs.Devices.{depth_of}
-use Rattle.sb_base.specs.Digits.{hex_digits}
+use Rattle.text_base.specs.Digits.{hex_digits}
 use Rattle.line_reading.specs.Letters.{letter_at, digits_at, is_end}
 use Rattle.line_reading.specs.Reading.{dec_at}
 use Rattle.line_reading.specs.Words.{WordLaws}

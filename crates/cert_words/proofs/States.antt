@@ -8,7 +8,7 @@ use Rattle.std.proofs.lemmas.List.Elements.{All-from_recursion, recursion_from_A
 use Rattle.std.proofs.lemmas.Slice.Eq.{bytes_eq-Decides}
 use Rattle.std.proofs.lemmas.Option.{cond_some, same_Some as some_is, none-some}
 use Rattle.basics.specs.Lists.{chosen}
-use Rattle.sb_base.specs.Digits.{hex_digits}
+use Rattle.text_base.specs.Digits.{hex_digits}
 use Rattle.line_reading.specs.Reading.{◌>>=◌, dec_at, word_by}
 use Rattle.line_reading.specs.Words.{IsWord, WordLaws}
 use Rattle.line_reading.proofs.AllLaws.{bind_some, length_hex, map_some}
@@ -27,11 +27,11 @@ use Rattle.abs_state.specs.declared.state.AbsState.{AbsState}
 use Rattle.abs_state.specs.Values.{unknown}
 use Rattle.abs_state.specs.Hulls.{AreInHulls}
 use Rattle.abs_state.specs.Formed.{SlotNamesRegister, SlotByteFits, SlotIsUntagged, IsFormed, IsUntagged}
-use Rattle.mask_states.specs.declared.keys.Kind.{Kind}
-use Rattle.mask_states.specs.declared.keys.Kind.TheVariants.{Root, Call, Vector}
-use Rattle.mask_states.specs.declared.keys.NodeKey.{NodeKey}
+use Rattle.node_keys.specs.declared.keys.Kind.{Kind}
+use Rattle.node_keys.specs.declared.keys.Kind.TheVariants.{Root, Call, Vector}
+use Rattle.node_keys.specs.declared.keys.NodeKey.{NodeKey}
 use Rattle.avr_model.specs.declared.device.Device.{Device}
-use Rattle.mask_states.specs.Keys.{offset_of}
+use Rattle.node_keys.specs.Keys.{offset_of}
 use Rattle.local_rules.specs.Cover.{SlotFits, TagsFit, IsNodeIn, IsKey}
 use Rattle.edge_rules.specs.declared.seeded.NodeForm.{NodeForm}
 use Rattle.edge_rules.specs.declared.seeded.NodeForm.TheVariants.{State, From}

@@ -13,7 +13,7 @@ use Rattle.basics.specs.Lists.{chosen}
 use Rattle.basics.specs.Numbers.{at_most_from_test, test_from_at_most}
 use Rattle.avr_model.specs.declared.device.Device.{Device}
 use Rattle.avr_model.specs.Devices.{depth_of, has_sph}
-use Rattle.sb_base.specs.Digits.{hex_digits}
+use Rattle.text_base.specs.Digits.{hex_digits}
 use Rattle.line_reading.specs.Letters.{letter_at, digits_at, is_end}
 use Rattle.line_reading.specs.Words.{WordLaws, IsWord}
 use Rattle.line_reading.proofs.AllLaws.{bind_some, lacks_append, map_some, end_is, letter_take, length_hex, digits_take, digits_again}
@@ -30,10 +30,10 @@ use Rattle.sp_domain.specs.declared.slots.Slot.{Slot}
 use Rattle.sp_domain.specs.declared.slots.Slot.TheVariants.{Free, Guarded}
 use Rattle.abs_state.specs.declared.values.AbsByte.{AbsByte}
 use Rattle.abs_state.specs.Formed.{NamesRegister, ByteFits}
-use Rattle.mask_states.specs.declared.keys.High.{High}
-use Rattle.mask_states.specs.declared.keys.High.TheVariants as high
-use Rattle.mask_states.specs.declared.keys.SpForm.{SpForm}
-use Rattle.mask_states.specs.declared.keys.SpForm.TheVariants.{Closed, Open}
+use Rattle.node_keys.specs.declared.keys.High.{High}
+use Rattle.node_keys.specs.declared.keys.High.TheVariants as high
+use Rattle.node_keys.specs.declared.keys.SpForm.{SpForm}
+use Rattle.node_keys.specs.declared.keys.SpForm.TheVariants.{Closed, Open}
 use Rattle.local_rules.specs.Cover.{TagFits}
 use Rattle.certificate.specs.declared.version.Version.{Version}
 use Rattle.certificate.specs.declared.version.Version.TheVariants.{One, Two, Three}

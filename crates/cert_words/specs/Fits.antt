@@ -13,10 +13,10 @@ use Rattle.sp_domain.specs.declared.slots.Slot.TheVariants.{Free, Guarded}
 use Rattle.sp_domain.specs.Tags.{HasByteNumbers}
 use Rattle.abs_state.specs.declared.values.AbsByte.{AbsByte}
 use Rattle.abs_state.specs.Formed.{NamesRegister, CarryNamesRegister, ByteFits, CarryIsUntagged}
-use Rattle.mask_states.specs.declared.keys.High.{High}
-use Rattle.mask_states.specs.declared.keys.High.TheVariants as high
-use Rattle.mask_states.specs.declared.keys.SpForm.{SpForm}
-use Rattle.mask_states.specs.declared.keys.SpForm.TheVariants.{Closed, Open}
+use Rattle.node_keys.specs.declared.keys.High.{High}
+use Rattle.node_keys.specs.declared.keys.High.TheVariants as high
+use Rattle.node_keys.specs.declared.keys.SpForm.{SpForm}
+use Rattle.node_keys.specs.declared.keys.SpForm.TheVariants.{Closed, Open}
 use Rattle.local_rules.specs.Cover.{TagFits}
 use Rattle.certificate.specs.declared.version.Version.{Version}
 use Rattle.certificate.specs.Versions.{ValueIsOf, CarryIsOf}

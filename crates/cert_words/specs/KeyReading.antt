@@ -7,10 +7,11 @@ use Rattle.avr_model.specs.Devices.{limit_of}
 use Rattle.avr_model.specs.Vectors.{last_vector, enable_count}
 use Rattle.line_reading.specs.Reading.{◌>>=◌, hex_at, dec_at, word_by}
 use Rattle.line_reading.specs.Letters.{letter_at}
-use Rattle.mask_states.specs.declared.keys.Kind.{Kind}
-use Rattle.mask_states.specs.declared.keys.Kind.TheVariants.{Root, Call, Vector}
-use Rattle.mask_states.specs.declared.keys.InstKey.{InstKey}
-use Rattle.mask_states.specs.declared.keys.NodeKey.{NodeKey}
+use Rattle.assumption_files.specs.Reading.{word_address_at}
+use Rattle.node_keys.specs.declared.keys.Kind.{Kind}
+use Rattle.node_keys.specs.declared.keys.Kind.TheVariants.{Root, Call, Vector}
+use Rattle.node_keys.specs.declared.keys.InstKey.{InstKey}
+use Rattle.node_keys.specs.declared.keys.NodeKey.{NodeKey}
 use Rattle.pair_domain.specs.declared.facts.PairFacts.{PairFacts}
 use Rattle.abs_state.specs.declared.values.AbsByte.{AbsByte}
 use Rattle.abs_state.specs.declared.values.AbsFlags.{AbsFlags}
@@ -52,7 +53,7 @@ kind_in device w = if bytes_eq w (codes "root") then Some Root else (if bytes_eq
 unfoldable pub inst_key_at : Device → List (List ℕ) → Option (InstKey × List (List ℕ))
 inst_key_at device ws = do
   k ← word_by (kind_in device) ws
-  e ← hex_at 4 k.1
+  e ← word_address_at device k.1
   m ← masks_at device e.1
   i ← flag_at m.1
   if fits_kind device k.0 e.0 m.0 i.0 then Some (record { kind = k.0; entry = e.0; masks = m.0; i = i.0 }, i.1) else None
@@ -76,7 +77,7 @@ pick_at Three ws = word_by pick_in ws
 
 unfoldable pub node_key_at : Device → Version → InstKey → List (List ℕ) → Option (NodeKey × List (List ℕ))
 node_key_at device version inst ws = do
-  pc ← hex_at 4 ws
+  pc ← word_address_at device ws
   m ← masks_at device pc.1
   i ← flag_at m.1
   d ← flag_at i.1

@@ -1,13 +1,14 @@
 -- The words of keys, states and forms of nodes. Source: own.
 use Rattle.std.specs.Prelude.{ℕ, ◌+◌, ◌/◌, List, [], ◌∷◌, ◌++◌, map, codes, Option, Some, None}
 use Rattle.std.specs.Fmt.{decimal}
-use Rattle.sb_base.specs.Digits.{hex_digits}
+use Rattle.text_base.specs.Digits.{hex_digits}
 use Rattle.avr_model.specs.declared.device.Device.{Device}
 use Rattle.avr_model.specs.Vectors.{enable_count}
-use Rattle.mask_states.specs.declared.keys.Kind.{Kind}
-use Rattle.mask_states.specs.declared.keys.Kind.TheVariants.{Root, Call, Vector}
-use Rattle.mask_states.specs.declared.keys.InstKey.{InstKey}
-use Rattle.mask_states.specs.declared.keys.NodeKey.{NodeKey}
+use Rattle.assumption_files.specs.Spelling.{word_address_text}
+use Rattle.node_keys.specs.declared.keys.Kind.{Kind}
+use Rattle.node_keys.specs.declared.keys.Kind.TheVariants.{Root, Call, Vector}
+use Rattle.node_keys.specs.declared.keys.InstKey.{InstKey}
+use Rattle.node_keys.specs.declared.keys.NodeKey.{NodeKey}
 use Rattle.pair_domain.specs.declared.facts.PairFacts.{PairFacts}
 use Rattle.abs_state.specs.declared.values.AbsByte.{AbsByte}
 use Rattle.abs_state.specs.declared.state.AbsState.{AbsState}
@@ -33,7 +34,7 @@ masks_digits device = (enable_count device + 3) / 4
 
 -- an instance: kind, entry, enable bits and I
 abbrev pub inst_key_words : Device → InstKey → List (List ℕ)
-inst_key_words device key = kind_word key.kind ∷ hex_digits key.entry 4 ∷ hex_digits key.masks (masks_digits device) ∷ bit key.i ∷ []
+inst_key_words device key = kind_word key.kind ∷ word_address_text device key.entry ∷ hex_digits key.masks (masks_digits device) ∷ bit key.i ∷ []
 
 -- no pick, or the picked byte
 abbrev pub pick_word : Option ℕ → List ℕ
@@ -49,7 +50,7 @@ pick_words Three pick = pick_word pick ∷ []
 -- a node within its instance: word, enable bits, I, delay, form of the stack pointer and pick
 abbrev pub place_words : Device → Version → NodeKey → List (List ℕ)
 place_words device version key =
-    hex_digits key.pc 4 ∷ hex_digits key.masks (masks_digits device) ∷ bit key.i ∷ bit key.delay ∷ form_word key.sp ∷ pick_words version key.pick
+    word_address_text device key.pc ∷ hex_digits key.masks (masks_digits device) ∷ bit key.i ∷ bit key.delay ∷ form_word key.sp ∷ pick_words version key.pick
 
 -- a node with its instance; it ends with the pick in every version
 abbrev pub node_key_words : Device → NodeKey → List (List ℕ)

@@ -5,7 +5,7 @@ use Rattle.bit_domain.specs.declared.bytes.TriByte.{TriByte}
 use Rattle.sp_domain.specs.declared.tags.CarryTag.{CarryTag}
 use Rattle.sp_domain.specs.declared.slots.Slot.{Slot}
 use Rattle.abs_state.specs.declared.values.AbsByte.{AbsByte}
-use Rattle.mask_states.specs.declared.keys.SpForm.{SpForm}
+use Rattle.node_keys.specs.declared.keys.SpForm.{SpForm}
 use Rattle.certificate.specs.declared.version.Version.{Version}
 use Rattle.line_reading.specs.Words.{IsWord}
 use Rattle.cert_words.specs.Spelling.{value_word, flags_word, carry_word, slot_word, form_word}

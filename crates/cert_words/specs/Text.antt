@@ -5,13 +5,13 @@ use Rattle.std.specs.Fmt.{decimal}
 use Rattle.avr_model.specs.declared.assumption.Entry.{Entry}
 use Rattle.avr_model.specs.declared.device.Device.{Device}
 use Rattle.avr_model.specs.Names.{class_of}
-use Rattle.sb_base.specs.Lines.{line}
-use Rattle.mask_states.specs.declared.keys.InstKey.{InstKey}
-use Rattle.mask_states.specs.declared.keys.NodeKey.{NodeKey}
-use Rattle.mask_states.specs.Order.{same_inst}
+use Rattle.text_base.specs.Lines.{line}
+use Rattle.node_keys.specs.declared.keys.InstKey.{InstKey}
+use Rattle.node_keys.specs.declared.keys.NodeKey.{NodeKey}
+use Rattle.node_keys.specs.Order.{same_inst}
 use Rattle.edge_rules.specs.declared.seeded.NodeForm.{NodeForm}
 use Rattle.edge_rules.specs.Expansion.{Seeds}
-use Rattle.indirect_targets.specs.Spelling.{entry_words}
+use Rattle.assumption_files.specs.Spelling.{entry_words}
 use Rattle.witness_replay.specs.Spelling.{Plan, schedule_lines}
 use Rattle.certificate.specs.declared.instance.Inst.{Inst}
 use Rattle.certificate.specs.Claims.{Claim}
@@ -62,8 +62,8 @@ device_lines false device = []
 abbrev pub heading : Device → Version → ℕ → List (List (List ℕ))
 heading device version bound = version_line (says_device device) version ∷ (device_lines (says_device device) device ++ numbered (codes "bound") bound ∷ [])
 
-abbrev pub entry_lines : List Entry → List (List (List ℕ))
-entry_lines entries = numbered (codes "assume") (length entries) ∷ map entry_words entries
+abbrev pub entry_lines : Device → List Entry → List (List (List ℕ))
+entry_lines device entries = numbered (codes "assume") (length entries) ∷ map (entry_words device) entries
 
 abbrev pub inst_lines : Device → List Inst → List (List (List ℕ))
 inst_lines device insts = numbered (codes "instances") (length insts) ∷ map (inst_words device) insts
@@ -90,7 +90,7 @@ end_line = codes "end" ∷ []
 -- the lines before the schedule
 abbrev pub front_lines : Claim → List (List (List ℕ))
 front_lines c =
-    heading c.device c.version c.bound ++ (entry_lines c.assumptions ++ (inst_lines c.device c.instances ++ node_lines c.device c.version c.instances c.nodes))
+    heading c.device c.version c.bound ++ (entry_lines c.device c.assumptions ++ (inst_lines c.device c.instances ++ node_lines c.device c.version c.instances c.nodes))
 
 -- the lines of a certificate, each by its words
 abbrev pub certificate_lines : Claim → List (List (List ℕ))

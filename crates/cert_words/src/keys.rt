@@ -4,24 +4,25 @@ ghost use Rattle.std.specs.Prelude.{◌≡◌, ◌≤◌, IfSome};
 ghost use Rattle.std.specs.Option.{option_map};
 ghost use Rattle.avr_model.specs.Devices.{depth_of};
 ghost use Rattle.avr_model.specs.Vectors.{is_vector, last_vector};
-ghost use Rattle.mask_states.specs.Keys.{offset_of};
+ghost use Rattle.node_keys.specs.Keys.{offset_of};
 ghost use Rattle.certificate.specs.Insts.{is_vector_word, fits_kind};
 ghost use Rattle.cert_words.specs.KeySpelling.{masks_digits};
 ghost use Rattle.cert_words.specs.KeyReading.{masks_at, flag_at, kind_in, inst_key_at, is_root, pick_at, node_key_at};
 
 use crate::values::sp_form_of;
+use assumption_files::word_address_of;
 use avr_model::device::Device;
 use certificate::{Version, says_device};
 use line_reading::{Letters, dec_word, hex_word};
-use mask_states::{InstKey, Kind, NodeKey};
-use sb_base::{Words, read_dec, read_hex};
+use node_keys::{InstKey, Kind, NodeKey};
+use text_base::{Words, read_dec, read_hex};
 use vector_table::Masks;
 
-/// The number of hexadecimal digits of the device's enable bits, 1 to 16.
+/// The number of hexadecimal digits of the device's enable bits, 1 to 19.
 pub fn masks_digits(device: Device) -> usize
     ensures value { result ≡ masks_digits device }
     ensures least { 1 ≤ result }
-    ensures most { result ≤ 16 }
+    ensures most { result ≤ 19 }
 {
     (usize::from(device.last_vector()) + 2) / 4
 }
@@ -69,7 +70,7 @@ fn kind_of(device: Device, word: &[u8]) -> Option<Kind>
 }
 
 // Whether the vector begins at this word; where the text doesn't say the device, with vectors of two words or of one.
-fn is_vector_word(device: Device, vector: u8, entry: u16) -> bool
+fn is_vector_word(device: Device, vector: u8, entry: u32) -> bool
     requires least { 2 ≤ vector }
     requires most { vector ≤ last_vector device }
     ensures { result ≡ is_vector_word device vector entry }
@@ -77,18 +78,18 @@ fn is_vector_word(device: Device, vector: u8, entry: u16) -> bool
     if says_device(device) {
         entry == device.vector_word(vector)
     } else {
-        let before = u16::from(vector) - 1;
+        let before = u32::from(vector) - 1;
         entry == 2 * before || entry == before
     }
 }
 
 // Whether an instance of this kind may have this entry, these enable bits and this I.
-fn fits_kind(device: Device, kind: Kind, entry: u16, masks: Masks, i: bool) -> bool
+fn fits_kind(device: Device, kind: Kind, entry: u32, masks: Masks, i: bool) -> bool
     ensures { result ≡ fits_kind device kind entry masks i }
 {
     match kind {
         Kind::Root => entry == 0 && masks.bits() == 0 && !i,
-        Kind::Call => u32::from(entry) < device.limit(),
+        Kind::Call => entry < device.limit(),
         Kind::Vector(v) => v >= 2
             && v <= device.last_vector()
             && is_vector_word(device, v, entry)
@@ -104,13 +105,12 @@ pub fn inst_key_of(device: Device, words: &mut Words<'_>) -> Option<InstKey>
 {
     let kind = kind_of(device, words.next()?)?;
     let (Some(entry), Some(masks), Some(i)) = (
-        hex_word(words, 4),
+        word_address_of(device, words),
         masks_of(device, words),
         flag_of(words),
     ) else {
         return None;
     };
-    let entry = entry as u16;
     if fits_kind(device, kind, entry, masks, i) {
         Some(InstKey {
             kind,
@@ -167,7 +167,7 @@ pub fn node_key_of(
     ensures small { IfSome result (λ k. offset_of k.sp ≤ depth_of device) }
 {
     let (Some(pc), Some(masks), Some(i), Some(delay), Some(form)) = (
-        hex_word(words, 4),
+        word_address_of(device, words),
         masks_of(device, words),
         flag_of(words),
         flag_of(words),
@@ -179,8 +179,7 @@ pub fn node_key_of(
     let (Some(sp), Some(pick)) = (sp_form_of(device, form, root), pick_of(words, version)) else {
         return None;
     };
-    let pc = pc as u16;
-    if u32::from(pc) < device.limit() {
+    if pc < device.limit() {
         Some(NodeKey {
             inst: *inst,
             pc,

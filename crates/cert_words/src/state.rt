@@ -13,9 +13,9 @@ use edge_rules::{HeldState, NodeForm};
 use line_reading::dec_word;
 use pair_domain::Facts;
 use pair_words::facts_of;
-use sb_base::Words;
 use sp_domain::Slots;
 use std::alloc::{AllocError, Global};
+use text_base::Words;
 
 // The value of the next word.
 fn next_value(words: &mut Words<'_>, version: Version, root: bool) -> Option<AbsByte>

@@ -6,7 +6,7 @@ ghost use Rattle.avr_model.specs.Devices.{depth_of};
 ghost use Rattle.abs_state.specs.Values.{with_bits};
 ghost use Rattle.sp_domain.specs.declared.tags.Tag.{Tag};
 ghost use Rattle.sp_domain.specs.declared.tags.Tag.TheVariants as tag;
-ghost use Rattle.mask_states.specs.Keys.{offset_of};
+ghost use Rattle.node_keys.specs.Keys.{offset_of};
 ghost use Rattle.line_reading.specs.Reading.{word_by};
 ghost use Rattle.cert_words.specs.Reading.{tri_byte, bits_at, tag_at, range_at, value_behind, value_in, slot_in, flags_in, bytes_in, tagged_by, carry_in, offset_in, marked_in, open_in, form_in};
 
@@ -15,10 +15,10 @@ use avr_model::device::Device;
 use bit_domain::{Range, TriByte};
 use certificate::Version;
 use line_reading::Letters;
-use mask_states::{High, SpForm};
+use node_keys::{High, SpForm};
 use pair_words::register_of;
-use sb_base::{Words, read_dec};
 use sp_domain::{CarryTag, Slot, Tag};
+use text_base::{Words, read_dec};
 
 // Known bits and their values.
 #[tactic(auto, unfolding(crate::specs::Reading::bits_at))]

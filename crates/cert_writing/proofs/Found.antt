@@ -6,15 +6,15 @@ use Rattle.std.specs.List.{AllByRecursion}
 use Rattle.std.specs.List.Sorted.{IsStrictlySortedBy}
 use Rattle.std.proofs.lemmas.Bool.Decides.{nat_tests}
 use Rattle.std.proofs.lemmas.Option.{slice_get_within, slice_get_read, same_Some}
-use Rattle.mask_states.specs.declared.keys.InstKey.{InstKey}
-use Rattle.mask_states.specs.declared.keys.NodeKey.{NodeKey}
-use Rattle.mask_states.specs.Order.{inst_cmp}
-use Rattle.mask_states.specs.Laws.{KeysAreOrdered}
+use Rattle.node_keys.specs.declared.keys.InstKey.{InstKey}
+use Rattle.node_keys.specs.declared.keys.NodeKey.{NodeKey}
+use Rattle.node_keys.specs.Order.{inst_cmp}
+use Rattle.node_keys.specs.Laws.{KeysAreOrdered}
 use Rattle.edge_rules.specs.declared.seeded.NodeForm.{NodeForm}
 use Rattle.edge_rules.specs.Expansion.{Seeds}
 use Rattle.certificate.specs.declared.instance.Inst.{Inst}
 use Rattle.certificate.specs.Insts.{inst_keys}
-use Rattle.certificate.specs.Claims.{Belongs, node_keys}
+use Rattle.certificate.specs.Claims.{Belongs, seed_keys}
 use Rattle.cert_words.specs.Text.{inst_number}
 use Rattle.cert_words.proofs.AllLaws.{place_unique, has_place}
 use Rattle.cert_writing.specs.Places.{IsAt, IsNowhereFrom}
@@ -46,7 +46,7 @@ place_found o insts key None sorted there found none =
     let t = has_place o insts key there in
     absurd (none (inst_number key insts) (omega arith) (t.inst, t.there, t.same))
 
-pub belongs_at : (insts : List Inst) (ns : Seeds) (i : ℕ) (n : NodeKey × NodeForm) → AllByRecursion (Belongs insts) (node_keys ns) → i < length ns → n ≡ get_or ns i n → Belongs insts n.0
+pub belongs_at : (insts : List Inst) (ns : Seeds) (i : ℕ) (n : NodeKey × NodeForm) → AllByRecursion (Belongs insts) (seed_keys ns) → i < length ns → n ≡ get_or ns i n → Belongs insts n.0
 belongs_at insts [] i n h lt is = absurd (omega (arith, lt))
 belongs_at insts (m ∷ ns) zero n h lt is = let P : NodeKey × NodeForm → Type 0 = λ x. Belongs insts x.0 in subst P (sym is) h.0
 belongs_at insts (m ∷ ns) (suc i) n h lt is = belongs_at insts ns i n h.1 (omega (arith, lt)) is

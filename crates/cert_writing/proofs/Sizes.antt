@@ -9,8 +9,8 @@ use Rattle.std.proofs.lemmas.Grind.{flat_map-append}
 use Rattle.std.proofs.lemmas.List.{length-replicate}
 use Rattle.std.proofs.lemmas.List.Elements.{recursion_from_All}
 use Rattle.std.proofs.lemmas.Bool.{and_parts}
-use Rattle.sb_base.specs.Digits.{hex_digits}
-use Rattle.sb_base.specs.Lines.{spaced, line}
+use Rattle.text_base.specs.Digits.{hex_digits}
+use Rattle.text_base.specs.Lines.{spaced, line}
 use Rattle.avr_model.specs.declared.assumption.Entry.{Entry}
 use Rattle.avr_model.specs.declared.assumption.Entry.TheVariants as entry
 use Rattle.avr_model.specs.declared.device.Device.{Device}
@@ -31,16 +31,16 @@ use Rattle.pair_domain.specs.Rank.{KnownFits}
 use Rattle.pair_words.proofs.AllLaws.{sum_short, compare_short, zero_short, intervals_short}
 use Rattle.abs_state.specs.declared.values.AbsByte.{AbsByte}
 use Rattle.abs_state.specs.declared.state.AbsState.{AbsState}
-use Rattle.mask_states.specs.declared.keys.Kind.{Kind}
-use Rattle.mask_states.specs.declared.keys.Kind.TheVariants.{Root, Call, Vector}
-use Rattle.mask_states.specs.declared.keys.InstKey.{InstKey}
-use Rattle.mask_states.specs.declared.keys.NodeKey.{NodeKey}
-use Rattle.mask_states.specs.declared.keys.High.{High}
-use Rattle.mask_states.specs.declared.keys.High.TheVariants as high
-use Rattle.mask_states.specs.declared.keys.SpForm.{SpForm}
-use Rattle.mask_states.specs.declared.keys.SpForm.TheVariants.{Closed, Open}
-use Rattle.mask_states.specs.Keys.{offset_of}
-use Rattle.mask_states.specs.Order.{same_inst}
+use Rattle.node_keys.specs.declared.keys.Kind.{Kind}
+use Rattle.node_keys.specs.declared.keys.Kind.TheVariants.{Root, Call, Vector}
+use Rattle.node_keys.specs.declared.keys.InstKey.{InstKey}
+use Rattle.node_keys.specs.declared.keys.NodeKey.{NodeKey}
+use Rattle.node_keys.specs.declared.keys.High.{High}
+use Rattle.node_keys.specs.declared.keys.High.TheVariants as high
+use Rattle.node_keys.specs.declared.keys.SpForm.{SpForm}
+use Rattle.node_keys.specs.declared.keys.SpForm.TheVariants.{Closed, Open}
+use Rattle.node_keys.specs.Keys.{offset_of}
+use Rattle.node_keys.specs.Order.{same_inst}
 use Rattle.edge_rules.specs.declared.seeded.NodeForm.{NodeForm}
 use Rattle.edge_rules.specs.declared.seeded.NodeForm.TheVariants.{State, From}
 use Rattle.edge_rules.specs.Expansion.{Seeds}
@@ -48,7 +48,9 @@ use Rattle.avr_model.specs.declared.choice.Choice.TheVariants as choice
 use Rattle.witness_replay.specs.declared.schedule.Run.{Run}
 use Rattle.witness_replay.specs.declared.schedule.Run.TheVariants.{Go, Take}
 use Rattle.witness_replay.specs.Spelling.{Plan, bit, weight, choices_of, choices_of_run, most_choices, IsCounted, AreRuns, IsSchedule, run_words}
-use Rattle.indirect_targets.specs.Spelling.{number_words, entry_words}
+use Rattle.avr_model.specs.Devices.{word_digits}
+use Rattle.assumption_files.specs.Spelling.{word_address_text, number_words, entry_words}
+use Rattle.assumption_files.proofs.AllLaws.{most_digits}
 use Rattle.certificate.specs.declared.instance.Inst.{Inst}
 use Rattle.certificate.specs.declared.version.Version.{Version}
 use Rattle.certificate.specs.declared.version.Version.TheVariants.{One, Two, Three}
@@ -56,7 +58,7 @@ use Rattle.avr_model.specs.Names.{class_of}
 use Rattle.cert_words.proofs.AllLaws.{class_short}
 use Rattle.certificate.specs.Versions.{says_device}
 use Rattle.certificate.specs.Insts.{is_vector_word, fits_kind, IsInst}
-use Rattle.certificate.specs.Claims.{Claim, IsClaim, FitsAt, AreFrom, cells_of, node_keys}
+use Rattle.certificate.specs.Claims.{Claim, IsClaim, FitsAt, AreFrom, cells_of, seed_keys}
 use Rattle.cert_words.specs.Spelling.{bits_text, tag_text, range_text, value_word, flags_word, carry_word, slot_word, high_text, form_word}
 use Rattle.certificate.specs.Hulls.{hulls_of}
 use Rattle.cert_words.specs.KeySpelling.{masks_digits, kind_word, pick_word, pick_words, place_words, pairs_words, state_words, form_words}
@@ -163,7 +165,7 @@ high_short : (h : High) → length (high_text h) ≤ 6
 high_short (high.Known byte) = omega (arith, length_hex byte 2)
 high_short (high.Tag k) = omega (arith, length_hex k 4)
 
-form_short : (f : SpForm) → offset_of f ≤ 16384 → length (form_word f) ≤ 17
+form_short : (f : SpForm) → offset_of f ≤ 32768 → length (form_word f) ≤ 17
 form_short (Closed offset) h = omega (arith, number_short offset (omega (arith, h)))
 form_short (Open offset x) h = omega (arith, length-append (decimal offset) (high_text x), number_short offset (omega (arith, h)), high_short x)
 
@@ -176,16 +178,19 @@ picks_short One pick = omega arith
 picks_short Two pick = omega (arith, pick_short pick)
 picks_short Three pick = omega (arith, pick_short pick)
 
-masks_short : (device : Device) (masks : ℕ) → length (hex_digits masks (masks_digits device)) ≤ 16
+masks_short : (device : Device) (masks : ℕ) → length (hex_digits masks (masks_digits device)) ≤ 19
 masks_short device masks = omega (arith, length_hex masks (masks_digits device), devices_are_alike.most_vectors device)
 
-place_short : (device : Device) (version : Version) (key : NodeKey) → offset_of key.sp ≤ 16384 → taken (place_words device version key) ≤ 47
+address_short : (device : Device) (address : ℕ) → length (word_address_text device address) ≤ 5
+address_short device address = omega (arith, length_hex address (word_digits device), most_digits device)
+
+place_short : (device : Device) (version : Version) (key : NodeKey) → offset_of key.sp ≤ 32768 → taken (place_words device version key) ≤ 51
 place_short device version key h =
-    omega (arith, length_hex key.pc 4, masks_short device key.masks, bit_short key.i, bit_short key.delay, form_short key.sp h, picks_short version key.pick)
+    omega (arith, address_short device key.pc, masks_short device key.masks, bit_short key.i, bit_short key.delay, form_short key.sp h, picks_short version key.pick)
 
 -- ---- nodes
 
-key_small : (device : Device) (followed : Bool) (at : ℕ) (key : NodeKey) (form : NodeForm) → FitsAt device followed at key form → offset_of key.sp ≤ 16384
+key_small : (device : Device) (followed : Bool) (at : ℕ) (key : NodeKey) (form : NodeForm) → FitsAt device followed at key form → offset_of key.sp ≤ 32768
 key_small device followed at key (State s) h = omega (arith, h.small, devices_are_alike.most_depth device)
 key_small device followed at key (From m) h = omega (arith, h.0.small, devices_are_alike.most_depth device)
 
@@ -202,7 +207,7 @@ place_few key [] = omega arith
 place_few key (x ∷ xs) = omega (arith, place_by (same_inst x.key key) (inst_number key xs) (length xs) (place_few key xs))
 
 nodes_short : (device : Device) (followed : Bool) (version : Version) (insts : List Inst) (at : ℕ) (ns : Seeds) → length insts ≤ 65536 → at + length ns ≤ 65536 → AreFrom device followed at ns
-    → text (node_words device version insts) ns ≤ 700 * length ns + 14 * cells_of (node_keys ns)
+    → text (node_words device version insts) ns ≤ 740 * length ns + 14 * cells_of (seed_keys ns)
 unfolding cells_of
 nodes_short device followed version insts at [] few most h = omega arith
 nodes_short device followed version insts at (n ∷ ns) few most h =
@@ -231,7 +236,7 @@ inst_short device x h =
     let kind = kind_short device x.key.kind x.key.entry x.key.masks x.key.i h.kind in
     let rank = number_short x.rank (omega (arith, h.rank)) in
     let need = number_short x.need (omega (arith, h.need, devices_are_alike.most_depth device)) in
-    omega (arith, kind, length_hex x.key.entry 4, masks_short device x.key.masks, bit_short x.key.i, rank, need)
+    omega (arith, kind, address_short device x.key.entry, masks_short device x.key.masks, bit_short x.key.i, rank, need)
 
 insts_short : (device : Device) (xs : List Inst) → AllByRecursion (IsInst device) xs → text (inst_words device) xs ≤ 100 * length xs
 insts_short device [] h = omega arith
@@ -239,9 +244,9 @@ insts_short device (x ∷ xs) h = omega (arith, text_more (inst_words device) x 
 
 -- ---- assumptions
 
-numbers_long : (ns : List ℕ) → taken (number_words ns) ≡ 5 * length ns
-numbers_long [] = omega arith
-numbers_long (n ∷ ns) = omega (arith, length_hex n 4, numbers_long ns)
+numbers_short : (digits : ℕ) (ns : List ℕ) → digits ≤ 5 → taken (number_words digits ns) ≤ 6 * length ns
+numbers_short digits [] few = omega arith
+numbers_short digits (n ∷ ns) few = omega (arith, length_hex n digits, few, numbers_short digits ns few)
 
 items_few : (is_item : ℕ → Bool) (items : List ℕ) → are_items is_item items ≡ true → length items ≤ 64
 items_few is_item items e =
@@ -253,27 +258,27 @@ items_few is_item items e =
 depth_few : (depth : ℕ) → nat_le depth SIZE ≡ true → depth ≤ SIZE
 depth_few depth e = grind (arith, nat_tests)
 
-entry_short : (e : Entry) → is_entry e ≡ true → taken (entry_words e) + 1 ≤ 400
-entry_short entry.Pairs e = omega arith
-entry_short entry.Masks e = omega arith
-entry_short (entry.Jump site words) e =
+entry_short : (device : Device) (e : Entry) → is_entry e ≡ true → taken (entry_words device e) + 1 ≤ 400
+entry_short device entry.Pairs e = omega arith
+entry_short device entry.Masks e = omega arith
+entry_short device (entry.Jump site words) e =
     let few = items_few is_word words (and_parts (is_word site) (are_items is_word words) e).1 in
-    omega (arith, numbers_long (site ∷ words), few)
-entry_short (entry.Store site addresses) e =
+    omega (arith, address_short device site, numbers_short (word_digits device) words (most_digits device), few)
+entry_short device (entry.Store site addresses) e =
     let few = items_few is_io addresses (and_parts (is_word site) (are_items is_io addresses) e).1 in
-    omega (arith, numbers_long (site ∷ addresses), few)
-entry_short (entry.Prove site) e = omega (arith, numbers_long (site ∷ []))
-entry_short (entry.Free site) e = omega (arith, numbers_long (site ∷ []))
-entry_short (entry.Never site) e = omega (arith, numbers_long (site ∷ []))
-entry_short (entry.Frame site) e = omega (arith, numbers_long (site ∷ []))
-entry_short (entry.Recur word depth) e =
+    omega (arith, address_short device site, numbers_short 4 addresses (omega arith), few)
+entry_short device (entry.Prove site) e = omega (arith, address_short device site)
+entry_short device (entry.Free site) e = omega (arith, address_short device site)
+entry_short device (entry.Never site) e = omega (arith, address_short device site)
+entry_short device (entry.Frame site) e = omega (arith, address_short device site)
+entry_short device (entry.Recur word depth) e =
     let most = depth_few depth (and_parts (is_word word) (nat_le depth SIZE) e).1 in
-    omega (arith, length_hex word 4, number_short depth (omega (arith, most)))
-entry_short (entry.Scratch site) e = omega (arith, numbers_long (site ∷ []))
+    omega (arith, address_short device word, number_short depth (omega (arith, most)))
+entry_short device (entry.Scratch site) e = omega (arith, address_short device site)
 
-entries_short : (es : List Entry) → AllByRecursion (λ e. is_entry e ≡ true) es → text entry_words es ≤ 400 * length es
-entries_short [] h = omega arith
-entries_short (e ∷ es) h = omega (arith, text_more entry_words e es, entry_short e h.0, entries_short es h.1)
+entries_short : (device : Device) (es : List Entry) → AllByRecursion (λ e. is_entry e ≡ true) es → text (entry_words device) es ≤ 400 * length es
+entries_short device [] h = omega arith
+entries_short device (e ∷ es) h = omega (arith, text_more (entry_words device) e es, entry_short device e h.0, entries_short device es h.1)
 
 -- ---- the schedule
 
@@ -313,7 +318,7 @@ device_short : (says : Bool) (device : Device) (ls : List (List (List ℕ))) →
 device_short true device ls = omega (arith, line_more (device_line (class_of device)) ls, class_short device)
 device_short false device ls = omega arith
 
-heading_short : (device : Device) (version : Version) (bound : ℕ) → bound ≤ 16384 → size (heading device version bound) ≤ 100
+heading_short : (device : Device) (version : Version) (bound : ℕ) → bound ≤ 32768 → size (heading device version bound) ≤ 100
 heading_short device version bound h =
     let says = says_device device in
     let last : List (List (List ℕ)) = numbered (codes "bound") bound ∷ [] in
@@ -335,17 +340,17 @@ witness_short device (Some plan) h few =
     let behind = both_long (map run_words plan.runs) end in
     omega (arith, line_more attained_line (first ∷ fill ∷ lines), line_more first (fill ∷ lines), line_more fill lines, length_hex plan.fill 2, behind, runs, few)
 
-front_short : (c : Claim) → IsClaim c → size (front_lines c) ≤ 172000000
+front_short : (c : Claim) → IsClaim c → size (front_lines c) ≤ 176000000
 front_short c h =
-    let entries = list_short (codes "assume") (length c.assumptions) (400 * length c.assumptions) (map entry_words c.assumptions) (omega arith) (omega (arith, h.entries_fit.few))
-    (entries_short c.assumptions (recursion_from_All (λ e. is_entry e ≡ true) c.assumptions h.entries_fit.each)) in
+    let entries = list_short (codes "assume") (length c.assumptions) (400 * length c.assumptions) (map (entry_words c.device) c.assumptions) (omega arith) (omega (arith, h.entries_fit.few))
+    (entries_short c.device c.assumptions (recursion_from_All (λ e. is_entry e ≡ true) c.assumptions h.entries_fit.each)) in
     let insts = list_short (codes "instances") (length c.instances) (100 * length c.instances) (map (inst_words c.device) c.instances) (omega arith) (omega (arith, h.few_insts)) (insts_short c.device c.instances h.insts_fit) in
-    let most : ℕ = 700 * length c.nodes + 14 * cells_of (node_keys c.nodes) in
+    let most : ℕ = 740 * length c.nodes + 14 * cells_of (seed_keys c.nodes) in
     let nodes = list_short (codes "nodes") (length c.nodes) most (map (node_words c.device c.version c.instances) c.nodes) (omega arith) (omega (arith, h.few_nodes))
     (nodes_short c.device (has_pairs c.assumptions) c.version c.instances 0 c.nodes h.few_insts (omega (arith, h.few_nodes)) h.nodes_fit) in
     let third = both_long (inst_lines c.device c.instances) (node_lines c.device c.version c.instances c.nodes) in
-    let second = both_long (entry_lines c.assumptions) (inst_lines c.device c.instances ++ node_lines c.device c.version c.instances c.nodes) in
-    let first = both_long (heading c.device c.version c.bound) (entry_lines c.assumptions ++ (inst_lines c.device c.instances ++ node_lines c.device c.version c.instances c.nodes)) in
+    let second = both_long (entry_lines c.device c.assumptions) (inst_lines c.device c.instances ++ node_lines c.device c.version c.instances c.nodes) in
+    let first = both_long (heading c.device c.version c.bound) (entry_lines c.device c.assumptions ++ (inst_lines c.device c.instances ++ node_lines c.device c.version c.instances c.nodes)) in
     omega (arith, first, second, third, heading_short c.device c.version c.bound (omega (arith, h.bound_fits, devices_are_alike.most_depth c.device)), entries, insts, nodes, h.entries_fit.few, h.few_insts, h.few_nodes, h.few_cells)
 
 pub texts_fit : TextsFit

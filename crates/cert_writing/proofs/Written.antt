@@ -3,17 +3,17 @@ use Rattle.std.proofs.Common.{ℕ, true, ◌+◌, ◌<◌, ◌≡◌, List, [], 
 use Rattle.std.proofs.lemmas.List.{map-append, take_more}
 use Rattle.std.proofs.lemmas.Grind.{flat_map-append}
 use Rattle.std.specs.List.{flat_map}
-use Rattle.indirect_targets.proofs.AllLaws.{none_begun, words_append}
+use Rattle.assumption_files.proofs.AllLaws.{none_begun, words_append}
 use Rattle.witness_replay.proofs.Parts.{more_text}
-use Rattle.sb_base.specs.Lines.{line}
-use Rattle.sb_base.specs.Writing.{Written, with_word, with_words, with_end}
+use Rattle.text_base.specs.Lines.{line}
+use Rattle.text_base.specs.Writing.{Written, with_word, with_words, with_end}
 use Rattle.line_reading.specs.Appending.{with_text, AppendingLaws}
 use Rattle.avr_model.specs.declared.assumption.Entry.{Entry}
 use Rattle.avr_model.specs.declared.device.Device.{Device}
 use Rattle.abs_state.specs.declared.values.AbsByte.{AbsByte}
 use Rattle.abs_state.specs.declared.state.AbsState.{AbsState}
 use Rattle.edge_rules.specs.Expansion.{Seeds}
-use Rattle.indirect_targets.specs.Spelling.{entry_words, text_of as entries_text}
+use Rattle.assumption_files.specs.Spelling.{entry_words, text_of as entries_text}
 use Rattle.witness_replay.specs.Spelling.{Plan, text_of as schedule_text}
 use Rattle.certificate.specs.declared.instance.Inst.{Inst}
 use Rattle.certificate.specs.declared.version.Version.{Version}
@@ -74,16 +74,16 @@ state_written version w a b d v s e f p g =
 
 -- ---- parts
 
-pub entry_text : (es : List Entry) → entries_text es ≡ flat_map line (map entry_words es)
-entry_text [] = refl
-entry_text (e ∷ es) = ap (λ (xs : List ℕ). line (entry_words e) ++ xs) (entry_text es)
+pub entry_text : (device : Device) (es : List Entry) → entries_text device es ≡ flat_map line (map (entry_words device) es)
+entry_text device [] = refl
+entry_text device (e ∷ es) = ap (λ (xs : List ℕ). line (entry_words device e) ++ xs) (entry_text device es)
 
 -- a line alone
 pub one_line : (l : List (List ℕ)) → flat_map line (l ∷ []) ≡ line l
 one_line l = append-nil (line l)
 
-entries_written : (w v u : Written) (es : List Entry) → v ≡ with_text w (line (numbered (codes "assume") (length es))) → u ≡ with_text v (entries_text es) → u ≡ with_text w (flat_map line (entry_lines es))
-entries_written w v u es e f = more_text w v u (line (numbered (codes "assume") (length es))) (flat_map line (map entry_words es)) e (f ∙ ap (with_text v) (entry_text es))
+entries_written : (device : Device) (w v u : Written) (es : List Entry) → v ≡ with_text w (line (numbered (codes "assume") (length es))) → u ≡ with_text v (entries_text device es) → u ≡ with_text w (flat_map line (entry_lines device es))
+entries_written device w v u es e f = more_text w v u (line (numbered (codes "assume") (length es))) (flat_map line (map (entry_words device) es)) e (f ∙ ap (with_text v) (entry_text device es))
 
 pub joined_text : (xs ys : List (List (List ℕ))) → flat_map line (xs ++ ys) ≡ flat_map line xs ++ flat_map line ys
 joined_text xs ys = flat_map-append line xs ys
@@ -110,11 +110,11 @@ nodes_written device version w v u xs ns e f = more_text w v u (line (numbered (
 both_written : (w v u : Written) (xs ys : List (List (List ℕ))) → v ≡ with_text w (flat_map line xs) → u ≡ with_text v (flat_map line ys) → u ≡ with_text w (flat_map line (xs ++ ys))
 both_written w v u xs ys e f = more_text w v u (flat_map line xs) (flat_map line ys) e f ∙ ap (with_text w) (sym (joined_text xs ys))
 
-front_written : (w a b d u : Written) (c : Claim) → a ≡ with_text w (flat_map line (heading c.device c.version c.bound)) → b ≡ with_text a (flat_map line (entry_lines c.assumptions)) → d ≡ with_text b (flat_map line (inst_lines c.device c.instances)) → u ≡ with_text d (flat_map line (node_lines c.device c.version c.instances c.nodes))
+front_written : (w a b d u : Written) (c : Claim) → a ≡ with_text w (flat_map line (heading c.device c.version c.bound)) → b ≡ with_text a (flat_map line (entry_lines c.device c.assumptions)) → d ≡ with_text b (flat_map line (inst_lines c.device c.instances)) → u ≡ with_text d (flat_map line (node_lines c.device c.version c.instances c.nodes))
     → u ≡ with_text w (flat_map line (front_lines c))
 front_written w a b d u c e f g h =
-    both_written w a u (heading c.device c.version c.bound) (entry_lines c.assumptions ++ (inst_lines c.device c.instances ++ node_lines c.device c.version c.instances c.nodes)) e
-    (both_written a b u (entry_lines c.assumptions) (inst_lines c.device c.instances ++ node_lines c.device c.version c.instances c.nodes) f (both_written b d u (inst_lines c.device c.instances) (node_lines c.device c.version c.instances c.nodes) g h))
+    both_written w a u (heading c.device c.version c.bound) (entry_lines c.device c.assumptions ++ (inst_lines c.device c.instances ++ node_lines c.device c.version c.instances c.nodes)) e
+    (both_written a b u (entry_lines c.device c.assumptions) (inst_lines c.device c.instances ++ node_lines c.device c.version c.instances c.nodes) f (both_written b d u (inst_lines c.device c.instances) (node_lines c.device c.version c.instances c.nodes) g h))
 
 pub attained_written : (w v u : Written) (plan : Plan) → v ≡ with_text w (line attained_line) → u ≡ with_text v (schedule_text plan) → u ≡ with_text w (flat_map line (witness_lines (Some plan)))
 attained_written w v u plan e f = more_text w v u (line attained_line) (schedule_text plan) e f
@@ -129,12 +129,12 @@ all_written w a b u c e f g =
 
 -- all parts, one after the other
 pub parts_written : AppendingLaws → (w h a e n i m x t v u : Written) (c : Claim) → h ≡ with_text w (flat_map line (heading c.device c.version c.bound))
-    → a ≡ with_text h (line (numbered (codes "assume") (length c.assumptions))) → e ≡ with_text a (entries_text c.assumptions)
+    → a ≡ with_text h (line (numbered (codes "assume") (length c.assumptions))) → e ≡ with_text a (entries_text c.device c.assumptions)
     → n ≡ with_text e (line (numbered (codes "instances") (length c.instances))) → i ≡ with_text n (flat_map line (map (inst_words c.device) c.instances))
     → m ≡ with_text i (line (numbered (codes "nodes") (length c.nodes))) → x ≡ with_text m (flat_map line (map (node_words c.device c.version c.instances) c.nodes))
     → t ≡ with_text x (flat_map line (witness_lines c.witness)) → v ≡ with_word t (codes "end") → u ≡ with_end v
     → u ≡ with_text w (text_of c)
 parts_written k w h a e n i m x t v u c to_h to_a to_e to_n to_i to_m to_x to_t to_v to_u =
-    let front = front_written w h e i x c to_h (entries_written h a e c.assumptions to_a to_e) (insts_written c.device e n i c.instances to_n to_i) (nodes_written c.device c.version i m x c.instances c.nodes to_m to_x) in
+    let front = front_written w h e i x c to_h (entries_written c.device h a e c.assumptions to_a to_e) (insts_written c.device e n i c.instances to_n to_i) (nodes_written c.device c.version i m x c.instances c.nodes to_m to_x) in
     let begun = none_begun x t (flat_map line (witness_lines c.witness)) to_t in
     all_written w x t u c front to_t (k.line t u end_line begun (to_u ∙ ap with_end to_v))

@@ -1,6 +1,6 @@
 -- The place of an instance in a list.
 use Rattle.std.specs.Prelude.{ℕ, ◌≡◌, ◌≤◌, List, slice_get, Some}
-use Rattle.mask_states.specs.declared.keys.InstKey.{InstKey}
+use Rattle.node_keys.specs.declared.keys.InstKey.{InstKey}
 use Rattle.certificate.specs.declared.instance.Inst.{Inst}
 
 -- the instance of this number has this key

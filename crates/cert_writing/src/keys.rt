@@ -1,19 +1,20 @@
 //! The words of keys.
 
 ghost use Rattle.std.specs.Prelude.{◌≡◌, ◌++◌, OnOk, decimal};
-ghost use Rattle.sb_base.specs.Digits.{hex_digits};
-ghost use Rattle.sb_base.specs.Writing.{with_word, with_words};
+ghost use Rattle.text_base.specs.Digits.{hex_digits};
+ghost use Rattle.text_base.specs.Writing.{with_word, with_words};
 ghost use Rattle.witness_replay.specs.Spelling.{bit};
 ghost use Rattle.cert_words.specs.Spelling.{form_word};
 ghost use Rattle.cert_words.specs.KeySpelling.{masks_digits, kind_word, inst_key_words, pick_words, place_words, node_key_words};
 
+use assumption_files::write_word_address;
 use avr_model::device::Device;
 use cert_words::masks_digits;
 use certificate::Version;
-use mask_states::{High, InstKey, Kind, NodeKey, SpForm};
+use node_keys::{High, InstKey, Kind, NodeKey, SpForm};
 use pair_words::{four_digits, two_digits};
-use sb_base::{LineWriter, hex_glyphs};
 use std::alloc::{AllocError, Global};
+use text_base::{LineWriter, hex_glyphs};
 use vector_table::Masks;
 
 // Writes 0 or 1.
@@ -94,7 +95,7 @@ pub fn write_inst_key(
     ensures { OnOk result (out.new ≡ with_words out.old (inst_key_words device key.now)) }
 {
     write_kind(out, alloc, key.kind)?;
-    out.hex(u32::from(key.entry), 4)?;
+    write_word_address(out, device, key.entry)?;
     write_masks(out, device, key.masks)?;
     write_bit(out, key.i)
 }
@@ -122,7 +123,7 @@ pub(crate) fn write_place(
 ) -> Result<(), AllocError>
     ensures { OnOk result (out.new ≡ with_words out.old (place_words device version key.now)) }
 {
-    out.hex(u32::from(key.pc), 4)?;
+    write_word_address(out, device, key.pc)?;
     write_masks(out, device, key.masks)?;
     write_bit(out, key.i)?;
     write_bit(out, key.delay)?;

@@ -3,13 +3,13 @@
 ghost use Rattle.std.specs.Prelude.{◌≡◌, map, Some, OnOk, IfSome, IfNone, Contains, false};
 ghost use Rattle.std.specs.List.{flat_map};
 ghost use Rattle.std.specs.List.Sorted.{IsStrictlySortedBy};
-ghost use Rattle.sb_base.specs.Lines.{line};
-ghost use Rattle.sb_base.specs.Writing.{with_words, with_end};
+ghost use Rattle.text_base.specs.Lines.{line};
+ghost use Rattle.text_base.specs.Writing.{with_words, with_end};
 ghost use Rattle.line_reading.specs.Appending.{with_text};
-ghost use Rattle.mask_states.specs.Order.{inst_cmp};
+ghost use Rattle.node_keys.specs.Order.{inst_cmp};
 ghost use Rattle.certificate.specs.declared.instance.Inst.{Inst};
 ghost use Rattle.certificate.specs.Insts.{inst_keys};
-ghost use Rattle.certificate.specs.Claims.{node_keys, Belongs};
+ghost use Rattle.certificate.specs.Claims.{seed_keys, Belongs};
 ghost use Rattle.std.specs.List.{AllByRecursion};
 ghost use Rattle.cert_words.specs.Text.{inst_words, node_words_at, node_words, inst_number};
 ghost use Rattle.cert_writing.specs.Places.{IsAt, IsNowhereFrom};
@@ -20,10 +20,10 @@ use avr_model::device::Device;
 use certificate::{Inst, Version};
 use edge_rules::NodeForm;
 use line_reading::laws::appending_laws;
-use mask_states::laws::keys_are_ordered;
-use mask_states::{InstKey, NodeKey};
-use sb_base::LineWriter;
+use node_keys::laws::keys_are_ordered;
+use node_keys::{InstKey, NodeKey};
 use std::alloc::{AllocError, Global};
+use text_base::LineWriter;
 
 // Writes the line of an instance.
 fn write_inst(
@@ -115,7 +115,7 @@ pub(crate) fn write_nodes(
 ) -> Result<(), AllocError>
     requires begun { out.old.begun ≡ false }
     requires sorted { IsStrictlySortedBy inst_cmp (inst_keys insts.now) }
-    requires there { AllByRecursion (Belongs insts.now) (node_keys nodes.now) }
+    requires there { AllByRecursion (Belongs insts.now) (seed_keys nodes.now) }
     ensures { OnOk result (out.new ≡ with_text out.old (flat_map line (map (node_words device version insts.now) nodes.now))) }
 {
     appending_laws();

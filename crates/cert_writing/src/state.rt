@@ -1,7 +1,7 @@
 //! The words of a node's state.
 
 ghost use Rattle.std.specs.Prelude.{◌≡◌, map, OnOk};
-ghost use Rattle.sb_base.specs.Writing.{with_words};
+ghost use Rattle.text_base.specs.Writing.{with_words};
 ghost use Rattle.cert_words.specs.Spelling.{value_word, slot_word};
 ghost use Rattle.cert_words.specs.KeySpelling.{pairs_words, state_words, form_words};
 
@@ -10,9 +10,9 @@ use abs_state::{AbsByte, AbsState};
 use certificate::{Version, hulls_of};
 use edge_rules::NodeForm;
 use pair_words::write_facts;
-use sb_base::LineWriter;
 use sp_domain::Slot;
 use std::alloc::{AllocError, Global};
+use text_base::LineWriter;
 
 // Writes values.
 fn write_values(

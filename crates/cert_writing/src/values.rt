@@ -1,17 +1,17 @@
 //! The words of values, flags, carry tags and slots.
 
 ghost use Rattle.std.specs.Prelude.{◌≡◌, ◌∷◌, ◌++◌, [], OnOk};
-ghost use Rattle.sb_base.specs.Digits.{hex_digits};
-ghost use Rattle.sb_base.specs.Writing.{with_word};
+ghost use Rattle.text_base.specs.Digits.{hex_digits};
+ghost use Rattle.text_base.specs.Writing.{with_word};
 ghost use Rattle.certificate.specs.declared.version.Version.TheVariants.{One, Two};
 ghost use Rattle.cert_words.specs.Spelling.{value_word, flags_word, carry_word, slot_word};
 
 use abs_state::{AbsByte, AbsFlags};
 use certificate::Version;
 use pair_words::{four_digits, two_digits};
-use sb_base::LineWriter;
 use sp_domain::{CarryTag, Slot, Tag};
 use std::alloc::AllocError;
+use text_base::LineWriter;
 
 // Two bytes in two digits each.
 fn both_digits(first: u8, second: u8) -> (u8, u8, u8, u8)

@@ -2,7 +2,7 @@
 
 ghost use Rattle.std.specs.Prelude.{◌≡◌, ◌∷◌, [], OnOk, IfOk, false};
 ghost use Rattle.std.specs.List.{flat_map};
-ghost use Rattle.sb_base.specs.Lines.{line};
+ghost use Rattle.text_base.specs.Lines.{line};
 ghost use Rattle.line_reading.specs.Appending.{with_text};
 ghost use Rattle.certificate.specs.Claims.{IsCertificate};
 ghost use Rattle.cert_words.specs.Text.{numbered, version_line, device_lines, heading, witness_lines, end_line, text_of};
@@ -12,8 +12,8 @@ use avr_model::device::Device;
 use avr_model::naming::class_of;
 use certificate::{Certificate, Version, says_device};
 use line_reading::laws::appending_laws;
-use sb_base::LineWriter;
 use std::alloc::{AllocError, Global};
+use text_base::LineWriter;
 
 // Writes the line of a name and a number.
 fn write_numbered(out: &mut LineWriter, name: &[u8], number: u64) -> Result<(), AllocError>
@@ -113,7 +113,7 @@ fn write_all(
     write_heading(out, device, version, certificate.bound())?;
     let assumptions = certificate.assumptions();
     write_numbered(out, b"assume", assumptions.entries().len() as u64)?;
-    indirect_targets::write(assumptions, out)?;
+    assumption_files::write(device, assumptions, out)?;
     let instances = certificate.instances();
     write_numbered(out, b"instances", instances.len() as u64)?;
     write_insts(out, alloc, device, instances)?;

@@ -3,7 +3,7 @@ use Rattle.std.proofs.Common.{◌≡◌, ℕ, zero, suc, subst, List, [], ◌∷
 use Rattle.std.specs.List.{AllByRecursion}
 use Rattle.std.proofs.lemmas.Option.{none-some, same_Some}
 use Rattle.basics.specs.Items.{first_in, further_in}
-use Rattle.mask_states.specs.declared.keys.InstKey.{InstKey}
+use Rattle.node_keys.specs.declared.keys.InstKey.{InstKey}
 use Rattle.certificate.specs.declared.instance.Inst.{Inst}
 use Rattle.certificate.specs.Insts.{inst_keys}
 

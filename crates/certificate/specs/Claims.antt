@@ -7,9 +7,9 @@ use Rattle.avr_model.specs.declared.device.Device.{Device}
 use Rattle.avr_model.specs.Assumptions.{has_pairs}
 use Rattle.avr_model.specs.Devices.{depth_of}
 use Rattle.vector_table.specs.Entries.{AreEntries, fits_device}
-use Rattle.mask_states.specs.declared.keys.NodeKey.{NodeKey}
-use Rattle.mask_states.specs.Keys.{offset_of}
-use Rattle.mask_states.specs.Order.{inst_cmp, node_cmp}
+use Rattle.node_keys.specs.declared.keys.NodeKey.{NodeKey}
+use Rattle.node_keys.specs.Keys.{offset_of}
+use Rattle.node_keys.specs.Order.{inst_cmp, node_cmp}
 use Rattle.local_rules.specs.Cover.{IsNodeIn, IsKey}
 use Rattle.edge_rules.specs.declared.seeded.NodeForm.{NodeForm}
 use Rattle.edge_rules.specs.declared.seeded.NodeForm.TheVariants.{State, From}
@@ -42,8 +42,8 @@ most_nodes = most_seeds
 abbrev pub most_cells : ℕ
 most_cells = 8388608
 
-abbrev pub node_keys : Seeds → List NodeKey
-node_keys nodes = map (λ e. e.0) nodes
+abbrev pub seed_keys : Seeds → List NodeKey
+seed_keys nodes = map (λ e. e.0) nodes
 
 -- a node takes one cell, and one more for each byte of its offset
 unfoldable pub cells_of : List NodeKey → ℕ
@@ -75,10 +75,10 @@ pub record IsClaim (c : Claim) : Type 0 where
   pub insts_ascend : IsStrictlySortedBy inst_cmp (inst_keys c.instances)
   pub few_insts : length c.instances ≤ most_instances
   pub nodes_fit : AreFrom c.device (has_pairs c.assumptions) 0 c.nodes
-  pub nodes_belong : AllByRecursion (Belongs c.instances) (node_keys c.nodes)
-  pub nodes_ascend : IsStrictlySortedBy node_cmp (node_keys c.nodes)
+  pub nodes_belong : AllByRecursion (Belongs c.instances) (seed_keys c.nodes)
+  pub nodes_ascend : IsStrictlySortedBy node_cmp (seed_keys c.nodes)
   pub few_nodes : length c.nodes ≤ most_nodes
-  pub few_cells : cells_of (node_keys c.nodes) ≤ most_cells
+  pub few_cells : cells_of (seed_keys c.nodes) ≤ most_cells
   pub of_version : AreOf c.version c.nodes
   pub of_list : is_third c.version ≡ has_pairs c.assumptions
   -- the first version's text says no device

@@ -1,11 +1,11 @@
 -- Validity of a certificate for a firmware and assumptions. Source: own.
 use Rattle.std.specs.Prelude.{ℕ, ◌+◌, ◌≡◌, ◌<◌, ◌≤◌, List, Contains, Option, Some, None, IsOkAnd, ⊤}
 use Rattle.avr_model.specs.declared.assumption.Entry.{Entry}
-use Rattle.avr_model.specs.Devices.{Program, device_of, size_of, back_of}
+use Rattle.avr_model.specs.Devices.{Image, device_of, size_of, back_of}
 use Rattle.avr_model.specs.declared.choice.Stop.TheVariants as stop
-use Rattle.mask_states.specs.declared.keys.InstKey.{InstKey}
-use Rattle.mask_states.specs.declared.keys.SpForm.TheVariants.{Closed}
-use Rattle.mask_states.specs.Keys.{root_inst, entry_key}
+use Rattle.node_keys.specs.declared.keys.InstKey.{InstKey}
+use Rattle.node_keys.specs.declared.keys.SpForm.TheVariants.{Closed}
+use Rattle.node_keys.specs.Keys.{root_inst, entry_key}
 use Rattle.local_rules.specs.declared.local.Node.{Node}
 use Rattle.edge_rules.specs.declared.edge.Edge.{Edge}
 use Rattle.edge_rules.specs.Edges.{IsEdge, target}
@@ -46,9 +46,9 @@ abbrev pub NeedsSuffice : Task → Claim → List Node → Type 0
 NeedsSuffice task c nodes = (inst : InstKey) → Suffices task c nodes inst (need_in c.instances inst)
 
 -- 6: the bound is at least the root's need, and at most the size of the device's SRAM
-pub record IsBounded (words : Program) (c : Claim) : Type 0 where
+pub record IsBounded (image : Image) (c : Claim) : Type 0 where
   pub enough : need_in c.instances root_inst ≤ c.bound
-  pub small : c.bound ≤ size_of (device_of words)
+  pub small : c.bound ≤ size_of (device_of image)
 
 pub record MeetsConditions (task : Task) (c : Claim) (nodes : List Node) : Type 0 where
   -- a certificate is judged for its device alone

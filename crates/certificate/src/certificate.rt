@@ -10,7 +10,7 @@ use crate::instance::Inst;
 use crate::version::{Version, written_version};
 use avr_model::device::Device;
 use edge_rules::{NodeForm, Seed, Seeded};
-use mask_states::NodeKey;
+use node_keys::NodeKey;
 use std::marker::Model;
 use vector_table::Assumptions;
 use witness_replay::Schedule;

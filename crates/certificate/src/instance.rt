@@ -1,6 +1,6 @@
 //! Instances of a certificate. Source: own.
 
-use mask_states::InstKey;
+use node_keys::InstKey;
 
 /// An instance of a certificate: the root, one call or one interrupt entry.
 #[derive(Clone, Copy)]

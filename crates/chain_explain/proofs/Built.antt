@@ -4,7 +4,7 @@ use Rattle.std.proofs.lemmas.List.{take_more, length_push}
 use Rattle.basics.specs.Lists.{get_or_front, get_or_pushed}
 use Rattle.basics.specs.Numbers.{before_or_last}
 use Rattle.local_rules.specs.declared.local.Node.{Node}
-use Rattle.nesting_bound.specs.declared.graph.Link.{Link}
+use Rattle.instance_graph.specs.declared.graph.Link.{Link}
 use Rattle.chain_explain.specs.declared.explanation.Part.{Part}
 use Rattle.chain_explain.specs.Explanation.{IsPart, AreParts}
 use Rattle.chain_explain.specs.Moves.{IsPortion, IsThere, AreThere}

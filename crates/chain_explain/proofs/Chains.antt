@@ -3,23 +3,23 @@ use Rattle.std.proofs.Common.{◌≡◌, refl, sym, ap, ◌∙◌, subst, ℕ, �
 use Rattle.std.proofs.lemmas.List.Sums.{sum_by-cons}
 use Rattle.std.proofs.lemmas.Option.{slice_get_within}
 use Rattle.basics.specs.Lists.{one_at}
-use Rattle.mask_states.specs.declared.keys.InstKey.{InstKey}
-use Rattle.mask_states.specs.declared.keys.SpForm.TheVariants.{Closed}
-use Rattle.mask_states.specs.declared.keys.EdgeKind.{EdgeKind}
-use Rattle.mask_states.specs.Keys.{root_inst, offset_of, cut_at}
+use Rattle.node_keys.specs.declared.keys.InstKey.{InstKey}
+use Rattle.node_keys.specs.declared.keys.SpForm.TheVariants.{Closed}
+use Rattle.node_keys.specs.declared.keys.EdgeKind.{EdgeKind}
+use Rattle.node_keys.specs.Keys.{root_inst, offset_of, cut_at}
 use Rattle.avr_model.specs.declared.assumption.Entry.{Entry}
 use Rattle.avr_model.specs.Devices.{device_of, back_of}
 use Rattle.avr_model.specs.State.{SIZE}
 use Rattle.local_rules.specs.declared.local.Node.{Node}
 use Rattle.edge_rules.specs.Edges.{Enters, by_call, by_interrupt}
 use Rattle.edge_rules.specs.Expansion.{IsFilled}
-use Rattle.nesting_bound.specs.declared.graph.GraphInst.{GraphInst}
-use Rattle.nesting_bound.specs.declared.graph.Entered.{Entered}
-use Rattle.nesting_bound.specs.declared.graph.Link.{Link}
-use Rattle.nesting_bound.specs.declared.graph.Way.{Way}
-use Rattle.nesting_bound.specs.declared.graph.Way.TheVariants.{Recur}
-use Rattle.nesting_bound.specs.declared.graph.Way.TheVariants.{Enters as Enters_by}
-use Rattle.nesting_bound.specs.Chain.{IsChainFrom, ends, goes}
+use Rattle.instance_graph.specs.declared.graph.GraphInst.{GraphInst}
+use Rattle.instance_graph.specs.declared.graph.Entered.{Entered}
+use Rattle.instance_graph.specs.declared.graph.Link.{Link}
+use Rattle.instance_graph.specs.declared.graph.GraphWay.{GraphWay}
+use Rattle.instance_graph.specs.declared.graph.GraphWay.TheVariants.{Recur}
+use Rattle.instance_graph.specs.declared.graph.GraphWay.TheVariants.{Enters as Enters_by}
+use Rattle.instance_graph.specs.Chain.{IsChainFrom, ends, goes}
 use Rattle.family_graph.specs.Graphs.{insts_of, HasEntryOf, IsGraphOf}
 use Rattle.certificate.specs.Claims.{Claim}
 use Rattle.family_graph.specs.Chains.{IsDeepest, BeginsAtRoot}
@@ -70,8 +70,8 @@ module _ (task : Task) (nodes reached : List Node) (gs : List GraphInst) (needs 
       let h = (family.entered i e).0 first.is.0 in
       let link : Link = record { inst = i; node = e.node; depth = above + e.offset; way = Some e.way } in (
         elim h.edge [
-          | inl q ↦ subst (λ (w : Way). IsThere reached link (Some w)) (sym q.way) (slice_get_within reached e.node q.node q.at)
-          | inr q ↦ subst (λ (w : Way). IsThere reached link (Some w)) (sym q.way) (let deep = first.is.1 in omega (arith, deep, low))
+          | inl q ↦ subst (λ (w : GraphWay). IsThere reached link (Some w)) (sym q.way) (slice_get_within reached e.node q.node q.at)
+          | inr q ↦ subst (λ (w : GraphWay). IsThere reached link (Some w)) (sym q.way) (let deep = first.is.1 in omega (arith, deep, low))
         ],
         there_from e.into (above + e.offset + back) rest (let deep = first.is.1 in omega (arith, deep, low)) chain,
       )
@@ -85,7 +85,7 @@ module _ (task : Task) (nodes reached : List Node) (gs : List GraphInst) (needs 
   as_recur link rest part e h = subst (IsPartBy task nodes reached link rest part) e h
 
   -- the bytes of a link at a node
-  adds_on : (offset : ℕ) (way : Option Way) (w : Way) → way ≡ Some w → adds_by back offset way ≡ offset + back
+  adds_on : (offset : ℕ) (way : Option GraphWay) (w : GraphWay) → way ≡ Some w → adds_by back offset way ≡ offset + back
   adds_on offset way w e = ap (adds_by back offset) e
 
   -- the offset of a part's node

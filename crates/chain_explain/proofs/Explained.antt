@@ -1,11 +1,11 @@
 -- The computed parts are the explanation.
 use Rattle.std.proofs.Common.{◌≡◌, subst, ℕ, ◌≤◌, List, []}
-use Rattle.mask_states.specs.Keys.{root_inst, entry_key}
+use Rattle.node_keys.specs.Keys.{root_inst, entry_key}
 use Rattle.local_rules.specs.declared.local.Node.{Node}
 use Rattle.local_laws.specs.Laws.{HasKey}
 use Rattle.edge_rules.specs.Expansion.{IsFilled}
 use Rattle.edge_laws.specs.Expansions.{FilledOrMissing}
-use Rattle.nesting_bound.specs.declared.graph.Link.{Link}
+use Rattle.instance_graph.specs.declared.graph.Link.{Link}
 use Rattle.certificate.specs.Claims.{Claim}
 use Rattle.certificate.specs.Valid.{MeetsConditions}
 use Rattle.round_laws.specs.Reached.{RoundsAreReached}

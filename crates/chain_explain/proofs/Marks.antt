@@ -10,13 +10,13 @@ use Rattle.basics.specs.Items.{place_of_contained, contained_at, none_in, first_
 use Rattle.basics.specs.Lists.{one_at}
 use Rattle.avr_model.specs.declared.device.Device.{Device}
 use Rattle.avr_model.specs.Devices.{device_of}
-use Rattle.mask_states.specs.declared.keys.NodeKey.{NodeKey}
-use Rattle.mask_states.specs.Keys.{root_inst, entry_key}
-use Rattle.mask_states.specs.Order.{node_cmp}
+use Rattle.node_keys.specs.declared.keys.NodeKey.{NodeKey}
+use Rattle.node_keys.specs.Keys.{root_inst, entry_key}
+use Rattle.node_keys.specs.Order.{node_cmp}
 use Rattle.local_rules.specs.declared.local.Node.{Node}
 use Rattle.edge_rules.specs.Views.{AreShown, key_of}
-use Rattle.call_graph.specs.declared.landing.Landing.{Landing}
-use Rattle.call_graph.specs.Landings.{AreLandings}
+use Rattle.family_edges.specs.declared.landing.Landing.{Landing}
+use Rattle.family_edges.specs.Landings.{AreLandings}
 use Rattle.family_graph.specs.declared.entering.Entering.{Entering}
 use Rattle.family_graph.specs.Graphs.{AreWaysOf, AreWays}
 use Rattle.shortest_walk.specs.Graph.{AreMarks}

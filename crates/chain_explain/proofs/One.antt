@@ -7,18 +7,18 @@ use Rattle.basics.specs.Lists.{one_at}
 use Rattle.basics.specs.Items.{none_in, first_in, further_in, first_or_further}
 use Rattle.edge_rules.specs.Places.{all_of}
 use Rattle.avr_model.specs.Devices.{device_of, back_of}
-use Rattle.mask_states.specs.declared.keys.InstKey.{InstKey}
-use Rattle.mask_states.specs.declared.keys.NodeKey.{NodeKey}
-use Rattle.mask_states.specs.Keys.{offset_of}
-use Rattle.mask_states.specs.Order.{node_cmp}
-use Rattle.mask_states.proofs.AllLaws.{keys_are_ordered}
+use Rattle.node_keys.specs.declared.keys.InstKey.{InstKey}
+use Rattle.node_keys.specs.declared.keys.NodeKey.{NodeKey}
+use Rattle.node_keys.specs.Keys.{offset_of}
+use Rattle.node_keys.specs.Order.{node_cmp}
+use Rattle.node_keys.proofs.AllLaws.{keys_are_ordered}
 use Rattle.local_rules.specs.declared.local.Node.{Node}
 use Rattle.edge_rules.specs.Views.{key_of}
 use Rattle.edge_laws.specs.Expansions.{FilledOrMissing}
 use Rattle.edge_laws.proofs.ExpansionLaws.{filled_lists_are_shown}
-use Rattle.nesting_bound.specs.declared.graph.Link.{Link}
-use Rattle.nesting_bound.specs.declared.graph.Way.{Way}
-use Rattle.nesting_bound.specs.declared.graph.Way.TheVariants.{Enters, Recur}
+use Rattle.instance_graph.specs.declared.graph.Link.{Link}
+use Rattle.instance_graph.specs.declared.graph.GraphWay.{GraphWay}
+use Rattle.instance_graph.specs.declared.graph.GraphWay.TheVariants.{Enters, Recur}
 use Rattle.shortest_walk.specs.Graph.{PointsTo}
 use Rattle.shortest_walk.specs.Walk.{WalksOn, IsWalk, IsShortest, IsFirstOfShortest}
 use Rattle.shortest_walk.proofs.AllLaws.{first_is_one}
@@ -117,7 +117,7 @@ module _ (task : Task) (nodes : List Node) (ascend : IsStrictlySortedBy node_cmp
       let stands : p.place ≡ q.place = a.place ∙ ((λ k. place.Node (node k).key.pc (walk k)) ∙ sym b.place) in
       λ k. record { inst = inst k; place = stands k; adds = adds k }
 
-  same_part_by : (reached : List Node) (link : Link) (rest : List Link) (p q : Part) (way : Option Way) → IsPartBy task nodes reached link rest p way → IsPartBy task nodes reached link rest q way → p ≡ q
+  same_part_by : (reached : List Node) (link : Link) (rest : List Link) (p q : Part) (way : Option GraphWay) → IsPartBy task nodes reached link rest p way → IsPartBy task nodes reached link rest q way → p ≡ q
   same_part_by reached link rest p q (Some Recur) a b =
       let inst : p.inst ≡ q.inst = a.inst ∙ sym b.inst in
       let stands : p.place ≡ q.place = a.place ∙ sym b.place in

@@ -8,13 +8,13 @@ use Rattle.std.proofs.lemmas.Option.{none-some, same_Some}
 use Rattle.basics.specs.Items.{place_of_contained, none_in, first_in, further_in, first_or_further}
 use Rattle.abs_state.specs.Frames.{entered}
 use Rattle.avr_model.specs.Devices.{device_of, back_of}
-use Rattle.mask_states.specs.declared.keys.InstKey.{InstKey}
-use Rattle.mask_states.specs.declared.keys.NodeKey.{NodeKey}
-use Rattle.mask_states.specs.declared.keys.EdgeKind.{EdgeKind}
-use Rattle.mask_states.specs.declared.keys.SpForm.TheVariants.{Closed}
-use Rattle.mask_states.specs.Keys.{root_inst, entry_key, offset_of}
-use Rattle.mask_states.specs.Order.{inst_cmp, same_inst, same_node}
-use Rattle.mask_states.proofs.AllLaws.{keys_are_ordered}
+use Rattle.node_keys.specs.declared.keys.InstKey.{InstKey}
+use Rattle.node_keys.specs.declared.keys.NodeKey.{NodeKey}
+use Rattle.node_keys.specs.declared.keys.EdgeKind.{EdgeKind}
+use Rattle.node_keys.specs.declared.keys.SpForm.TheVariants.{Closed}
+use Rattle.node_keys.specs.Keys.{root_inst, entry_key, offset_of}
+use Rattle.node_keys.specs.Order.{inst_cmp, same_inst, same_node}
+use Rattle.node_keys.proofs.AllLaws.{keys_are_ordered}
 use Rattle.local_rules.specs.declared.local.Node.{Node}
 use Rattle.local_laws.specs.Laws.{HasKey}
 use Rattle.edge_rules.specs.declared.edge.Edge.{Edge}
@@ -23,12 +23,12 @@ use Rattle.edge_rules.specs.Nest.{NestEdge, recurs, enters as by_node}
 use Rattle.edge_rules.specs.Views.{key_of}
 use Rattle.edge_rules.specs.Expansion.{IsFilled}
 use Rattle.edge_laws.specs.Expansions.{FilledOrMissing}
-use Rattle.nesting_bound.specs.declared.graph.Entered.{Entered}
-use Rattle.nesting_bound.specs.declared.graph.GraphInst.{GraphInst}
-use Rattle.nesting_bound.specs.declared.graph.Place.{Place}
-use Rattle.nesting_bound.specs.declared.graph.Way.TheVariants.{Recur}
-use Rattle.nesting_bound.specs.declared.graph.Way.TheVariants.{Enters as Enters_by}
-use Rattle.nesting_bound.specs.Least.{IsLeast}
+use Rattle.instance_graph.specs.declared.graph.Entered.{Entered}
+use Rattle.instance_graph.specs.declared.graph.GraphInst.{GraphInst}
+use Rattle.instance_graph.specs.declared.graph.Place.{Place}
+use Rattle.instance_graph.specs.declared.graph.GraphWay.TheVariants.{Recur}
+use Rattle.instance_graph.specs.declared.graph.GraphWay.TheVariants.{Enters as Enters_by}
+use Rattle.instance_graph.specs.Least.{IsLeast}
 use Rattle.family_graph.specs.Graphs.{insts_of, IsGraphOf}
 use Rattle.certificate.specs.Claims.{Claim}
 use Rattle.round_rules.specs.Families.{Family, nodes_of, FamilyHas}

@@ -4,10 +4,10 @@ use Rattle.basics.specs.Items.{place_of_contained, only_one_in, first_in}
 use Rattle.edge_rules.specs.Places.{FoundAt, found_at}
 use Rattle.avr_model.specs.Devices.{device_of}
 use Rattle.abs_state.specs.Frames.{entered}
-use Rattle.mask_states.specs.declared.keys.InstKey.{InstKey}
-use Rattle.mask_states.specs.declared.keys.NodeKey.{NodeKey}
-use Rattle.mask_states.specs.declared.keys.EdgeKind.TheVariants as kind
-use Rattle.mask_states.specs.Keys.{root_inst, entry_key}
+use Rattle.node_keys.specs.declared.keys.InstKey.{InstKey}
+use Rattle.node_keys.specs.declared.keys.NodeKey.{NodeKey}
+use Rattle.node_keys.specs.declared.keys.EdgeKind.TheVariants as kind
+use Rattle.node_keys.specs.Keys.{root_inst, entry_key}
 use Rattle.local_rules.specs.declared.local.Node.{Node}
 use Rattle.local_laws.specs.Laws.{HasKey}
 use Rattle.edge_rules.specs.declared.edge.Edge.{Edge}

@@ -1,12 +1,12 @@
 -- The explanation of a certificate: the deepest chain over the reached nodes, and the path to each place. Source: own.
 use Rattle.std.specs.Prelude.{ℕ, ◌+◌, ◌≡◌, ⊤, List, [], ◌∷◌, ◌++◌, Option, Some, None, slice_get}
 use Rattle.avr_model.specs.Devices.{device_of, back_of}
-use Rattle.mask_states.specs.Keys.{root_inst, offset_of}
+use Rattle.node_keys.specs.Keys.{root_inst, offset_of}
 use Rattle.local_rules.specs.declared.local.Node.{Node}
 use Rattle.edge_rules.specs.Expansion.{IsFilled}
-use Rattle.nesting_bound.specs.declared.graph.Link.{Link}
-use Rattle.nesting_bound.specs.declared.graph.Way.{Way}
-use Rattle.nesting_bound.specs.declared.graph.Way.TheVariants.{Enters, Recur}
+use Rattle.instance_graph.specs.declared.graph.Link.{Link}
+use Rattle.instance_graph.specs.declared.graph.GraphWay.{GraphWay}
+use Rattle.instance_graph.specs.declared.graph.GraphWay.TheVariants.{Enters, Recur}
 use Rattle.certificate.specs.Claims.{Claim}
 use Rattle.family_graph.specs.Chains.{IsDeepest}
 use Rattle.chain_explain.specs.declared.explanation.Explanation.{Explanation}
@@ -17,7 +17,7 @@ use Rattle.chain_explain.specs.Walks.{IsWay}
 use Rattle.local_rules.specs.Site.{Task}
 
 -- the bytes of a link: its offset, and the `back` bytes of a return address if the chain goes on into another instance
-abbrev pub adds_by : ℕ → ℕ → Option Way → ℕ
+abbrev pub adds_by : ℕ → ℕ → Option GraphWay → ℕ
 adds_by back offset None = offset
 adds_by back offset (Some way) = offset + back
 
@@ -48,7 +48,7 @@ pub record IsRecurPart (back : ℕ) (reached : List Node) (link : Link) (rest : 
   pub place : part.place ≡ place.Recur (entry_next reached rest)
   pub adds : part.adds ≡ link.depth + back
 
-abbrev pub IsPartBy : Task → List Node → List Node → Link → List Link → Part → Option Way → Type 0
+abbrev pub IsPartBy : Task → List Node → List Node → Link → List Link → Part → Option GraphWay → Type 0
 IsPartBy task nodes reached link rest part (Some Recur) = IsRecurPart (back_of (device_of task.flash)) reached link rest part
 IsPartBy task nodes reached link rest part (Some (Enters kind)) = IsNodePart task nodes reached link part
 IsPartBy task nodes reached link rest part None = IsNodePart task nodes reached link part

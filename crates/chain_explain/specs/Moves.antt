@@ -3,11 +3,11 @@ use Rattle.std.specs.Prelude.{ℕ, ◌+◌, ◌-◌, ◌≡◌, ◌<◌, ◌≤�
 use Rattle.std.specs.List.{flat_map}
 use Rattle.local_rules.specs.declared.local.Node.{Node}
 use Rattle.edge_rules.specs.Edges.{is_entry}
-use Rattle.call_graph.specs.declared.landing.Landing.{Landing}
+use Rattle.family_edges.specs.declared.landing.Landing.{Landing}
 use Rattle.avr_model.specs.State.{SIZE}
-use Rattle.nesting_bound.specs.declared.graph.Link.{Link}
-use Rattle.nesting_bound.specs.declared.graph.Way.{Way}
-use Rattle.nesting_bound.specs.declared.graph.Way.TheVariants.{Enters, Recur}
+use Rattle.instance_graph.specs.declared.graph.Link.{Link}
+use Rattle.instance_graph.specs.declared.graph.GraphWay.{GraphWay}
+use Rattle.instance_graph.specs.declared.graph.GraphWay.TheVariants.{Enters, Recur}
 use Rattle.edge_rules.specs.Families.{IsCovered}
 use Rattle.certificate.specs.Valid.{reset_node, AllLand}
 use Rattle.shortest_walk.specs.Graph.{PointsTo}
@@ -67,7 +67,7 @@ pub record IsPortion (graph : List (List ℕ)) (low count : ℕ) (portion : List
 -- ---- links
 
 -- the family has the link's node; a recur link has none, and its depth is one of some device
-abbrev pub IsThere : List Node → Link → Option Way → Type 0
+abbrev pub IsThere : List Node → Link → Option GraphWay → Type 0
 IsThere reached link (Some Recur) = link.depth ≤ SIZE
 IsThere reached link (Some (Enters kind)) = link.node < length reached
 IsThere reached link None = link.node < length reached

@@ -2,19 +2,19 @@
 
 ghost use Rattle.std.specs.Prelude.{◌≡◌, ◌≤◌, IfOk};
 ghost use Rattle.edge_rules.specs.Expansion.{IsFilled};
-ghost use Rattle.call_graph.specs.Landings.{AreLandings};
+ghost use Rattle.family_edges.specs.Landings.{AreLandings};
 ghost use Rattle.certificate.specs.Claims.{IsClaim};
 ghost use Rattle.certificate.specs.Valid.{IsSound, MeetsConditions};
 ghost use Rattle.chain_explain.specs.Explanation.{IsExplanation};
 ghost use Rattle.chain_explain.specs.Told.{sum_of, Nest, IsOfRounds};
-ghost use Rattle.call_graph.specs.Tasks.{task_of};
+ghost use Rattle.family_edges.specs.Tasks.{task_of};
 
 use crate::explanation::Explanation;
 use crate::parts::parts;
 use crate::reaching::{kept, kept_ways, marks_of};
-use call_graph::{Task, Worked};
 use certificate::Certificate;
 use edge_laws::expansions::filled_or_missing;
+use family_edges::{Task, WorkedOut};
 use family_graph::{deepest_chain, worked_of};
 use round_laws::laws::rounds_are_reached;
 use std::alloc::AllocError;
@@ -26,7 +26,7 @@ use std::alloc::AllocError;
 pub fn explain_family(
     task: &Task<'_>,
     certificate: &Certificate,
-    family: &Worked,
+    family: &WorkedOut,
 ) -> Result<Explanation, AllocError>
     requires claim { IsClaim certificate.now }
     requires filled { IsFilled (task_of task.now) certificate.now.nodes family.now.nodes }

@@ -1,15 +1,15 @@
 //! Explanations.
 
 use avr_model::listed::Listed;
-use mask_states::InstKey;
+use node_keys::InstKey;
 
 /// Where a link of the deepest chain stands.
 #[derive(Drop)]
 pub enum PartPlace {
     /// At this word address, to which this shortest path within the instance leads, both ends included.
-    Node(u16, Listed<u16>),
+    Node(u32, Listed<u32>),
     /// At the depth of the `recur` line of this word, which the next instance begins with: the root's recur edge to it.
-    Recur(u16),
+    Recur(u32),
 }
 
 /// One link of the deepest chain: an instance and a place in it.

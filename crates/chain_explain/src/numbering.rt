@@ -4,8 +4,8 @@ ghost use Rattle.std.specs.Prelude.{◌≡◌, Some};
 ghost use Rattle.local_laws.specs.Laws.{HasKey};
 ghost use Rattle.edge_rules.specs.Views.{place_of};
 
-use call_graph::Filled;
-use mask_states::NodeKey;
+use family_edges::Filled;
+use node_keys::NodeKey;
 
 // The number of the node of this key, which must exist.
 pub(crate) fn number_of(nodes: &Filled, key: &NodeKey) -> usize

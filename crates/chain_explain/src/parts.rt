@@ -3,23 +3,23 @@
 ghost use Rattle.std.specs.Prelude.{◌≡◌, ◌<◌, ◌≤◌, [], length, IfOk};
 ghost use Rattle.avr_model.specs.Devices.{device_of};
 ghost use Rattle.avr_model.specs.State.{SIZE};
-ghost use Rattle.mask_states.specs.Keys.{offset_of};
+ghost use Rattle.node_keys.specs.Keys.{offset_of};
 ghost use Rattle.edge_rules.specs.Views.{AreShown};
 ghost use Rattle.chain_explain.specs.Explanation.{adds_by, entry_next, IsNodePart, IsPart, AreParts};
 ghost use Rattle.chain_explain.specs.Reached.{AreReached};
 ghost use Rattle.chain_explain.specs.Moves.{AreMoves, IsThere, AreThere, moves_by};
-ghost use Rattle.call_graph.specs.Tasks.{task_of};
+ghost use Rattle.family_edges.specs.Tasks.{task_of};
 
 use crate::explanation::{Part, PartPlace};
 use crate::way::way;
 use avr_model::listed::Listed;
-use call_graph::{Filled, Task, Worked};
-use mask_states::{InstKey, NodeKey};
-use nesting_bound::{Link, Way};
+use family_edges::{Filled, Task, WorkedOut};
+use instance_graph::{GraphWay, Link};
+use node_keys::{InstKey, NodeKey};
 use std::alloc::AllocError;
 
 // The bytes that a link at this node adds; a return address takes `back` bytes.
-fn adds(key: &NodeKey, way: Option<Way>, back: u8) -> u16
+fn adds(key: &NodeKey, way: Option<GraphWay>, back: u8) -> u16
     requires { offset_of key.now.sp ≤ SIZE }
     ensures { result ≡ adds_by back (offset_of key.now.sp) way }
 {
@@ -32,7 +32,7 @@ fn adds(key: &NodeKey, way: Option<Way>, back: u8) -> u16
 // The part for a link of the chain at a node.
 fn node_part(
     task: &Task<'_>,
-    family: &Worked,
+    family: &WorkedOut,
     reached: &Filled,
     link: &Link,
 ) -> Result<Part, AllocError>
@@ -52,7 +52,7 @@ fn node_part(
 }
 
 // The word with which the instance of the next link begins.
-fn entry_next(reached: &Filled, rest: &[Link]) -> u16
+fn entry_next(reached: &Filled, rest: &[Link]) -> u32
     ensures { result ≡ entry_next reached.now rest.now }
 {
     let Some(link) = rest.first() else {
@@ -67,7 +67,7 @@ fn entry_next(reached: &Filled, rest: &[Link]) -> u16
 // The part for a link of the chain, which these links follow.
 fn part(
     task: &Task<'_>,
-    family: &Worked,
+    family: &WorkedOut,
     reached: &Filled,
     link: &Link,
     rest: &[Link],
@@ -79,19 +79,19 @@ fn part(
     ensures { IfOk result (IsPart (task_of task.now) family.now.nodes reached.now link.now rest.now) }
 {
     match link.way {
-        Some(Way::Recur) => Ok(Part {
+        Some(GraphWay::Recur) => Ok(Part {
             inst: InstKey::root(),
             place: PartPlace::Recur(entry_next(reached, rest)),
             adds: link.depth + u16::from(task.flash.device().back()),
         }),
-        Some(Way::Enters(_)) | None => node_part(task, family, reached, link),
+        Some(GraphWay::Enters(_)) | None => node_part(task, family, reached, link),
     }
 }
 
 // The parts for the links of a chain over the reached nodes.
 pub(crate) fn parts(
     task: &Task<'_>,
-    family: &Worked,
+    family: &WorkedOut,
     reached: &Filled,
     links: &[Link],
 ) -> Result<Listed<Part>, AllocError>

@@ -4,24 +4,24 @@ ghost use Rattle.std.specs.Prelude.{◌≡◌, ◌≤◌, length, IfOk};
 ghost use Rattle.avr_model.specs.Devices.{device_of};
 ghost use Rattle.edge_rules.specs.Families.{IsCovered};
 ghost use Rattle.edge_rules.specs.Views.{AreShown};
-ghost use Rattle.call_graph.specs.Landings.{AreLandings};
+ghost use Rattle.family_edges.specs.Landings.{AreLandings};
 ghost use Rattle.certificate.specs.Valid.{reset_node};
 ghost use Rattle.family_graph.specs.Graphs.{AreWays, IsPeopled};
 ghost use Rattle.chain_explain.specs.Moves.{kept_by, AreReachedBy};
-ghost use Rattle.call_graph.specs.Tasks.{task_of};
+ghost use Rattle.family_edges.specs.Tasks.{task_of};
 
 use crate::numbering::number_of;
 use crate::steps::leads;
 use avr_model::listed::Listed;
-use call_graph::{Filled, Task, Worked};
+use family_edges::{Filled, Task, WorkedOut};
 use family_graph::{Entering, entered_by};
 use local_rules::Node;
-use mask_states::{InstKey, NodeKey};
+use node_keys::{InstKey, NodeKey};
 use shortest_walk::reached;
 use std::alloc::{AllocError, Global};
 
 // Whether edges reach each node, by its number, from the one at reset, which exists.
-pub(crate) fn marks_of(task: &Task<'_>, family: &Worked) -> Result<Vec<bool>, AllocError>
+pub(crate) fn marks_of(task: &Task<'_>, family: &WorkedOut) -> Result<Vec<bool>, AllocError>
     requires shown { AreShown (device_of task.now.flash.now) family.now.nodes }
     requires few { length family.now.nodes ≤ 65536 }
     requires landings { AreLandings (task_of task.now) family.now.nodes family.now.landings }
@@ -54,7 +54,7 @@ pub(crate) fn kept(alloc: Global, nodes: &Filled, marks: &[bool]) -> Result<Fill
 // The entries of each marked node. Each instance that a node enters has its first node.
 pub(crate) fn kept_ways(
     task: &Task<'_>,
-    family: &Worked,
+    family: &WorkedOut,
     marks: &[bool],
 ) -> Result<Listed<Listed<Entering>>, AllocError>
     requires count { length marks.now ≡ length family.now.nodes }

@@ -4,7 +4,7 @@ ghost use Rattle.std.specs.Prelude.{◌≡◌, IfOk, map};
 ghost use Rattle.chain_explain.specs.Moves.{at_of, leads_by};
 
 use avr_model::listed::Listed;
-use call_graph::Landing;
+use family_edges::Landing;
 use std::alloc::{AllocError, Global};
 
 // The nodes of these landings.

@@ -8,13 +8,13 @@ ghost use Rattle.edge_rules.specs.Views.{AreShown};
 ghost use Rattle.chain_explain.specs.Reached.{IsReached};
 ghost use Rattle.chain_explain.specs.Walks.{pc_at, IsWay};
 ghost use Rattle.chain_explain.specs.Moves.{AreMoves, IsPortion, moves_of, moves_by, StayAbove};
-ghost use Rattle.call_graph.specs.Tasks.{task_of};
+ghost use Rattle.family_edges.specs.Tasks.{task_of};
 
 use crate::numbering::number_of;
 use avr_model::listed::Listed;
-use call_graph::{Filled, Landing, Task, Worked};
 use edge_rules::edge::is_entry;
-use mask_states::NodeKey;
+use family_edges::{Filled, Landing, Task, WorkedOut};
+use node_keys::NodeKey;
 use shortest_walk::shortest_walk;
 use std::alloc::{AllocError, Global};
 
@@ -35,7 +35,7 @@ fn counted_from(alloc: Global, low: usize, landings: &[Landing]) -> Result<Liste
 // The graph of the moves of the nodes of these numbers, which lead to one another alone, counted from the first.
 fn portion(
     alloc: Global,
-    family: &Worked,
+    family: &WorkedOut,
     low: usize,
     high: usize,
 ) -> Result<Vec<Listed<u32>>, AllocError>
@@ -59,7 +59,7 @@ fn words(
     nodes: &Filled,
     low: usize,
     numbers: &[u32],
-) -> Result<Listed<u16>, AllocError>
+) -> Result<Listed<u32>, AllocError>
     requires few { length nodes.now ≤ 65536 }
     requires inside { (i : ℕ) → Contains numbers.now i → low + i < length nodes.now }
     ensures { IfOk result (λ words. words ≡ map (λ i. pc_at nodes.now (low + i)) numbers.now) }
@@ -75,9 +75,9 @@ fn words(
 // and edges of the instance.
 pub(crate) fn way(
     task: &Task<'_>,
-    family: &Worked,
+    family: &WorkedOut,
     key: &NodeKey,
-) -> Result<Listed<u16>, AllocError>
+) -> Result<Listed<u32>, AllocError>
     requires shown { AreShown (device_of task.now.flash.now) family.now.nodes }
     requires moves { AreMoves (task_of task.now) family.now.nodes (moves_by family.now.landings) }
     requires there { HasKey family.now.nodes key.now }

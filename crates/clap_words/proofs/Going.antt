@@ -14,7 +14,7 @@ use Rattle.clap.specs.Faults.{use_fault}
 use Rattle.clap.specs.Walk.{Held, Row, has_row, without, with_values, used, used_by_id, settled, reacted, pushed, pending_count, most_values, takes_values, takes_several, is_multiple, is_pending, positional_held, next_position, arg_by_id, arg_by_index, arg_by_long, finished}
 use Rattle.clap.specs.Takes.{use_passes, settle_passes, react_passes, positional_passes, default_passes, is_valid, is_given}
 use Rattle.commands.specs.Options.{Valued, Assume, Steps, Device, Trials}
-use Rattle.commands.specs.Commands.{Line, named, waiting, with_value}
+use Rattle.commands.specs.Commands.{LineSoFar, named, waiting, with_value}
 use Rattle.clap_words.proofs.Pieces.{Piece, Named, Given, Marked, Mark, Json, Why, option_name, mark_name, all_added, value_of, valued, is_marked, marked, with_mark, gets, marks, same_value, same_mark, same_marks, StaysGiven, stays, some_is}
 use Rattle.clap_words.proofs.Steps.{goes, final, begun, name_goes, value_goes, option_goes, flag_goes}
 use Rattle.clap_words.proofs.Rows.{is_explicit, new_row, has_row_end, explicit_end, is_given_here, finally_given}
@@ -97,7 +97,7 @@ pub record IsStrict (s : Shape) (w : AllowsWords) : Type 0 where
   pub marked : (m : Mark) → is_some (arg_by_long s.rules (mark_name m)) ≡ w.marked m
 
 -- the line has what the command wants, and nothing else
-pub record IsWanted (w : AllowsWords) (l : Line) : Type 0 where
+pub record IsWanted (w : AllowsWords) (l : LineSoFar) : Type 0 where
   pub first : is_some l.first ≡ true
   pub second : is_some l.second ≡ w.second
   pub given : (v : Valued) → is_some (value_of v l) ≡ true → w.given v ≡ true
@@ -105,7 +105,7 @@ pub record IsWanted (w : AllowsWords) (l : Line) : Type 0 where
 
 -- ---- what is found is what stands on the line
 
-pub record ShowsRows (id : Text) (line : Line) (rows : List Row) : Type 0 where
+pub record ShowsRows (id : Text) (line : LineSoFar) (rows : List Row) : Type 0 where
   pub first : has_row id rows ≡ is_some line.first
   pub second : has_row (codes "second") rows ≡ is_some line.second
   pub given : (v : Valued) → has_row (option_name v) rows ≡ is_some (value_of v line)
@@ -119,14 +119,14 @@ keeps id r rows b h e = has_row_end id r rows ∙ ap₂ (λ (x y : Bool). x || y
 gains : (id : Text) (r : Row) (rows : List Row) → bytes_eq r.id id ≡ true → has_row id (rows ++ r ∷ []) ≡ true
 gains id r rows e = has_row_end id r rows ∙ ap (λ (y : Bool). has_row id rows || y) e ∙ or_with_true (has_row id rows)
 
-abbrev with_first : Line → Text → Line
+abbrev with_first : LineSoFar → Text → LineSoFar
 with_first line word = record line { first = Some word }
 
-abbrev with_second : Line → Text → Line
+abbrev with_second : LineSoFar → Text → LineSoFar
 with_second line word = record line { second = Some word }
 
 module _ (s : Shape) (w : AllowsWords) (id : Text) (level : IsWordLevel s w id) where
-  shows_first : (line : Line) (word : Text) (rows : List Row) (how : Reading) → ShowsRows id line rows → ShowsRows id (with_first line word) (rows ++ row id how (word ∷ []) ∷ [])
+  shows_first : (line : LineSoFar) (word : Text) (rows : List Row) (how : Reading) → ShowsRows id line rows → ShowsRows id (with_first line word) (rows ++ row id how (word ∷ []) ∷ [])
   shows_first line word rows how k = record {
     first = gains id (row id how (word ∷ [])) rows level.same;
     second = keeps (codes "second") (row id how (word ∷ [])) rows _ k.second level.of_second.0;
@@ -146,7 +146,7 @@ module _ (s : Shape) (w : AllowsWords) (id : Text) (level : IsWordLevel s w id) 
   second_is_no_mark Json = refl
   second_is_no_mark Why = refl
 
-  shows_second : (line : Line) (word : Text) (rows : List Row) (how : Reading) → is_some line.first ≡ true → ShowsRows id line rows
+  shows_second : (line : LineSoFar) (word : Text) (rows : List Row) (how : Reading) → is_some line.first ≡ true → ShowsRows id line rows
       → ShowsRows id (with_second line word) (rows ++ row (codes "second") how (word ∷ []) ∷ [])
   shows_second line word rows how there k = record {
     first = keeps id (row (codes "second") how (word ∷ [])) rows _ k.first level.of_second.1;
@@ -171,26 +171,26 @@ module _ (s : Shape) (w : AllowsWords) (id : Text) (level : IsWordLevel s w id) 
   mark_is_no_second Json = refl
   mark_is_no_second Why = refl
 
-  marked_first : (m : Mark) (line : Line) → (marked m line).first ≡ line.first
+  marked_first : (m : Mark) (line : LineSoFar) → (marked m line).first ≡ line.first
   marked_first Json line = refl
   marked_first Why line = refl
 
-  marked_second : (m : Mark) (line : Line) → (marked m line).second ≡ line.second
+  marked_second : (m : Mark) (line : LineSoFar) → (marked m line).second ≡ line.second
   marked_second Json line = refl
   marked_second Why line = refl
 
-  marked_value : (m : Mark) (v : Valued) (line : Line) → value_of v line ≡ value_of v (marked m line)
+  marked_value : (m : Mark) (v : Valued) (line : LineSoFar) → value_of v line ≡ value_of v (marked m line)
   marked_value Json v line = sym (same_value v line (marked Json line) refl refl refl refl)
   marked_value Why v line = sym (same_value v line (marked Why line) refl refl refl refl)
 
-  one_marked : (m k : Mark) (line : Line) (rows : List Row) (how : Reading) (values : List Text) → has_row (mark_name k) rows ≡ is_marked k line
+  one_marked : (m k : Mark) (line : LineSoFar) (rows : List Row) (how : Reading) (values : List Text) → has_row (mark_name k) rows ≡ is_marked k line
       → has_row (mark_name k) (rows ++ row (mark_name m) how values ∷ []) ≡ is_marked k (marked m line)
   one_marked Json Json line rows how values h = gains (mark_name Json) (row (mark_name Json) how values) rows refl
   one_marked Json Why line rows how values h = keeps (mark_name Why) (row (mark_name Json) how values) rows _ h refl
   one_marked Why Json line rows how values h = keeps (mark_name Json) (row (mark_name Why) how values) rows _ h refl
   one_marked Why Why line rows how values h = gains (mark_name Why) (row (mark_name Why) how values) rows refl
 
-  shows_marked : (m : Mark) (line : Line) (rows : List Row) (how : Reading) (values : List Text) → ShowsRows id line rows → ShowsRows id (marked m line) (rows ++ row (mark_name m) how values ∷ [])
+  shows_marked : (m : Mark) (line : LineSoFar) (rows : List Row) (how : Reading) (values : List Text) → ShowsRows id line rows → ShowsRows id (marked m line) (rows ++ row (mark_name m) how values ∷ [])
   shows_marked m line rows how values k = record {
     first = keeps id (row (mark_name m) how values) rows _ k.first (level.of_marked m).1 ∙ ap is_some (sym (marked_first m line));
     second = keeps (codes "second") (row (mark_name m) how values) rows _ k.second (mark_is_no_second m) ∙ ap is_some (sym (marked_second m line));
@@ -201,7 +201,7 @@ module _ (s : Shape) (w : AllowsWords) (id : Text) (level : IsWordLevel s w id) 
   }
 
   -- of one option's row and of another's
-  one_more : (v u : Valued) (line : Line) (word : Text) (rows : List Row) (how : Reading) → has_row (option_name u) rows ≡ is_some (value_of u line)
+  one_more : (v u : Valued) (line : LineSoFar) (word : Text) (rows : List Row) (how : Reading) → has_row (option_name u) rows ≡ is_some (value_of u line)
       → has_row (option_name u) (rows ++ row (option_name v) how (word ∷ []) ∷ []) ≡ is_some (value_of u (valued v line word))
   one_more Assume Assume line word rows how k = gains (option_name Assume) (row (option_name Assume) how (word ∷ [])) rows refl
   one_more Assume Steps line word rows how k = keeps (option_name Steps) (row (option_name Assume) how (word ∷ [])) rows _ k refl
@@ -220,13 +220,13 @@ module _ (s : Shape) (w : AllowsWords) (id : Text) (level : IsWordLevel s w id) 
   one_more Trials Device line word rows how k = keeps (option_name Device) (row (option_name Trials) how (word ∷ [])) rows _ k refl
   one_more Trials Trials line word rows how k = gains (option_name Trials) (row (option_name Trials) how (word ∷ [])) rows refl
 
-  same_first : (v : Valued) (line : Line) (word : Text) → (valued v line word).first ≡ line.first
+  same_first : (v : Valued) (line : LineSoFar) (word : Text) → (valued v line word).first ≡ line.first
   same_first Assume line word = refl
   same_first Steps line word = refl
   same_first Device line word = refl
   same_first Trials line word = refl
 
-  same_second : (v : Valued) (line : Line) (word : Text) → (valued v line word).second ≡ line.second
+  same_second : (v : Valued) (line : LineSoFar) (word : Text) → (valued v line word).second ≡ line.second
   same_second Assume line word = refl
   same_second Steps line word = refl
   same_second Device line word = refl
@@ -248,7 +248,7 @@ module _ (s : Shape) (w : AllowsWords) (id : Text) (level : IsWordLevel s w id) 
   none_is_mark Trials Json = refl
   none_is_mark Trials Why = refl
 
-  shows_given : (v : Valued) (line : Line) (word : Text) (rows : List Row) (how : Reading) → ShowsRows id line rows → ShowsRows id (valued v line word) (rows ++ row (option_name v) how (word ∷ []) ∷ [])
+  shows_given : (v : Valued) (line : LineSoFar) (word : Text) (rows : List Row) (how : Reading) → ShowsRows id line rows → ShowsRows id (valued v line word) (rows ++ row (option_name v) how (word ∷ []) ∷ [])
   shows_given v line word rows how k = record {
     first = keeps id (row (option_name v) how (word ∷ [])) rows _ k.first (level.of_given v).1 ∙ ap is_some (sym (same_first v line word));
     second = keeps (codes "second") (row (option_name v) how (word ∷ [])) rows _ k.second (none_is_second v) ∙ ap is_some (sym (same_second v line word));
@@ -314,7 +314,7 @@ module _ (s : Shape) (w : AllowsWords) (id : Text) (level : IsWordLevel s w id) 
   position (Some x) None = 2
   position (Some x) (Some y) = 3
 
-  ends : (line : Line) (h : Held) → settles s h ≡ true → ShowsRows id line (rows_at s h) → IsWanted w line → final s h ≡ true
+  ends : (line : LineSoFar) (h : Held) → settles s h ≡ true → ShowsRows id line (rows_at s h) → IsWanted w line → final s h ≡ true
   ends line h e k n =
       and_from (settles s h) _ e
       (and_from (list_all default_passes s.rules) _ level.defaults
@@ -322,12 +322,12 @@ module _ (s : Shape) (w : AllowsWords) (id : Text) (level : IsWordLevel s w id) 
       (λ t. finally_given (codes "second") s.rules (rows_at s h) (is_given_here (codes "second") (rows_at s h) k.explicit (k.second ∙ n.second ∙ t)))))
 
   Goes : List Piece → Type 0
-  Goes ps = (line l : Line) (h : Held) → settles s h ≡ true → ShowsRows id line (rows_at s h) → all_added (Some line) ps ≡ Some l → IsWanted w l → goes s h (position line.first line.second) ps ≡ true
+  Goes ps = (line l : LineSoFar) (h : Held) → settles s h ≡ true → ShowsRows id line (rows_at s h) → all_added (Some line) ps ≡ Some l → IsWanted w l → goes s h (position line.first line.second) ps ≡ true
 
   not_second : ◌≡◌ {A = Bool} false true → ⊥
   not_second e = cc
 
-  name_goes_by : (ps : List Piece) → Goes ps → (b : ℕ) (bs : List ℕ) (line l : Line) (h : Held) (f t : Option Text) → line.first ≡ f → line.second ≡ t → settles s h ≡ true → ShowsRows id line (rows_at s h)
+  name_goes_by : (ps : List Piece) → Goes ps → (b : ℕ) (bs : List ℕ) (line l : LineSoFar) (h : Held) (f t : Option Text) → line.first ≡ f → line.second ≡ t → settles s h ≡ true → ShowsRows id line (rows_at s h)
       → all_added (named f t line (b ∷ bs)) ps ≡ Some l → IsWanted w l → name_goes s h (position f t) (b ∷ bs) (arg_by_index s.rules (position f t)) (λ k j. goes s k j ps) ≡ true
   unfolding Goes
   name_goes_by ps go b bs line l h None None is_f is_t e k all n =
@@ -343,15 +343,15 @@ module _ (s : Shape) (w : AllowsWords) (id : Text) (level : IsWordLevel s w id) 
       ∙ go (with_second line (b ∷ bs)) l m me (subst (ShowsRows id (with_second line (b ∷ bs))) (sym mr) (shows_second line (b ∷ bs) (rows_at s h) p.usable.how (ap is_some is_f) k)) all n)
   name_goes_by ps go b bs line l h (Some x) (Some y) is_f is_t e k all n = absurd (none-some l all)
 
-  given_goes : (ps : List Piece) → Goes ps → (v : Valued) (b : ℕ) (bs : List ℕ) (line l : Line) (h : Held) → settles s h ≡ true → ShowsRows id line (rows_at s h)
+  given_goes : (ps : List Piece) → Goes ps → (v : Valued) (b : ℕ) (bs : List ℕ) (line l : LineSoFar) (h : Held) → settles s h ≡ true → ShowsRows id line (rows_at s h)
       → all_added (with_value v (waiting line v) (b ∷ bs)) ps ≡ Some l → IsWanted w l → goes s h (position line.first line.second) (Given v b bs ∷ ps) ≡ true
   unfolding Goes goes
   given_goes ps go v b bs line l h e k all n = by (with_value v (waiting line v) (b ∷ bs)) refl all where
-    by : (o : Option Line) → with_value v (waiting line v) (b ∷ bs) ≡ o → all_added o ps ≡ Some l → goes s h (position line.first line.second) (Given v b bs ∷ ps) ≡ true
+    by : (o : Option LineSoFar) → with_value v (waiting line v) (b ∷ bs) ≡ o → all_added o ps ≡ Some l → goes s h (position line.first line.second) (Given v b bs ∷ ps) ≡ true
     by None is all = absurd (none-some l all)
     by (Some next) is all =
         let is_next : next ≡ valued v line (b ∷ bs) = (gets v line next (b ∷ bs) is).is in
-        let on : all_added (Some (valued v line (b ∷ bs))) ps ≡ Some l = subst (λ (x : Line). all_added (Some x) ps ≡ Some l) is_next all in
+        let on : all_added (Some (valued v line (b ∷ bs))) ps ≡ Some l = subst (λ (x : LineSoFar). all_added (Some x) ps ≡ Some l) is_next all in
         let stay : StaysGiven (valued v line (b ∷ bs)) l = stays ps (valued v line (b ∷ bs)) l on in
         let p : IsOption s (option_name v) = level.given v (n.given v (stay.given v (has_it v))) in
         option_goes_on (option_name v) (b ∷ bs) p h (λ k. goes s k (position line.first line.second) ps) e (k.given v ∙ ap is_some (gets v line next (b ∷ bs) is).had)
@@ -363,14 +363,14 @@ module _ (s : Shape) (w : AllowsWords) (id : Text) (level : IsWordLevel s w id) 
           has_it Device = refl
           has_it Trials = refl
 
-  marked_goes : (ps : List Piece) → Goes ps → (m : Mark) (line l : Line) (h : Held) → settles s h ≡ true → ShowsRows id line (rows_at s h)
+  marked_goes : (ps : List Piece) → Goes ps → (m : Mark) (line l : LineSoFar) (h : Held) → settles s h ≡ true → ShowsRows id line (rows_at s h)
       → all_added (with_mark m line) ps ≡ Some l → IsWanted w l → goes s h (position line.first line.second) (Marked m ∷ ps) ≡ true
   unfolding Goes goes
   marked_goes ps go m line l h e k all n = by (with_mark m line) refl all where
-    by : (o : Option Line) → with_mark m line ≡ o → all_added o ps ≡ Some l → goes s h (position line.first line.second) (Marked m ∷ ps) ≡ true
+    by : (o : Option LineSoFar) → with_mark m line ≡ o → all_added o ps ≡ Some l → goes s h (position line.first line.second) (Marked m ∷ ps) ≡ true
     by None is all = absurd (none-some l all)
     by (Some next) is all =
-        let on : all_added (Some (marked m line)) ps ≡ Some l = subst (λ (x : Line). all_added (Some x) ps ≡ Some l) (marks m line next is).is all in
+        let on : all_added (Some (marked m line)) ps ≡ Some l = subst (λ (x : LineSoFar). all_added (Some x) ps ≡ Some l) (marks m line next is).is all in
         let p : IsFlag s (mark_name m) = level.marked m (n.marked m ((stays ps (marked m line) l on).marked m (there m))) in
         flag_goes_on (mark_name m) p h (λ k. goes s k (position line.first line.second) ps) e (k.marked m ∙ (marks m line next is).had)
         (λ q me mr. ap₂ (λ (x y : Option Text). goes s q (position x y) ps) (sym (marked_first m line)) (sym (marked_second m line))
@@ -379,7 +379,7 @@ module _ (s : Shape) (w : AllowsWords) (id : Text) (level : IsWordLevel s w id) 
           there Json = refl
           there Why = refl
 
-  pub goes_on : (ps : List Piece) (line l : Line) (h : Held) → settles s h ≡ true → ShowsRows id line (rows_at s h) → all_added (Some line) ps ≡ Some l → IsWanted w l → goes s h (position line.first line.second) ps ≡ true
+  pub goes_on : (ps : List Piece) (line l : LineSoFar) (h : Held) → settles s h ≡ true → ShowsRows id line (rows_at s h) → all_added (Some line) ps ≡ Some l → IsWanted w l → goes s h (position line.first line.second) ps ≡ true
   unfolding Goes goes
   goes_on [] line l h e k all n = ends line h e k (subst (IsWanted w) (sym (some_is line l all)) n)
   goes_on (Named b bs ∷ ps) line l h e k all n = name_goes_by ps (goes_on ps) b bs line l h line.first line.second refl refl e k all n

@@ -13,7 +13,7 @@ use Rattle.clap.specs.Takes.{values_pass, is_given}
 use Rattle.clap.proofs.OnLiterals.{clap_on_literals}
 use Rattle.commands.specs.Options.{Valued, Assume, Steps, Device, Trials}
 use Rattle.commands.specs.declared.line.Permitted.{Permitted}
-use Rattle.commands.specs.Commands.{Line, no_options, device_option, plain_options, steps_options, trials_options, json_options, why_options}
+use Rattle.commands.specs.Commands.{LineSoFar, no_options, device_option, plain_options, steps_options, trials_options, json_options, why_options}
 use Rattle.clap_words.specs.Lines.{name_rule, value_rule, flag_rule, judging_app, analyse_app, report_app, clear_app, premises_app, attain_app, simulate_app, demo_app, line_app, is_refused}
 use Rattle.clap_words.proofs.Levels.{below, IsLevelNamed, named_check, named_analyse, named_run, named_report, named_explain, named_clear, named_premises, named_attain, named_simulate, named_demo}
 use Rattle.clap_words.proofs.Pieces.{Mark, Json, Why, option_name, mark_name}
@@ -155,7 +155,7 @@ pub record IsKnown (name : Text) (words : AllowsWords) : Type 0 where
   pub strict : IsStrict shape words
   pub named : IsLevelNamed (built line_app) name shape
   pub free : is_refused name ≡ false
-  pub ends : (l : Line) (rows : List Row) → Shows l rows → Tells l (fold with_default rows shape.rules)
+  pub ends : (l : LineSoFar) (rows : List Row) → Shows l rows → Tells l (fold with_default rows shape.rules)
 
 judging_has : (n : Text) → IsWordLevel (below (judging_app n)) judging (codes "first")
 unfolding clap_on_literals

@@ -11,7 +11,7 @@ use Rattle.clap.specs.declared.builder.value_parser.Reading.TheVariants.{AsWritt
 use Rattle.clap.specs.Words.{Text, Rule, Row, first_of, one_of}
 use Rattle.clap.specs.Walk.{has_row, row_text, with_default, default_rows, more_values, reading_by}
 use Rattle.commands.specs.Options.{Valued, Assume, Steps, Device, Trials}
-use Rattle.commands.specs.Commands.{Line, empty_line}
+use Rattle.commands.specs.Commands.{LineSoFar, empty_line}
 use Rattle.clap_words.specs.Lines.{TellsMark}
 use Rattle.clap_words.proofs.Rows.{missing_row}
 use Rattle.clap_words.proofs.Pieces.{Mark, Json, Why, option_name, mark_name, value_of, valued, is_marked, marked, same_value, same_mark, same_marks}
@@ -56,7 +56,7 @@ abbrev pub mark_text : Bool → Option Text
 mark_text true = Some (codes "true")
 mark_text false = None
 
-pub record Shows (l : Line) (rows : List Row) : Type 0 where
+pub record Shows (l : LineSoFar) (rows : List Row) : Type 0 where
   pub first : first_of (codes "first") rows ≡ l.first
   pub second : first_of (codes "second") rows ≡ l.second
   pub given : (v : Valued) → first_of (option_name v) rows ≡ value_of v l
@@ -114,7 +114,7 @@ value_unmarked Device Why = (refl, refl)
 value_unmarked Trials Json = (refl, refl)
 value_unmarked Trials Why = (refl, refl)
 
-pub shows_first : (l : Line) (word : Text) (how : Reading) (rows : List Row) → has_row (codes "first") rows ≡ false → Shows l rows
+pub shows_first : (l : LineSoFar) (word : Text) (how : Reading) (rows : List Row) → has_row (codes "first") rows ≡ false → Shows l rows
     → Shows (record l { first = Some word }) (rows ++ told (codes "first") how word ∷ [])
 shows_first l word how rows none k =
     let r : Row = told (codes "first") how word in
@@ -125,7 +125,7 @@ shows_first l word how rows none k =
       marked = λ m. keeps_read (mark_name m) r rows (first_unmarked m).0 ∙ k.marked m ∙ ap mark_text (sym (same_mark m l (record l { first = Some word }) refl refl));
     }
 
-pub shows_second : (l : Line) (word : Text) (how : Reading) (rows : List Row) → has_row (codes "second") rows ≡ false → Shows l rows
+pub shows_second : (l : LineSoFar) (word : Text) (how : Reading) (rows : List Row) → has_row (codes "second") rows ≡ false → Shows l rows
     → Shows (record l { second = Some word }) (rows ++ told (codes "second") how word ∷ [])
 shows_second l word how rows none k =
     let r : Row = told (codes "second") how word in
@@ -140,7 +140,7 @@ shows_second l word how rows none k =
 same_option : Valued → Valued → Bool
 same_option v u = bytes_eq (option_name v) (option_name u)
 
-other_value : (v u : Valued) (l : Line) (word : Text) → bytes_eq (option_name v) (option_name u) ≡ false → value_of u (valued v l word) ≡ value_of u l
+other_value : (v u : Valued) (l : LineSoFar) (word : Text) → bytes_eq (option_name v) (option_name u) ≡ false → value_of u (valued v l word) ≡ value_of u l
 other_value Assume Assume l word e = absurd (cc)
 other_value Assume Steps l word e = refl
 other_value Assume Device l word e = refl
@@ -158,7 +158,7 @@ other_value Trials Steps l word e = refl
 other_value Trials Device l word e = refl
 other_value Trials Trials l word e = absurd (cc)
 
-own_value : (v u : Valued) (l : Line) (word : Text) → bytes_eq (option_name v) (option_name u) ≡ true → value_of u (valued v l word) ≡ Some word
+own_value : (v u : Valued) (l : LineSoFar) (word : Text) → bytes_eq (option_name v) (option_name u) ≡ true → value_of u (valued v l word) ≡ Some word
 own_value Assume Assume l word e = refl
 own_value Steps Steps l word e = refl
 own_value Device Device l word e = refl
@@ -176,13 +176,13 @@ own_value Trials Assume l word e = absurd (cc)
 own_value Trials Steps l word e = absurd (cc)
 own_value Trials Device l word e = absurd (cc)
 
-same_names : (v : Valued) (l : Line) (word : Text) → ((valued v l word).first ≡ l.first) × ((valued v l word).second ≡ l.second)
+same_names : (v : Valued) (l : LineSoFar) (word : Text) → ((valued v l word).first ≡ l.first) × ((valued v l word).second ≡ l.second)
 same_names Assume l word = (refl, refl)
 same_names Steps l word = (refl, refl)
 same_names Device l word = (refl, refl)
 same_names Trials l word = (refl, refl)
 
-pub shows_given : (v : Valued) (l : Line) (word : Text) (how : Reading) (rows : List Row) → has_row (option_name v) rows ≡ false → Shows l rows
+pub shows_given : (v : Valued) (l : LineSoFar) (word : Text) (how : Reading) (rows : List Row) → has_row (option_name v) rows ≡ false → Shows l rows
     → Shows (valued v l word) (rows ++ told (option_name v) how word ∷ [])
 shows_given v l word how rows none k = record {
   first = keeps_text (codes "first") r rows (first_apart v).1 ∙ k.first ∙ sym (same_names v l word).0;
@@ -199,15 +199,15 @@ shows_given v l word how rows none k = record {
     row_none u e = ap (λ (t : Text). has_row t rows) (sym ((bytes_eq-Decides (option_name v) (option_name u)).0 e)) ∙ none
   by u false e = keeps_text (option_name u) r rows e ∙ k.given u ∙ sym (other_value v u l word e)
 
-marked_names : (m : Mark) (l : Line) → ((marked m l).first ≡ l.first) × ((marked m l).second ≡ l.second)
+marked_names : (m : Mark) (l : LineSoFar) → ((marked m l).first ≡ l.first) × ((marked m l).second ≡ l.second)
 marked_names Json l = (refl, refl)
 marked_names Why l = (refl, refl)
 
-marked_values : (m : Mark) (v : Valued) (l : Line) → value_of v (marked m l) ≡ value_of v l
+marked_values : (m : Mark) (v : Valued) (l : LineSoFar) → value_of v (marked m l) ≡ value_of v l
 marked_values Json v l = same_value v l (marked Json l) refl refl refl refl
 marked_values Why v l = same_value v l (marked Why l) refl refl refl refl
 
-pub shows_marked : (m : Mark) (l : Line) (r : Row) (rows : List Row) → r.id ≡ mark_name m → row_text r ≡ Some (codes "true") → has_row (mark_name m) rows ≡ false → Shows l rows
+pub shows_marked : (m : Mark) (l : LineSoFar) (r : Row) (rows : List Row) → r.id ≡ mark_name m → row_text r ≡ Some (codes "true") → has_row (mark_name m) rows ≡ false → Shows l rows
     → Shows (marked m l) (rows ++ r ∷ [])
 shows_marked m l r rows is text none k = record {
   first = keeps_text (codes "first") r rows (apart (codes "first") (first_unmarked m).1) ∙ k.first ∙ sym (marked_names m l).0;
@@ -229,7 +229,7 @@ shows_marked m l r rows is text none k = record {
 
 -- ---- with defaults
 
-pub record Tells (l : Line) (rows : List Row) : Type 0 where
+pub record Tells (l : LineSoFar) (rows : List Row) : Type 0 where
   pub first : first_of (codes "first") rows ≡ l.first
   pub second : first_of (codes "second") rows ≡ l.second
   pub given : (v : Valued) → first_of (option_name v) rows ≡ value_of v l
@@ -239,7 +239,7 @@ tells_mark : (b : Bool) (o : Option Text) → o ≡ mark_text b → TellsMark b 
 tells_mark true o e = e
 tells_mark false o e = inl e
 
-pub tells : (l : Line) (rows : List Row) → Shows l rows → Tells l rows
+pub tells : (l : LineSoFar) (rows : List Row) → Shows l rows → Tells l rows
 tells l rows k = record { first = k.first; second = k.second; given = k.given; marked = λ m. tells_mark (is_marked m l) (one_of (mark_name m) rows) (k.marked m) }
 
 abbrev pub is_none_given : List Text → Bool
@@ -260,7 +260,7 @@ no_defaults (a ∷ rest) rows e =
     ap (λ (rs : List Row). fold with_default rs rest) (no_default a rows k.0) ∙ no_defaults rest rows k.1
 
 -- a use that says that it wasn't used is added at the end
-pub tells_default : (l : Line) (m : Mark) (a : Rule) (rows : List Row) → a.id ≡ mark_name m → a.defaults ≡ codes "false" ∷ [] → reading_by a ≡ AsWritten → Shows l rows → Tells l (with_default rows a)
+pub tells_default : (l : LineSoFar) (m : Mark) (a : Rule) (rows : List Row) → a.id ≡ mark_name m → a.defaults ≡ codes "false" ∷ [] → reading_by a ≡ AsWritten → Shows l rows → Tells l (with_default rows a)
 tells_default l m a rows is defaults how k = by (has_row a.id rows) refl where
   r : Row
   r = record { id = mark_name m; values = codes "false" ∷ []; count = None; source = Some DefaultValue; reading = AsWritten }

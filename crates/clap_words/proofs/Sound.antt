@@ -12,7 +12,7 @@ use Rattle.clap.specs.Walk.{Held, Waiting, Walk, walk, nothing_held, idle, optio
 use Rattle.clap.specs.Faults.{use_fault, settle_fault, react_fault, long_fault, positional_fault, step_fault, stray_fault, turn_fault, word_fault, walk_fault}
 use Rattle.clap.specs.declared.error.kind.ErrorKind.{ErrorKind}
 use Rattle.commands.specs.Options.{Valued, Assume, Steps, Device, Trials}
-use Rattle.commands.specs.Commands.{Line, empty_line, named, waiting, with_value, with_free, placed, with_word, then_words, is_name}
+use Rattle.commands.specs.Commands.{LineSoFar, empty_line, named, waiting, with_value, with_free, placed, with_word, then_words, is_name}
 use Rattle.clap_words.specs.Lines.{is_option, is_refused}
 use Rattle.clap_words.proofs.Pieces.{Mark, Json, Why, option_name, spelled, mark_name, mark_spelled, value_of, valued, is_marked, marked, with_mark}
 use Rattle.clap_words.proofs.Levels.{none_of, both_none, LevelPasses}
@@ -50,16 +50,16 @@ class (b ∷ bs) h = by (b == 45) refl (is_option (b ∷ bs)) refl h where
   by true is false k h = absurd (cc)
 
 -- how a line takes them
-free_name : (line : Line) (b : ℕ) (bs : List ℕ) → (b == 45) ≡ false → with_free line (b ∷ bs) ≡ named line.first line.second line (b ∷ bs)
+free_name : (line : LineSoFar) (b : ℕ) (bs : List ℕ) → (b == 45) ≡ false → with_free line (b ∷ bs) ≡ named line.first line.second line (b ∷ bs)
 free_name line b bs h = simp (h)
 
-free_option : (line : Line) (v : Valued) → with_free line (spelled v) ≡ Some (waiting line v)
+free_option : (line : LineSoFar) (v : Valued) → with_free line (spelled v) ≡ Some (waiting line v)
 free_option line Assume = refl
 free_option line Steps = refl
 free_option line Device = refl
 free_option line Trials = refl
 
-free_mark : (line : Line) (m : Mark) → with_free line (mark_spelled m) ≡ with_mark m line
+free_mark : (line : LineSoFar) (m : Mark) → with_free line (mark_spelled m) ≡ with_mark m line
 free_mark line Json = refl
 free_mark line Why = refl
 
@@ -136,42 +136,42 @@ Place f t One = (f ≡ None) × (t ≡ None)
 Place f t Two = (is_some f ≡ true) × (t ≡ None)
 Place f t Three = ⊤
 
-named_first : (f t : Option Text) (line : Line) (word : Text) → f ≡ None → named f t line word ≡ Some (record line { first = Some word })
+named_first : (f t : Option Text) (line : LineSoFar) (word : Text) → f ≡ None → named f t line word ≡ Some (record line { first = Some word })
 named_first None t line word e = refl
 named_first (Some x) t line word e = absurd (cc)
 
-named_second : (f t : Option Text) (line : Line) (word : Text) → is_some f ≡ true → t ≡ None → named f t line word ≡ Some (record line { second = Some word })
+named_second : (f t : Option Text) (line : LineSoFar) (word : Text) → is_some f ≡ true → t ≡ None → named f t line word ≡ Some (record line { second = Some word })
 named_second None t line word f e = absurd (cc)
 named_second (Some x) None line word f e = refl
 named_second (Some x) (Some y) line word f e = absurd (cc)
 
-with_value_is : (v : Valued) (line : Line) (word : Text) → value_of v line ≡ None → with_value v (waiting line v) word ≡ Some (valued v line word)
+with_value_is : (v : Valued) (line : LineSoFar) (word : Text) → value_of v line ≡ None → with_value v (waiting line v) word ≡ Some (valued v line word)
 with_value_is Assume line word e = ap (λ (o : Option Text). Rattle.commands.specs.Commands.with_assume (waiting line Assume) (Rattle.commands.specs.Commands.once o word)) e
 with_value_is Steps line word e = ap (λ (o : Option Text). Rattle.commands.specs.Commands.with_steps (waiting line Steps) (Rattle.commands.specs.Commands.once o word)) e
 with_value_is Device line word e = ap (λ (o : Option Text). Rattle.commands.specs.Commands.with_device (waiting line Device) (Rattle.commands.specs.Commands.once o word)) e
 with_value_is Trials line word e = ap (λ (o : Option Text). Rattle.commands.specs.Commands.with_trials (waiting line Trials) (Rattle.commands.specs.Commands.once o word)) e
 
-with_mark_is : (m : Mark) (line : Line) → is_marked m line ≡ false → with_mark m line ≡ Some (marked m line)
+with_mark_is : (m : Mark) (line : LineSoFar) → is_marked m line ≡ false → with_mark m line ≡ Some (marked m line)
 with_mark_is Json line e = ap (λ (b : Bool). cond b None (Some (marked Json line))) e
 with_mark_is Why line e = ap (λ (b : Bool). cond b None (Some (marked Why line))) e
 
-value_rests : (v : Valued) (line : Line) (word : Text) → (valued v line word).waits ≡ None
+value_rests : (v : Valued) (line : LineSoFar) (word : Text) → (valued v line word).waits ≡ None
 value_rests Assume line word = refl
 value_rests Steps line word = refl
 value_rests Device line word = refl
 value_rests Trials line word = refl
 
-mark_rests : (m : Mark) (line : Line) → (marked m line).waits ≡ line.waits
+mark_rests : (m : Mark) (line : LineSoFar) → (marked m line).waits ≡ line.waits
 mark_rests Json line = refl
 mark_rests Why line = refl
 
-value_place : (v : Valued) (line : Line) (word : Text) (i : Spot) → Place line.first line.second i → Place (valued v line word).first (valued v line word).second i
+value_place : (v : Valued) (line : LineSoFar) (word : Text) (i : Spot) → Place line.first line.second i → Place (valued v line word).first (valued v line word).second i
 value_place Assume line word i p = p
 value_place Steps line word i p = p
 value_place Device line word i p = p
 value_place Trials line word i p = p
 
-mark_place : (m : Mark) (line : Line) (i : Spot) → Place line.first line.second i → Place (marked m line).first (marked m line).second i
+mark_place : (m : Mark) (line : LineSoFar) (i : Spot) → Place line.first line.second i → Place (marked m line).first (marked m line).second i
 mark_place Json line i p = p
 mark_place Why line i p = p
 
@@ -188,16 +188,16 @@ module _ (s : Shape) (w : AllowsWords) (level : IsWordLevel s w (codes "first"))
   fails h = settle_fault s.rules s.args_override_self h
 
   -- between words: what was found is a line, if what waits can be used
-  record Stand (h : Held) (i : Spot) (o : Option Line) : Type 0 where
-    line : Line
+  record Stand (h : Held) (i : Spot) (o : Option LineSoFar) : Type 0 where
+    line : LineSoFar
     is : o ≡ Some line
     rests : line.waits ≡ None
     place : Place line.first line.second i
     shows : Shows line (rows_at s h)
 
   -- and in the end
-  pub record Reads (o : Option Line) (ws : List Text) (rows : List Row) : Type 0 where
-    pub line : Line
+  pub record Reads (o : Option LineSoFar) (ws : List Text) (rows : List Row) : Type 0 where
+    pub line : LineSoFar
     pub is : then_words o ws ≡ Some line
     pub rests : line.waits ≡ None
     pub shows : Shows line rows
@@ -205,18 +205,18 @@ module _ (s : Shape) (w : AllowsWords) (level : IsWordLevel s w (codes "first"))
   abbrev end_of : Walk → List Text → Held
   end_of v ws = (fold (walked s.rules []) v ws).held
 
-  Follows : Walk → List Text → Option Line → Type 0
+  Follows : Walk → List Text → Option LineSoFar → Type 0
   Follows v ws o = walk_fault s [] v ws ≡ [] → fails (end_of v ws) ≡ [] → Reads o ws (rows_at s (end_of v ws))
 
   -- the words behind the first
-  record Onward (v : Walk) (word : Text) (ws : List Text) (o : Option Line) : Type 0 where
+  record Onward (v : Walk) (word : Text) (ws : List Text) (o : Option LineSoFar) : Type 0 where
     after : Walk
-    then_is : Option Line
+    then_is : Option LineSoFar
     walks : walked s.rules [] v word ≡ after
     reads : then_words o (word ∷ ws) ≡ then_words then_is ws
     follows : Follows after ws then_is
 
-  onward : (v : Walk) (word : Text) (ws : List Text) (o : Option Line) → (turn_fault s [] v word ≡ [] → Onward v word ws o) → Follows v (word ∷ ws) o
+  onward : (v : Walk) (word : Text) (ws : List Text) (o : Option LineSoFar) → (turn_fault s [] v word ≡ [] → Onward v word ws o) → Follows v (word ∷ ws) o
   unfolding Follows walk_fault
   onward v word ws o f faults ends =
       let p : (turn_fault s [] v word ≡ []) × (walk_fault s [] (walked s.rules [] v word) ws ≡ []) = both_none (turn_fault s [] v word) _ faults in
@@ -231,18 +231,18 @@ module _ (s : Shape) (w : AllowsWords) (level : IsWordLevel s w (codes "first"))
       }
 
   IdleFollows : List Text → Type 0
-  IdleFollows ws = (h : Held) (i : Spot) (o : Option Line) → (fails h ≡ [] → Stand h i o) → Follows (at h idle (index i)) ws o
+  IdleFollows ws = (h : Held) (i : Spot) (o : Option LineSoFar) → (fails h ≡ [] → Stand h i o) → Follows (at h idle (index i)) ws o
 
   WaitsFollow : List Text → Type 0
-  WaitsFollow ws = (v : Valued) (p : IsOption s (option_name v)) (h : Held) (i : Spot) (line : Line) → line.waits ≡ None → Place line.first line.second i → Shows line (rows_at s h)
+  WaitsFollow ws = (v : Valued) (p : IsOption s (option_name v)) (h : Held) (i : Spot) (line : LineSoFar) → line.waits ≡ None → Place line.first line.second i → Shows line (rows_at s h)
       → Follows (at (begun s.rules p.rule h) (option p.rule.id) (index i)) ws (Some (waiting line v))
 
   -- ---- the parts of a turn
 
   -- the line of words that stand for a line
-  word_on : (o : Option Line) (line next : Line) (word : Text) (ws : List Text) → o ≡ Some line → line.waits ≡ None → with_free line word ≡ Some next → then_words o (word ∷ ws) ≡ then_words (Some next) ws
+  word_on : (o : Option LineSoFar) (line next : LineSoFar) (word : Text) (ws : List Text) → o ≡ Some line → line.waits ≡ None → with_free line word ≡ Some next → then_words o (word ∷ ws) ≡ then_words (Some next) ws
   word_on o line next word ws is rests e =
-      ap (λ (x : Option Line). then_words x (word ∷ ws)) is ∙ ap (λ (x : Option Valued). then_words (placed x line word) ws) rests ∙ ap (λ (x : Option Line). then_words x ws) e
+      ap (λ (x : Option LineSoFar). then_words x (word ∷ ws)) is ∙ ap (λ (x : Option Valued). then_words (placed x line word) ws) rests ∙ ap (λ (x : Option LineSoFar). then_words x ws) e
 
   hungry_fails : (v : Valued) (p : IsOption s (option_name v)) (h : Held) → fails (begun s.rules p.rule h) ≡ [] → ⊥
   hungry_fails v p h e = p.hungry (rows_at s h) (ap (λ (o : Option Rule). option_map_or (λ a. use_fault s.args_override_self a [] (rows_at s h)) o []) (sym p.usable.found) ∙ e)
@@ -283,12 +283,12 @@ module _ (s : Shape) (w : AllowsWords) (level : IsWordLevel s w (codes "first"))
 
   -- ---- turns between words
 
-  first_turn : (h : Held) (o : Option Line) (b : ℕ) (bs : List ℕ) (ws : List Text) → (fails h ≡ [] → Stand h One o) → IdleFollows ws → (b == 45) ≡ false
+  first_turn : (h : Held) (o : Option LineSoFar) (b : ℕ) (bs : List ℕ) (ws : List Text) → (fails h ≡ [] → Stand h One o) → IdleFollows ws → (b == 45) ≡ false
       → turn_fault s [] (at h idle 1) (b ∷ bs) ≡ [] → Onward (at h idle 1) (b ∷ bs) ws o
   unfolding IdleFollows
   first_turn h o b bs ws stand go n e =
       let t : Stand h One o = stand (name_settles h 1 (codes "first") level.first (name_passed s h 1 b bs n e)) in
-      let next : Line = record t.line { first = Some (b ∷ bs) } in
+      let next : LineSoFar = record t.line { first = Some (b ∷ bs) } in
       let k : Held = kept level.first.rule (b ∷ bs) h in
       record {
         after = at k idle 2;
@@ -306,14 +306,14 @@ module _ (s : Shape) (w : AllowsWords) (level : IsWordLevel s w (codes "first"))
             });
       }
 
-  second_turn : (h : Held) (o : Option Line) (b : ℕ) (bs : List ℕ) (ws : List Text) → (fails h ≡ [] → Stand h Two o) → IdleFollows ws → (b == 45) ≡ false
+  second_turn : (h : Held) (o : Option LineSoFar) (b : ℕ) (bs : List ℕ) (ws : List Text) → (fails h ≡ [] → Stand h Two o) → IdleFollows ws → (b == 45) ≡ false
       → turn_fault s [] (at h idle 2) (b ∷ bs) ≡ [] → Onward (at h idle 2) (b ∷ bs) ws o
   unfolding IdleFollows
   second_turn h o b bs ws stand go n e = by w.second refl where
     goes : IsPositional s 2 (codes "second") → Onward (at h idle 2) (b ∷ bs) ws o
     goes p =
         let t : Stand h Two o = stand (name_settles h 2 (codes "second") p (name_passed s h 2 b bs n e)) in
-        let next : Line = record t.line { second = Some (b ∷ bs) } in
+        let next : LineSoFar = record t.line { second = Some (b ∷ bs) } in
         let k : Held = kept p.rule (b ∷ bs) h in
         record {
           after = at k idle 3;
@@ -335,13 +335,13 @@ module _ (s : Shape) (w : AllowsWords) (level : IsWordLevel s w (codes "first"))
     by true is = goes (level.second is)
     by false is = absurd (no_position h 2 (no_some (arg_by_index s.rules 2) (strict.second ∙ is)) (name_passed s h 2 b bs n e))
 
-  name_turn : (h : Held) (i : Spot) (o : Option Line) (b : ℕ) (bs : List ℕ) (ws : List Text) → (fails h ≡ [] → Stand h i o) → IdleFollows ws → (b == 45) ≡ false
+  name_turn : (h : Held) (i : Spot) (o : Option LineSoFar) (b : ℕ) (bs : List ℕ) (ws : List Text) → (fails h ≡ [] → Stand h i o) → IdleFollows ws → (b == 45) ≡ false
       → turn_fault s [] (at h idle (index i)) (b ∷ bs) ≡ [] → Onward (at h idle (index i)) (b ∷ bs) ws o
   name_turn h One o b bs ws stand go n e = first_turn h o b bs ws stand go n e
   name_turn h Two o b bs ws stand go n e = second_turn h o b bs ws stand go n e
   name_turn h Three o b bs ws stand go n e = absurd (no_position h 3 (no_some (arg_by_index s.rules 3) strict.third) (name_passed s h 3 b bs n e))
 
-  option_turn : (h : Held) (i : Spot) (o : Option Line) (v : Valued) (ws : List Text) → (fails h ≡ [] → Stand h i o) → WaitsFollow ws
+  option_turn : (h : Held) (i : Spot) (o : Option LineSoFar) (v : Valued) (ws : List Text) → (fails h ≡ [] → Stand h i o) → WaitsFollow ws
       → turn_fault s [] (at h idle (index i)) (spelled v) ≡ [] → Onward (at h idle (index i)) (spelled v) ws o
   unfolding WaitsFollow
   option_turn h i o v ws stand go e = by (w.given v) refl where
@@ -361,7 +361,7 @@ module _ (s : Shape) (w : AllowsWords) (level : IsWordLevel s w (codes "first"))
           follows = go v p h i t.line t.rests t.place t.shows;
         }
 
-  mark_turn : (h : Held) (i : Spot) (o : Option Line) (m : Mark) (ws : List Text) → (fails h ≡ [] → Stand h i o) → IdleFollows ws
+  mark_turn : (h : Held) (i : Spot) (o : Option LineSoFar) (m : Mark) (ws : List Text) → (fails h ≡ [] → Stand h i o) → IdleFollows ws
       → turn_fault s [] (at h idle (index i)) (mark_spelled m) ≡ [] → Onward (at h idle (index i)) (mark_spelled m) ws o
   unfolding IdleFollows
   mark_turn h i o m ws stand go e = by (w.marked m) refl where
@@ -405,7 +405,7 @@ module _ (s : Shape) (w : AllowsWords) (level : IsWordLevel s w (codes "first"))
 
   -- ---- turns where an option waits
 
-  value_turn : (v : Valued) (p : IsOption s (option_name v)) (h : Held) (i : Spot) (line : Line) (b : ℕ) (bs : List ℕ) (ws : List Text) → line.waits ≡ None → Place line.first line.second i → Shows line (rows_at s h)
+  value_turn : (v : Valued) (p : IsOption s (option_name v)) (h : Held) (i : Spot) (line : LineSoFar) (b : ℕ) (bs : List ℕ) (ws : List Text) → line.waits ≡ None → Place line.first line.second i → Shows line (rows_at s h)
       → IdleFollows ws → (b == 45) ≡ false → Onward (at (begun s.rules p.rule h) (option p.rule.id) (index i)) (b ∷ bs) ws (Some (waiting line v))
   unfolding IdleFollows
   value_turn v p h i line b bs ws rests place shows go n =

@@ -14,7 +14,7 @@ use Rattle.clap.specs.Simple.{built, names_of, Shape}
 use Rattle.clap.proofs.OnLiterals.{clap_on_literals}
 use Rattle.commands.specs.Options.{Valued, Assume, Steps, Device, Trials}
 use Rattle.commands.specs.declared.line.Permitted.{Permitted}
-use Rattle.commands.specs.Commands.{Work, Command, Line, empty_line, then_words, device_in, no_options, device_option, plain_options, steps_options, trials_options, json_options, why_options, permits, asks, work_in, measured, called, whole, command_named}
+use Rattle.commands.specs.Commands.{Work, Command, LineSoFar, empty_line, then_words, device_in, no_options, device_option, plain_options, steps_options, trials_options, json_options, why_options, permits, asks, work_in, measured, called, whole, command_named}
 use Rattle.clap_words.specs.Lines.{line_app, is_option, is_refused, TellsLine}
 use Rattle.clap_words.proofs.Levels.{built_takes_named, level_fails, level_found, none_of, both_none}
 use Rattle.clap_words.proofs.Pieces.{Piece, Named, Given, Marked, Mark, Json, Why, spelled, mark_spelled, value_of, is_marked, all_words, AreFit, Cut, cut_words}
@@ -64,7 +64,7 @@ shows_nothing id = record { first = refl; second = refl; given = none; marked = 
   none Device = refl
   none Trials = refl
 
-good : (name : Text) (has : AllowsWords) (k : IsKnown name has) (word : Text) (words : List Text) (l : Line) → l.waits ≡ None → then_words (Some empty_line) words ≡ Some l → bytes_eq word name ≡ true → IsWanted has l → IsGood (word ∷ words)
+good : (name : Text) (has : AllowsWords) (k : IsKnown name has) (word : Text) (words : List Text) (l : LineSoFar) → l.waits ≡ None → then_words (Some empty_line) words ≡ Some l → bytes_eq word name ≡ true → IsWanted has l → IsGood (word ∷ words)
 good name has k word words l waits e is n =
     let c : Cut empty_line words l = cut_words words empty_line l refl waits e in
     subst IsGood (sym (ap₂ (λ (w : List ℕ) (ws : List (List ℕ)). w ∷ ws) ((bytes_eq-Decides word name).0 is) c.words)) (record {
@@ -78,7 +78,7 @@ either : {X G : Type 0} (b : Bool) (first rest : Option X) (x : X) → (b ≡ tr
 either true first rest x here later h = here refl h
 either false first rest x here later h = later h
 
-called_good : (word : List ℕ) (words : List (List ℕ)) (l : Line) (x : Command) → l.waits ≡ None → then_words (Some empty_line) words ≡ Some l → called word l ≡ Some x → IsGood (word ∷ words)
+called_good : (word : List ℕ) (words : List (List ℕ)) (l : LineSoFar) (x : Command) → l.waits ≡ None → then_words (Some empty_line) words ≡ Some l → called word l ≡ Some x → IsGood (word ∷ words)
 called_good word words l x waits e h =
     either (asks word l (codes "demo") no_options) (measured l.first l.second) _ x (λ is k. let m = measured_has l.first l.second x k in at (codes "demo") false no_options known_demo m.0 m.1 is)
     (λ k. let r = requested_has (device_in l.device) l.first l.assume (work_in word l l.second) x k in work_good l.second refl r.0 r.1.0 r.1.1) h where
@@ -101,7 +101,7 @@ called_good word words l x waits e h =
           (either (asks word l (codes "simulate") steps_options) _ _ w (λ a j. at (codes "simulate") true steps_options known_simulate first (ap is_some is) a)
           (λ j. absurd (none-some w j))))))))) k
 
-whole_good : (word : List ℕ) (words : List (List ℕ)) (o : Option Line) (x : Command) → then_words (Some empty_line) words ≡ o → whole word o ≡ Some x → IsGood (word ∷ words)
+whole_good : (word : List ℕ) (words : List (List ℕ)) (o : Option LineSoFar) (x : Command) → then_words (Some empty_line) words ≡ o → whole word o ≡ Some x → IsGood (word ∷ words)
 whole_good word words None x e h = absurd (none-some x h)
 whole_good word words (Some l) x e h = by l.waits refl h where
   by : (v : Option Valued) → l.waits ≡ v → cond (is_none v) (called word l) None ≡ Some x → IsGood (word ∷ words)
@@ -138,7 +138,7 @@ top = (built line_app).top
 pub record IsTold (ws : List Text) : Type 0 where
   pub name : Text
   pub rows : List Row
-  pub line : Line
+  pub line : LineSoFar
   pub found : subcommand_of line_app ws ≡ Some (name, rows)
   pub shows : TellsLine rows line
   pub command : called name line ≡ command_named ws

@@ -5,7 +5,7 @@ use Rattle.clap.specs.Words.{Text}
 use Rattle.avr_model.specs.declared.device.Device.{Device as Chip}
 use Rattle.commands.specs.declared.line.Permitted.{Permitted}
 use Rattle.commands.specs.Options.{Valued, Assume, Steps, Device, Trials}
-use Rattle.commands.specs.Commands.{Work, Command, Line, fits, permits_numbers, permits_marks, permits, requested, measured}
+use Rattle.commands.specs.Commands.{Work, Command, LineSoFar, fits, permits_numbers, permits_marks, permits, requested, measured}
 use Rattle.clap_words.proofs.Pieces.{Mark, Json, Why, value_of, is_marked}
 use Rattle.clap_words.proofs.Going.{IsWanted}
 use Rattle.clap_words.proofs.Known.{allows}
@@ -20,7 +20,7 @@ fitting false true e s = e
 fitting false false e s = s
 
 -- a line with these names and no options but these
-pub wanted : (second : Bool) (options : Permitted) (l : Line) → is_some l.first ≡ true → is_some l.second ≡ second → permits options l ≡ true → IsWanted (allows second options) l
+pub wanted : (second : Bool) (options : Permitted) (l : LineSoFar) → is_some l.first ≡ true → is_some l.second ≡ second → permits options l ≡ true → IsWanted (allows second options) l
 wanted second options l first has e = record { first = first; second = has; given = given; marked = marked } where
   assume : (fits options.assume (is_some l.assume) ≡ true) × ((fits options.device (is_some l.device) && (permits_numbers options l && permits_marks options l)) ≡ true)
   assume = both _ _ e

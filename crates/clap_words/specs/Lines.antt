@@ -5,7 +5,7 @@ use Rattle.std.specs.Str.{bytes_eq}
 use Rattle.clap.specs.Words.{App, Rule, Row, Text, first_of, one_of, new_app, new_rule, with_rule, with_subcommand}
 use Rattle.clap.specs.Simple.{new_shape}
 use Rattle.clap.specs.declared.builder.action.ArgAction.TheVariants.{SetTrue}
-use Rattle.commands.specs.Commands.{Line, is_name}
+use Rattle.commands.specs.Commands.{LineSoFar, is_name}
 use Rattle.clap_words.specs.declared.line.ArgumentKind.{ArgumentKind}
 use Rattle.clap_words.specs.declared.line.ArgumentKind.TheVariants.{Name, Value, Flag}
 
@@ -131,7 +131,7 @@ TellsMark true o = o ≡ Some (codes "true")
 TellsMark false o = (o ≡ None) ⊎ (o ≡ Some (codes "false"))
 
 -- what a command's matches say is this line
-pub record TellsLine (rows : List Row) (l : Line) : Type 0 where
+pub record TellsLine (rows : List Row) (l : LineSoFar) : Type 0 where
   pub first : first_of (codes "first") rows ≡ l.first
   pub second : first_of (codes "second") rows ≡ l.second
   pub assume : first_of (codes "assume") rows ≡ l.assume

@@ -4,7 +4,7 @@ ghost use Rattle.std.specs.Prelude.{◌≡◌, IfOk, List, Some, map};
 ghost use Rattle.std.specs.Option.{option_map};
 ghost use Rattle.std.specs.List.{list_any};
 ghost use Rattle.clap.specs.Words.{Row, Text, found_of, rows_of, subcommand_rows_of};
-ghost use Rattle.commands.specs.Commands.{Line, called, topic_of, topic_in, command_named, command_of};
+ghost use Rattle.commands.specs.Commands.{LineSoFar, called, topic_of, topic_in, command_named, command_of};
 ghost use Rattle.commands.specs.Views.{command_seen, line_of};
 ghost use Rattle.clap_words.specs.Lines.{TellsLine, is_option, is_refused};
 
@@ -48,7 +48,7 @@ fn has_refused(words: &[&str]) -> bool
 
 // What is left of a command's words once `clap` has parsed them.
 fn line_in<'a>(matches: &ArgMatches<'a>) -> CommandLine<'a>
-    ensures { (l : Line) → TellsLine (rows_of (found_of matches.now)) l → line_of result ≡ l }
+    ensures { (l : LineSoFar) → TellsLine (rows_of (found_of matches.now)) l → line_of result ≡ l }
 {
     CommandLine {
         first: matches.get_str("first"),
@@ -64,7 +64,7 @@ fn line_in<'a>(matches: &ArgMatches<'a>) -> CommandLine<'a>
 
 // The command that `clap` has parsed.
 fn command_in<'a>(matches: &ArgMatches<'a>) -> Option<Command<'a>>
-    ensures { (name : Text) (rows : List Row) (l : Line) → subcommand_rows_of matches.now ≡ Some (name, rows) → TellsLine rows l
+    ensures { (name : Text) (rows : List Row) (l : LineSoFar) → subcommand_rows_of matches.now ≡ Some (name, rows) → TellsLine rows l
         → option_map command_seen result ≡ called name l }
 {
     match matches.subcommand() {

@@ -19,16 +19,16 @@ use Rattle.avr_model.specs.Effects as effects
 use Rattle.sp_domain.specs.Tags.{Origin}
 use Rattle.abs_state.specs.declared.state.AbsState.{AbsState}
 use Rattle.abs_state.specs.Stands.{ByteStands}
-use Rattle.mask_states.specs.declared.keys.NodeKey.{NodeKey}
-use Rattle.mask_states.specs.declared.keys.Kind.{Kind}
-use Rattle.mask_states.specs.declared.keys.Kind.TheVariants.{Root, Call, Vector}
+use Rattle.node_keys.specs.declared.keys.NodeKey.{NodeKey}
+use Rattle.node_keys.specs.declared.keys.Kind.{Kind}
+use Rattle.node_keys.specs.declared.keys.Kind.TheVariants.{Root, Call, Vector}
 use Rattle.local_rules.specs.declared.pointers.Pointed.{Pointed}
 use Rattle.local_rules.specs.HighBytes.{view_by}
 use Rattle.local_rules.specs.Registers.{value}
 use Rattle.local_rules.specs.Reads.{pointed}
 use Rattle.local_rules.specs.Local.{step_before}
 use Rattle.local_rules.specs.Writes.{is_own_slot}
-use Rattle.mask_states.specs.Keys.{offset_of}
+use Rattle.node_keys.specs.Keys.{offset_of}
 use Rattle.local_rules.specs.Permitted.{may_be}
 use Rattle.local_rules.specs.Cover.{InFrameIn}
 use Rattle.clear_laws.specs.Aims.{Span, Reach, Aim, or_number, least_below, greatest_below, first_byte, last_byte, spanning, pair_span, raised, lowered, pointer_reach, permits_number, slot_at_number, slot_aimed, at_number}

@@ -3,7 +3,7 @@ use Rattle.std.proofs.Common.{◌+◌, ◌≤◌, List, [], ◌∷◌, ap, arith
 use Rattle.avr_model.specs.Devices.{ramend, device_of}
 use Rattle.avr_model.specs.State.{Memory}
 use Rattle.sp_domain.specs.Tags.{Origin}
-use Rattle.mask_states.specs.declared.keys.InstKey.{InstKey}
+use Rattle.node_keys.specs.declared.keys.InstKey.{InstKey}
 use Rattle.edge_rules.specs.Families.{RankedFamily, IsSoundFamily}
 use Rattle.edge_rules.specs.Frames.{Frame, AreLeft}
 use Rattle.local_rules.specs.Site.{Task}

@@ -1,8 +1,9 @@
 -- A call that is flagged for its depth enters a word that the node calls, and that has a `recur` line.
-use Rattle.std.proofs.Common.{◌≡◌, refl, sym, ap, ◌∙◌, subst, ℕ, ◌<◌, Bool, true, false, not, if◌then◌else◌, List, [], ◌∷◌, Option, Some, None, ⊎_elim, Contains}
+use Rattle.std.proofs.Common.{◌≡◌, refl, sym, ap, ◌∙◌, subst, ℕ, ◌<◌, Bool, true, false, not, if◌then◌else◌, List, [], ◌∷◌, Option, Some, None, ⊎_elim, Contains, ◌+◌, ◌*◌, arith}
 use Rattle.std.specs.List.{list_any}
 use Rattle.std.proofs.lemmas.Bool.{not-true, or_left, or_right}
 use Rattle.basics.specs.Items.{none_in, first_or_further}
+use Rattle.bit_domain.proofs.AllLaws.{bytes_are_sets}
 use Rattle.avr_model.specs.declared.device.Device.{Device}
 use Rattle.avr_model.specs.declared.instruction.Instr.{Instr}
 use Rattle.avr_model.specs.declared.instruction.Instr.TheVariants as i
@@ -12,14 +13,15 @@ use Rattle.avr_model.specs.Sites.{is_scratch}
 use Rattle.avr_model.specs.State.{State, fall, register, pair}
 use Rattle.avr_model.specs.Step.{unless_listed, unlisted_transfer, is_call, unless_within, deep_call}
 use Rattle.avr_model.specs.Text.{far}
-use Rattle.bit_domain.specs.TriByte.{Has}
+use Rattle.bit_domain.specs.TriByte.{Has, byte_known}
+use Rattle.bit_domain.specs.Numbers.{PointerBits}
 use Rattle.abs_state.specs.declared.state.AbsState.{AbsState}
-use Rattle.mask_states.specs.declared.keys.NodeKey.{NodeKey}
+use Rattle.node_keys.specs.declared.keys.NodeKey.{NodeKey}
 use Rattle.sp_domain.specs.Tags.{Origin}
 use Rattle.local_rules.specs.Raw.{fails, untracked_if}
 use Rattle.local_rules.specs.declared.local.NodeFault.{NodeFault}
 use Rattle.local_rules.specs.Registers.{bits, before}
-use Rattle.local_rules.specs.Flow.{is_half_written, words_on, targets_at, indirect_call}
+use Rattle.local_rules.specs.Flow.{is_half_written, words_on, z_with, targets_at, indirect_call}
 use Rattle.local_rules.specs.Cover.{InFrameIn, effect_by}
 use Rattle.local_rules.specs.Site.{Task, site_at}
 use Rattle.local_laws.proofs.AllLaws.{bare_frame, register_stands}
@@ -62,9 +64,17 @@ module _ {followed may : Bool} (task : Task) (m : State) (o : Origin) (k : NodeK
   z_has : (r : ℕ) → Has (bits s r) (register m r)
   z_has r = (register_stands m o k s (bare_frame m o k s sees at) r).bits
 
+  -- what the node's bits permit
+  abbrev z_bits : PointerBits
+  z_bits = z_with s (byte_known 0)
+
   -- Z is one of the words that the node's bits permit
-  z_permitted : register m 30 < 256 → register m 31 < 256 → Contains (words_on (device_of task.flash) (bits s 30) (bits s 31)) (wrapped (device_of task.flash) (pair m 30))
-  z_permitted low high = word_permitted (device_of task.flash) (bits s 30) (bits s 31) (register m 30) (register m 31) low high (z_has 30) (z_has 31)
+  z_permitted : register m 30 < 256 → register m 31 < 256 → Contains (words_on (device_of task.flash) z_bits) (wrapped (device_of task.flash) (pair m 30))
+  z_permitted low high =
+      let same : pair m 30 + 65536 * 0 ≡ pair m 30 = omega arith in
+      subst (λ (z : ℕ). Contains (words_on (device_of task.flash) z_bits) (wrapped (device_of task.flash) z)) same
+      (word_permitted (device_of task.flash) z_bits (register m 30) (register m 31) 0 low high (z_has 30) (z_has 31)
+      ((bytes_are_sets.known 0 0 (omega arith) (omega arith)).1 refl))
 
   abbrev cut : ℕ → Bool
   cut word = is_cut task.assumptions word
@@ -75,7 +85,7 @@ module _ {followed may : Bool} (task : Task) (m : State) (o : Origin) (k : NodeK
   indirect_cut low high targets found listed deep =
       ap (λ (x : Option (List ℕ)). list_any cut (or_none x)) found
       ∙ any_of cut targets (wrapped (device_of task.flash) (pair m 30))
-      (targets_have (device_of task.flash) (jump_line task.assumptions k.pc) (bits s 30) (bits s 31) targets (wrapped (device_of task.flash) (pair m 30)) found (z_permitted low high) listed) deep
+      (targets_have (device_of task.flash) (jump_line task.assumptions k.pc) z_bits targets (wrapped (device_of task.flash) (pair m 30)) found (z_permitted low high) listed) deep
 
   -- ---- each call
 

@@ -22,7 +22,7 @@ use Rattle.avr_model.specs.Vectors.{vector_word}
 use Rattle.avr_model.specs.Step.{Overflow, Flagged, after, all_inside, live_write, flagged_write, protected_write, unlisted_transfer, deep_call, first_of, refused_transfer, moves_vectors, is_pointer_store, is_indirect, is_call, is_refused, is_guarding, flag_by, flagged_or, may_take, go, step}
 use Rattle.pair_domain.specs.Facts.{is_followed}
 use Rattle.abs_state.specs.declared.state.AbsState.{AbsState}
-use Rattle.mask_states.specs.declared.keys.NodeKey.{NodeKey}
+use Rattle.node_keys.specs.declared.keys.NodeKey.{NodeKey}
 use Rattle.local_rules.specs.declared.local.Node.{Node}
 use Rattle.edge_rules.specs.Families.{RankedFamily, IsSoundFamily}
 use Rattle.edge_rules.specs.Frames.{Frame, Runs}
@@ -38,7 +38,7 @@ use Rattle.bit_domain.specs.declared.bytes.TriByte.{TriByte}
 use Rattle.local_rules.specs.Cover.{effect_by}
 use Rattle.local_rules.specs.Site.{Task, masks_by}
 use Rattle.clear_laws.specs.Clear.{store_at, is_slot_harmless}
-use Rattle.mask_states.specs.Keys.{offset_of}
+use Rattle.node_keys.specs.Keys.{offset_of}
 
 -- ---- which case a flag is of
 

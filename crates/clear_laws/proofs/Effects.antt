@@ -11,7 +11,7 @@ use Rattle.avr_model.specs.declared.instruction.ImmediateOp.TheVariants as immed
 use Rattle.avr_model.specs.declared.instruction.UnaryOp.{UnaryOp}
 use Rattle.avr_model.specs.declared.instruction.UnaryOp.TheVariants as unary
 use Rattle.avr_model.specs.declared.effect.Effect.{Effect}
-use Rattle.avr_model.specs.Devices.{Program, io_end, has_sph, wrapped}
+use Rattle.avr_model.specs.Devices.{Image, io_end, has_sph, wrapped}
 use Rattle.avr_model.specs.Text.{far}
 use Rattle.avr_model.specs.State.{State, register}
 use Rattle.avr_model.specs.Effects.{set, port, way_back, binary_effect, immediate_effect, unary_effect, effect_of}
@@ -23,9 +23,9 @@ use Rattle.bit_domain.proofs.AllLaws.{bytes_are_sets}
 use Rattle.std.proofs.lemmas.Bool.{and_from}
 use Rattle.abs_state.specs.declared.state.AbsState.{AbsState}
 use Rattle.sp_domain.specs.Tags.{Origin}
-use Rattle.mask_states.specs.declared.keys.NodeKey.{NodeKey}
-use Rattle.mask_states.specs.declared.keys.SpForm.{SpForm}
-use Rattle.mask_states.specs.declared.keys.SpForm.TheVariants.{Closed, Open}
+use Rattle.node_keys.specs.declared.keys.NodeKey.{NodeKey}
+use Rattle.node_keys.specs.declared.keys.SpForm.{SpForm}
+use Rattle.node_keys.specs.declared.keys.SpForm.TheVariants.{Closed, Open}
 use Rattle.local_rules.specs.declared.local.CallSite.{CallSite}
 use Rattle.local_rules.specs.declared.local.NodeFault.{NodeFault}
 use Rattle.local_rules.specs.Registers.{bits}
@@ -108,8 +108,8 @@ ivsel_low device a byte sets = (ivsel_there device a byte sets).1
 
 -- ---- operations on registers
 
-module _ (words : Program) (m : State) where
-  binary_plain : (op : BinaryOp) (d r : ℕ) → ((binary_effect words m op d r).stores ≡ []) × ((binary_effect words m op d r).pushes ≡ [])
+module _ (image : Image) (m : State) where
+  binary_plain : (op : BinaryOp) (d r : ℕ) → ((binary_effect image m op d r).stores ≡ []) × ((binary_effect image m op d r).pushes ≡ [])
   binary_plain binary.Cpc d r = (refl, refl)
   binary_plain binary.Sbc d r = (refl, refl)
   binary_plain binary.Add d r = (refl, refl)

@@ -10,8 +10,8 @@ use Rattle.basics.specs.Lists.{get_inside}
 use Rattle.edge_rules.specs.Places.{found_at}
 use Rattle.certificate.proofs.AllLaws.{number_of}
 use Rattle.avr_model.specs.declared.device.Device.{Device}
-use Rattle.mask_states.specs.declared.keys.NodeKey.{NodeKey}
-use Rattle.mask_states.specs.Keys.{offset_of}
+use Rattle.node_keys.specs.declared.keys.NodeKey.{NodeKey}
+use Rattle.node_keys.specs.Keys.{offset_of}
 use Rattle.local_rules.specs.declared.local.Node.{Node}
 use Rattle.edge_rules.specs.Views.{AreShown, place_of}
 use Rattle.clear_laws.specs.Held.{MayHold, kept, pushed}

@@ -11,15 +11,15 @@ use Rattle.avr_model.specs.Step.{Done, step}
 use Rattle.sp_domain.specs.Tags.{Origin}
 use Rattle.abs_state.specs.declared.state.AbsState.{AbsState}
 use Rattle.abs_state.specs.PairsBack.{returned}
-use Rattle.mask_states.specs.declared.keys.InstKey.{InstKey}
-use Rattle.mask_states.specs.declared.keys.NodeKey.{NodeKey}
-use Rattle.mask_states.specs.declared.keys.EdgeKind.{EdgeKind}
-use Rattle.mask_states.specs.declared.keys.EdgeKind.TheVariants as kind
-use Rattle.mask_states.specs.declared.keys.High.{High}
-use Rattle.mask_states.specs.declared.keys.SpForm.{SpForm}
-use Rattle.mask_states.specs.declared.keys.SpForm.TheVariants.{Closed, Open}
-use Rattle.mask_states.specs.Keys.{offset_of}
-use Rattle.mask_states.specs.Place.{SpIs}
+use Rattle.node_keys.specs.declared.keys.InstKey.{InstKey}
+use Rattle.node_keys.specs.declared.keys.NodeKey.{NodeKey}
+use Rattle.node_keys.specs.declared.keys.EdgeKind.{EdgeKind}
+use Rattle.node_keys.specs.declared.keys.EdgeKind.TheVariants as kind
+use Rattle.node_keys.specs.declared.keys.High.{High}
+use Rattle.node_keys.specs.declared.keys.SpForm.{SpForm}
+use Rattle.node_keys.specs.declared.keys.SpForm.TheVariants.{Closed, Open}
+use Rattle.node_keys.specs.Keys.{offset_of}
+use Rattle.node_keys.specs.Place.{SpIs}
 use Rattle.local_rules.specs.declared.local.Node.{Node}
 use Rattle.local_rules.specs.declared.local.Exit.{Exit}
 use Rattle.local_rules.specs.Local.{joined_onto}
@@ -63,7 +63,7 @@ fits base sp a offset is_open form e is h = let at = subst (SpIs base is_open sp
 open_is : (base : ℕ) (is_open : Bool) (sp offset : ℕ) (h : High) (form : SpForm) → form ≡ Open offset h → SpIs base is_open sp form → is_open ≡ true
 open_is base is_open sp offset h form e is = (subst (SpIs base is_open sp) e is).0
 
-few_live : (n : State) → IsMachine n → n.memory.below + length n.memory.live < 16896
+few_live : (n : State) → IsMachine n → n.memory.below + length n.memory.live < 33280
 few_live n machine = omega (arith, machine.below, machine.count_live, devices_are_alike.most_bytes n.device, devices_are_alike.most_io n.device)
 
 module _ (task : Task) (f : RankedFamily) (sound : IsSoundFamily task f) where
@@ -207,7 +207,7 @@ module _ (task : Task) (f : RankedFamily) (sound : IsSoundFamily task f) where
     whole_at_take : (v : ℕ) (clears : Bool) (h : Frame) (hs : List Frame) → Change task g gs (Take v clears) h hs → IsSpWhole g.node.key.sp
     whole_at_take _ _ _ _ (interrupted v clears state o enters over) = whole_where_entered enters
 
-    comes : (few : n.memory.below + length n.memory.live < 16896) (c : Choice) (h : Frame) (hs : List Frame) → Change task g gs c h hs → step task.flash task.assumptions m c ≡ Done n → ComesFrom task g m n c
+    comes : (few : n.memory.below + length n.memory.live < 33280) (c : Choice) (h : Frame) (hs : List Frame) → Change task g gs c h hs → step task.flash task.assumptions m c ≡ Done n → ComesFrom task g m n c
     comes few (Go b1 b2) h hs change e = comes_by_go task f sound m n few g gs runs b1 b2 e
     comes few (Take v clears) h hs change e = comes_by_take task f sound m n few g gs runs v clears e (whole_at_take v clears h hs change)
 

@@ -5,19 +5,19 @@ use Rattle.basics.specs.Items.{none_in, each_of_join}
 use Rattle.avr_model.specs.declared.device.Device.{Device}
 use Rattle.avr_model.specs.declared.instruction.Instr.{Instr}
 use Rattle.avr_model.specs.declared.instruction.Instr.TheVariants as i
-use Rattle.avr_model.specs.Devices.{Program, size_of, device_of}
+use Rattle.avr_model.specs.Devices.{Image, size_of, device_of}
 use Rattle.avr_model.specs.Marks.{marks}
 use Rattle.avr_model.specs.Sites.{instruction_at, is_scratch, adds_low}
 use Rattle.pair_domain.specs.declared.facts.PairFacts.{PairFacts}
 use Rattle.abs_state.specs.declared.state.AbsState.{AbsState}
 use Rattle.pair_rules.specs.Refined.{refined}
-use Rattle.mask_states.specs.declared.keys.NodeKey.{NodeKey}
-use Rattle.mask_states.specs.declared.keys.InstKey.{InstKey}
-use Rattle.mask_states.specs.declared.keys.EdgeKind.{EdgeKind}
-use Rattle.mask_states.specs.declared.keys.EdgeKind.TheVariants as kind
-use Rattle.mask_states.specs.declared.keys.SpForm.{SpForm}
-use Rattle.mask_states.specs.declared.keys.SpForm.TheVariants.{Closed, Open}
-use Rattle.mask_states.specs.Keys.{offset_of}
+use Rattle.node_keys.specs.declared.keys.NodeKey.{NodeKey}
+use Rattle.node_keys.specs.declared.keys.InstKey.{InstKey}
+use Rattle.node_keys.specs.declared.keys.EdgeKind.{EdgeKind}
+use Rattle.node_keys.specs.declared.keys.EdgeKind.TheVariants as kind
+use Rattle.node_keys.specs.declared.keys.SpForm.{SpForm}
+use Rattle.node_keys.specs.declared.keys.SpForm.TheVariants.{Closed, Open}
+use Rattle.node_keys.specs.Keys.{offset_of}
 use Rattle.local_rules.specs.declared.local.Node.{Node}
 use Rattle.local_rules.specs.Raw.{Raw, one}
 use Rattle.local_rules.specs.Registers.{before}
@@ -69,10 +69,10 @@ where_above : (offset : ℕ) (k : NodeKey) (x : Option AbsState) → offset < of
 where_above offset k None lt to h = absurd (none_in to h)
 where_above offset k (Some s) lt to h = one_above offset k s lt to h
 
-refined_above : (words : Program) (instr : Instr) (s : AbsState) (offset : ℕ) (r : Raw) → AllAbove offset r → AllAbove offset (refining words instr s r)
-refined_above words instr s offset r h =
-    each_of_join (λ (n : Node). node_where n.key (refined (marks words) words instr s n.state)) (λ (to : Node). offset < offset_of to.key.sp) r.moves
-    (λ n to i j. where_above offset n.key (refined (marks words) words instr s n.state) (h n i) to j)
+refined_above : (image : Image) (instr : Instr) (s : AbsState) (offset : ℕ) (r : Raw) → AllAbove offset r → AllAbove offset (refining image instr s r)
+refined_above image instr s offset r h =
+    each_of_join (λ (n : Node). node_where n.key (refined (marks image) image instr s n.state)) (λ (to : Node). offset < offset_of to.key.sp) r.moves
+    (λ n to i j. where_above offset n.key (refined (marks image) image instr s n.state) (h n i) to j)
 
 row_by_above : (device : Device) (task : Task) (scratch : Bool) (k : NodeKey) (s : AbsState) (facts : Option PairFacts) (instr : Instr) → is_push instr ≡ true
     → AllAbove (offset_of k.sp) (row_by facts task scratch (site_at device k s) instr)

@@ -7,7 +7,7 @@ use Rattle.std.specs.Ordering.{nat_cmp}
 use Rattle.std.specs.declared.cmp.Ordering.TheVariants.{Less}
 use Rattle.std.proofs.lemmas.Bool.Decides.{nat_tests}
 use Rattle.basics.specs.Items.{none_in, first_in, further_in, first_or_further, contained_at}
-use Rattle.avr_model.specs.Devices.{Program}
+use Rattle.avr_model.specs.Devices.{Image}
 use Rattle.basics.specs.Lists.{same_head_and_tail}
 use Rattle.local_rules.specs.declared.local.Node.{Node}
 use Rattle.edge_rules.specs.Families.{RankedFamily}
@@ -118,12 +118,12 @@ one_take task c xs ys a b w h =
 pub nevers_are_one : NeversAreOne
 nevers_are_one task c xs ys a b = same_lists xs ys a.ascending b.ascending (one_take task c xs ys a b) (one_take task c ys xs b a)
 
-listed : (words : Program) (c : Claim) (j pc : ℕ) (sites : List ℕ) → IsFirstUnclear (bare words) c j pc → AreSites (bare words) c sites → Contains sites pc
-listed words c j pc sites first are =
-    let same = filled_or_missing.one (bare words) c.nodes first.nodes are.nodes first.expanded are.expanded in
-    let m : MayBeFlagged (bare words) (family_of c first.nodes) pc =
+listed : (image : Image) (c : Claim) (j pc : ℕ) (sites : List ℕ) → IsFirstUnclear (bare image) c j pc → AreSites (bare image) c sites → Contains sites pc
+listed image c j pc sites first are =
+    let same = filled_or_missing.one (bare image) c.nodes first.nodes are.nodes first.expanded are.expanded in
+    let m : MayBeFlagged (bare image) (family_of c first.nodes) pc =
     record { node = first.node; present = contained_at first.nodes j first.node first.is; is = first.word; unclear = first.unclear } in
-    (are.exact pc).1 (subst (λ (nodes : List Node). MayBeFlagged (bare words) (family_of c nodes) pc) same m)
+    (are.exact pc).1 (subst (λ (nodes : List Node). MayBeFlagged (bare image) (family_of c nodes) pc) same m)
 
 pub none_where_clear : (task : Task) (c : Claim) (sites : List ℕ) → AreSites task c sites → AreAllClear task c → sites ≡ []
 none_where_clear task c [] are all = refl
@@ -133,8 +133,8 @@ none_where_clear task c (pc ∷ sites) are all =
     absurd (m.unclear (subst (λ (nodes : List Node). (n : Node) → Contains nodes n → IsClear task (family_of c nodes) n) same all.clear m.node m.present))
 
 pub clear_where_no_sites : ClearWhereNoSites
-clear_where_no_sites words c Clear sites all are = (λ e. none_where_clear (bare words) c sites are all, λ e. refl)
-clear_where_no_sites words c (Unclear j pc) sites first are = (
+clear_where_no_sites image c Clear sites all are = (λ e. none_where_clear (bare image) c sites are all, λ e. refl)
+clear_where_no_sites image c (Unclear j pc) sites first are = (
   λ e. absurd cc,
-  λ e. absurd (none_in pc (subst (λ (xs : List ℕ). Contains xs pc) e (listed words c j pc sites first are))),
+  λ e. absurd (none_in pc (subst (λ (xs : List ℕ). Contains xs pc) e (listed image c j pc sites first are))),
 )

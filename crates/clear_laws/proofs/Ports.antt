@@ -5,7 +5,7 @@ use Rattle.local_laws.proofs.AllLaws.{bound_of, letter_below}
 use Rattle.avr_model.specs.declared.device.Device.{Device}
 use Rattle.avr_model.specs.declared.instruction.Instr.{Instr}
 use Rattle.avr_model.specs.declared.instruction.Instr.TheVariants as i
-use Rattle.avr_model.specs.Devices.{Program, device_of}
+use Rattle.avr_model.specs.Devices.{Image, device_of}
 use Rattle.avr_model.specs.Image.{word_at}
 use Rattle.avr_model.specs.Pattern.{places, letter}
 use Rattle.avr_model.specs.Sites.{instruction_at, on_device, is_lacking}
@@ -54,6 +54,6 @@ device_fits device (Some y) instr h e = by (is_lacking device y) e
     by true e = absurd (cc)
     by false e = let is : y ≡ instr = cc in subst PortFits is (h y refl)
 
-pub ports_fit : (words : Program) (pc : ℕ) (instr : Instr) → instruction_at words pc ≡ Some instr → PortFits instr
-ports_fit words pc instr e =
-    device_fits (device_of words) (decoded (word_at words pc) (word_at words (pc + 1))) instr (λ y is. decoded_fits (word_at words pc) (word_at words (pc + 1)) y is) e
+pub ports_fit : (image : Image) (pc : ℕ) (instr : Instr) → instruction_at image pc ≡ Some instr → PortFits instr
+ports_fit image pc instr e =
+    device_fits (device_of image) (decoded (word_at image pc) (word_at image (pc + 1))) instr (λ y is. decoded_fits (word_at image pc) (word_at image (pc + 1)) y is) e

@@ -39,12 +39,12 @@ pushed_at device (suc n) sp word a fits few (inr h) =
 
 -- Such an address in SRAM is at the stack pointer or below: with a high byte SRAM ends far below what it wraps to, and without one the
 -- stack pointer is above I/O.
-low_by : (has_high : Bool) (sp i a : ℕ) → sp < counted has_high → i < 3 → a < 16896 → (has_high ≡ false → 3 ≤ sp) → a ≡ under has_high sp i → a ≤ sp
+low_by : (has_high : Bool) (sp i a : ℕ) → sp < counted has_high → i < 3 → a < 33280 → (has_high ≡ false → 3 ≤ sp) → a ≡ under has_high sp i → a ≤ sp
 low_by true sp i a fits few inside above e = omega (arith, fits, few, inside, e)
 low_by false sp i a fits few inside above e = let over : 3 ≤ sp = above refl in omega (arith, fits, few, over, e)
 
 -- a byte of the return address lies at the stack pointer or below
-pub way_low : (device : Device) (sp back base offset a : ℕ) → sp + offset ≡ base → sp < sp_count device → (has_sph device ≡ false → 3 ≤ sp) → a < 16896
+pub way_low : (device : Device) (sp back base offset a : ℕ) → sp + offset ≡ base → sp < sp_count device → (has_sph device ≡ false → 3 ≤ sp) → a < 33280
     → IsPushedAt (way_back device sp back) a → a + offset ≤ base
 way_low device sp back base offset a at fits above inside h =
     let most = devices_are_alike.most_back device in

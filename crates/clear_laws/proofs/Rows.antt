@@ -4,13 +4,13 @@ use Rattle.std.proofs.Common.{◌≡◌, refl, sym, ap, ◌∙◌, ℕ, Bool, tr
 use Rattle.avr_model.specs.declared.device.Device.{Device}
 use Rattle.avr_model.specs.declared.instruction.Instr.{Instr}
 use Rattle.avr_model.specs.declared.instruction.Instr.TheVariants as i
-use Rattle.avr_model.specs.Devices.{Program, words_of, size_of, device_of}
+use Rattle.avr_model.specs.Devices.{Image, words_of, size_of, device_of}
 use Rattle.avr_model.specs.Sites.{instruction_at, is_scratch, adds_low, is_some_that, table_site}
 use Rattle.avr_model.specs.Step.{is_call}
 use Rattle.pair_domain.specs.declared.facts.PairFacts.{PairFacts}
 use Rattle.abs_state.specs.declared.state.AbsState.{AbsState}
-use Rattle.mask_states.specs.declared.keys.NodeKey.{NodeKey}
-use Rattle.mask_states.specs.Keys.{offset_of}
+use Rattle.node_keys.specs.declared.keys.NodeKey.{NodeKey}
+use Rattle.node_keys.specs.Keys.{offset_of}
 use Rattle.local_rules.specs.declared.local.Node.{Node}
 use Rattle.local_rules.specs.Raw.{Raw, untracked_if, too_deep_if}
 use Rattle.local_rules.specs.Registers.{before}
@@ -84,11 +84,11 @@ record IsLikePlain (r plain : Raw) : Type 0 where
   faults : r.faults ≡ plain.faults
   none : plain.moves ≡ [] → r.moves ≡ []
 
-refined_none : (words : Program) (instr : Instr) (s : AbsState) (nodes : List Node) → nodes ≡ [] → refined_nodes words instr s nodes ≡ []
-refined_none words instr s nodes e = ap (refined_nodes words instr s) e
+refined_none : (image : Image) (instr : Instr) (s : AbsState) (nodes : List Node) → nodes ≡ [] → refined_nodes image instr s nodes ≡ []
+refined_none image instr s nodes e = ap (refined_nodes image instr s) e
 
-refining_is : (words : Program) (instr : Instr) (s : AbsState) (r : Raw) → IsLikePlain (refining words instr s r) r
-refining_is words instr s r = record { faults = refl; none = refined_none words instr s r.moves }
+refining_is : (image : Image) (instr : Instr) (s : AbsState) (r : Raw) → IsLikePlain (refining image instr s r) r
+refining_is image instr s r = record { faults = refl; none = refined_none image instr s r.moves }
 
 like_plain : (facts : Option PairFacts) (device : Device) (task : Task) (scratch : Bool) (k : NodeKey) (s : AbsState) (instr : Instr) → pushes instr ≡ true
     → IsLikePlain (row_by facts task scratch (site_at device k s) instr) (row_of task scratch (site_at device k (before instr s)) instr)

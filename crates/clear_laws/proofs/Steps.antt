@@ -16,11 +16,11 @@ use Rattle.avr_model.specs.Effects.{way_back}
 use Rattle.avr_model.specs.Assumptions.{has_scratch}
 use Rattle.avr_model.specs.Step.{Illegal, Overflow, Done, after, all_inside, live_write, protected_write, refused_transfer, moves_vectors, is_refused, is_push, is_guarding, flag_by, flagged_or, memory_after, open_after, sp_after, may_take, entering, never_target, take, go, step}
 use Rattle.abs_state.specs.declared.state.AbsState.{AbsState}
-use Rattle.mask_states.specs.declared.keys.NodeKey.{NodeKey}
-use Rattle.mask_states.specs.declared.keys.SpForm.{SpForm}
-use Rattle.mask_states.specs.declared.keys.SpForm.TheVariants.{Closed}
-use Rattle.mask_states.specs.Keys.{offset_of}
-use Rattle.mask_states.specs.Place.{SpIs}
+use Rattle.node_keys.specs.declared.keys.NodeKey.{NodeKey}
+use Rattle.node_keys.specs.declared.keys.SpForm.{SpForm}
+use Rattle.node_keys.specs.declared.keys.SpForm.TheVariants.{Closed}
+use Rattle.node_keys.specs.Keys.{offset_of}
+use Rattle.node_keys.specs.Place.{SpIs}
 use Rattle.local_rules.specs.Registers.{before}
 use Rattle.local_rules.specs.Local.{row_of}
 use Rattle.edge_rules.specs.Edges.{raw_of}
@@ -131,16 +131,16 @@ module _ (task : Task) (f : RankedFamily) (m : State) (g : Frame) (gs : List Fra
   far_sp none =
       omega (arith, runs.running.room (masked_by task m runs.device none), here_sp, ap offset_of form, devices_are_alike.least_io m.device)
 
-  pub way_below : (device : Device) → m.device ≡ device → (back a : ℕ) → a < 16896 → IsPushedAt (way_back device m.sp back) a → a + offset ≤ g.origin.base
+  pub way_below : (device : Device) → m.device ≡ device → (back a : ℕ) → a < 33280 → IsPushedAt (way_back device m.sp back) a → a + offset ≤ g.origin.base
   way_below device same back a inside h =
       way_low m.device m.sp back g.origin.base offset a here_sp runs.running.machine.sp_fits far_sp inside (subst (λ (d : Device). IsPushedAt (way_back d m.sp back) a) (sym same) h)
 
-module _ (task : Task) (f : RankedFamily) (sound : IsSoundFamily task f) (m n : State) (few : n.memory.below + length n.memory.live < 16896) (g : Frame) (gs : List Frame)
+module _ (task : Task) (f : RankedFamily) (sound : IsSoundFamily task f) (m n : State) (few : n.memory.below + length n.memory.live < 33280) (g : Frame) (gs : List Frame)
     (runs : Runs task f m g gs) where
   at_sp : (offset : ℕ) → g.node.key.sp ≡ Closed offset → m.sp + offset ≡ g.origin.base
   at_sp offset e = whole_sp g.origin.base m.is_open m.sp offset g.node.key.sp e runs.running.place.sp
 
-  low_live : (a : ℕ) → is_live n.memory a ≡ true → a < 16896
+  low_live : (a : ℕ) → is_live n.memory a ≡ true → a < 33280
   low_live a live = omega (arith, inside_if_live n.memory.below n.memory.live a live, few)
 
   module _ (b1 b2 : ℕ) (w : Went task m n b1 b2) where
@@ -178,7 +178,7 @@ module _ (task : Task) (f : RankedFamily) (sound : IsSoundFamily task f) (m n : 
     whole : effect.is_open ≡ false → effect.stores ≡ [] → n.is_open ≡ false
     whole closed none = sym open_is ∙ ap₂ (open_after m.device) closed none
 
-    fresh : (a : ℕ) → a < 16896 → guards ≡ true → IsPushedAt effect.pushes a
+    fresh : (a : ℕ) → a < 33280 → guards ≡ true → IsPushedAt effect.pushes a
         → Does (masks_by task) (device_of task.flash) m g.origin.base k g.node.state w.instr effect (row_of task scratch (site_at (device_of task.flash) k state) w.instr) (row_of task false (site_at (device_of task.flash) k state) w.instr)
         → Fresh task g n (Go b1 b2) a
     fresh a inside guarded at (nothing stores pushes) = absurd (subst (λ ws. IsPushedAt ws a) pushes at)

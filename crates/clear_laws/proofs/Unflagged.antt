@@ -9,7 +9,7 @@ use Rattle.frame_laws.proofs.AllLaws.{vector_small}
 use Rattle.avr_model.proofs.AllLaws.{devices_are_alike}
 use Rattle.avr_model.specs.declared.assumption.Entry.{Entry}
 use Rattle.avr_model.specs.declared.device.Device.{Device}
-use Rattle.avr_model.specs.declared.rows.Place.{Place}
+use Rattle.avr_model.specs.declared.rows.EnablePlace.{EnablePlace}
 use Rattle.avr_model.specs.declared.instruction.Instr.{Instr}
 use Rattle.avr_model.specs.declared.instruction.Instr.TheVariants as i
 use Rattle.avr_model.specs.declared.choice.Choice.{Choice}
@@ -22,17 +22,17 @@ use Rattle.avr_model.specs.Masks.{reads_masks, is_barred, enables_barred, admits
 use Rattle.avr_model.specs.Devices.{io_end, ramend, has_sph, wrapped, device_of}
 use Rattle.avr_model.specs.Sites.{instruction_at, is_scratch}
 use Rattle.avr_model.specs.State.{State, Memory, is_live, i_flag, register, pair, low, high}
-use Rattle.avr_model.specs.Vectors.{places, has_enables, is_core_by, is_core, is_protected, is_enabled, vector_word, watchdog}
+use Rattle.avr_model.specs.Vectors.{enable_places, has_enables, is_core_by, is_core, is_protected, is_enabled, vector_word, watchdog}
 use Rattle.avr_model.specs.Effects.{set, way_back}
 use Rattle.avr_model.specs.Step.{Illegal, Overflow, Flagged, after, all_inside, live_write, flagged_write, protected_write, unless_listed, unlisted_transfer, is_call, deep_call, first_of, refused_transfer, moves_vectors, is_pointer_store, is_indirect, is_refused, is_guarding, flag_by, flagged_or, may_take, entering, never_target, take, go}
 use Rattle.bit_domain.specs.declared.bytes.TriByte.{TriByte}
 use Rattle.bit_domain.specs.TriByte.{Has, has}
-use Rattle.mask_states.specs.declared.keys.NodeKey.{NodeKey}
-use Rattle.mask_states.specs.declared.keys.SpForm.{SpForm}
-use Rattle.mask_states.specs.declared.keys.SpForm.TheVariants.{Closed, Open}
-use Rattle.mask_states.specs.Keys.{offset_of}
-use Rattle.mask_states.specs.Wakes.{may_enable, may_enable_barred}
-use Rattle.mask_states.proofs.AllLaws.{enables_stay_among}
+use Rattle.node_keys.specs.declared.keys.NodeKey.{NodeKey}
+use Rattle.node_keys.specs.declared.keys.SpForm.{SpForm}
+use Rattle.node_keys.specs.declared.keys.SpForm.TheVariants.{Closed, Open}
+use Rattle.node_keys.specs.Keys.{offset_of}
+use Rattle.node_keys.specs.Wakes.{may_enable, may_enable_barred}
+use Rattle.node_keys.proofs.AllLaws.{enables_stay_among}
 use Rattle.pair_domain.specs.declared.facts.PairFacts.{PairFacts}
 use Rattle.abs_state.specs.declared.state.AbsState.{AbsState}
 use Rattle.abs_state.specs.Stands.{ByteStands}
@@ -147,16 +147,16 @@ no_core : (device : Device) (a : ℕ) → io_end device < a → is_core device a
 no_core device a lt = above_core (has_sph device) a (omega (arith, lt, devices_are_alike.least_io device))
 
 -- an address that enables no vector enables no barred one
-none_barred : (ps : List Place) (a : ℕ) (p q : Place → Bool) → list_any (λ (x : Place). x.address == a) ps ≡ false
-    → list_any (λ (x : Place). (x.address == a) && p x && q x) ps ≡ false
+none_barred : (ps : List EnablePlace) (a : ℕ) (p q : EnablePlace → Bool) → list_any (λ (x : EnablePlace). x.address == a) ps ≡ false
+    → list_any (λ (x : EnablePlace). (x.address == a) && p x && q x) ps ≡ false
 none_barred [] a p q none = refl
 none_barred (x ∷ ps) a p q none =
-    let parts = or_parts (x.address == a) (list_any (λ (x : Place). x.address == a) ps) none in
+    let parts = or_parts (x.address == a) (list_any (λ (x : EnablePlace). x.address == a) ps) none in
     or_from _ _ (and_left ((x.address == a) && p x) (q x) (and_left (x.address == a) (p x) parts.0)) (none_barred ps a p q parts.1)
 
 no_barred : (device : Device) (A : List Entry) (a : ℕ) (value : TriByte) → io_end device < a → may_enable_barred device A a value ≡ false
 unfolding may_enable_barred has_enables
-no_barred device A a value lt = none_barred (places device) a (λ (x : Place). may_enable value x) (λ (x : Place). is_barred device A x.vector) (none_above device a lt)
+no_barred device A a value lt = none_barred (enable_places device) a (λ (x : EnablePlace). may_enable value x) (λ (x : EnablePlace). is_barred device A x.vector) (none_above device a lt)
 
 pub unguarded : (device : Device) (A : List Entry) (site : ℕ) (value : TriByte) (a : ℕ) → io_end device < a → is_guarded device A site value a ≡ false
 unguarded device A site value a lt = by (admits_enables device A site)
@@ -241,7 +241,7 @@ module _ (task : Task) (f : RankedFamily) (sound : IsSoundFamily task f) (m : St
   low_base : g.origin.base ≤ top
   low_base = base_inside task f m.memory gs k.inst g.origin runs.left
 
-  top_small : top < 16896
+  top_small : top < 33280
   top_small = omega (arith, devices_are_alike.most_bytes (device_of task.flash), devices_are_alike.most_io (device_of task.flash))
 
   -- bytes at a whole stack pointer and below it aren't live

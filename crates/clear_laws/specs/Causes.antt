@@ -10,7 +10,7 @@ use Rattle.avr_model.specs.Sites.{instruction_at}
 use Rattle.avr_model.specs.Step.{is_indirect}
 use Rattle.pair_domain.specs.Facts.{is_followed}
 use Rattle.abs_state.specs.declared.state.AbsState.{AbsState}
-use Rattle.mask_states.specs.declared.keys.NodeKey.{NodeKey}
+use Rattle.node_keys.specs.declared.keys.NodeKey.{NodeKey}
 use Rattle.local_rules.specs.declared.local.Node.{Node}
 use Rattle.edge_rules.specs.Families.{RankedFamily}
 use Rattle.clear_laws.specs.Aims.{may_write}

@@ -6,7 +6,7 @@ use Rattle.avr_model.specs.declared.choice.Choice.TheVariants.{Take}
 use Rattle.avr_model.specs.declared.choice.Flag.{Flag}
 use Rattle.avr_model.specs.declared.choice.Stop.TheVariants as stop
 use Rattle.avr_model.specs.declared.device.Device.{Device}
-use Rattle.avr_model.specs.Devices.{Program, device_of}
+use Rattle.avr_model.specs.Devices.{Image, device_of}
 use Rattle.avr_model.specs.Vectors.{vector_word}
 use Rattle.avr_model.specs.State.{State, IsReset}
 use Rattle.avr_model.specs.Run.{IsRun, stop_of, Bounded}
@@ -32,17 +32,17 @@ use Rattle.local_rules.specs.Site.{Task, bare}
 
 -- a certificate has at most one verdict
 abbrev pub ClearVerdictsAreOne : Type 0
-ClearVerdictsAreOne = (words : Program) (c : Claim) (v w : ClearVerdict) → IsClearVerdict words c v → IsClearVerdict words c w → v ≡ w
+ClearVerdictsAreOne = (image : Image) (c : Claim) (v w : ClearVerdict) → IsClearVerdict image c v → IsClearVerdict image c w → v ≡ w
 
 -- no run from reset is flagged, and each stays within the bound, without any premise on flags
-pub record IsBoundedAndClear (words : Program) (bound : ℕ) : Type 0 where
-  pub bounded : Bounded words [] bound
-  pub never : NeverFlagged (bare words)
+pub record IsBoundedAndClear (image : Image) (bound : ℕ) : Type 0 where
+  pub bounded : Bounded image [] bound
+  pub never : NeverFlagged (bare image)
 
 -- if all conditions hold without assumptions, and each node is clear
 abbrev pub ClearFirmwaresAreNeverFlagged : Type 0
-ClearFirmwaresAreNeverFlagged = (words : Program) (c : Claim) → AreWords words → IsClaim c → IsSound (bare words) c → AreAllClear (bare words) c
-    → IsBoundedAndClear words c.bound
+ClearFirmwaresAreNeverFlagged = (image : Image) (c : Claim) → AreWords image → IsClaim c → IsSound (bare image) c → AreAllClear (bare image) c
+    → IsBoundedAndClear image c.bound
 
 -- the run stops when it takes a vector that is entered at one of these words
 pub record EndsByTakeAt (task : Task) (nevers : List ℕ) (m : State) (choices : List Choice) : Type 0 where

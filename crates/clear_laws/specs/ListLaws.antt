@@ -1,6 +1,6 @@
 -- Laws of the lists of words at which a step may be flagged.
 use Rattle.std.specs.Prelude.{ℕ, ◌≡◌, ◌↔◌, List, []}
-use Rattle.avr_model.specs.Devices.{Program}
+use Rattle.avr_model.specs.Devices.{Image}
 use Rattle.certificate.specs.Claims.{Claim}
 use Rattle.clear_laws.specs.declared.verdict.ClearVerdict.{ClearVerdict}
 use Rattle.clear_laws.specs.declared.verdict.ClearVerdict.TheVariants.{Clear}
@@ -23,5 +23,5 @@ NeversAreOne = (task : Task) (c : Claim) (xs ys : List ℕ) → AreNevers task c
 
 -- without assumptions a certificate is clear exactly if the list is empty
 abbrev pub ClearWhereNoSites : Type 0
-ClearWhereNoSites = (words : Program) (c : Claim) (verdict : ClearVerdict) (sites : List ℕ) → IsClearVerdict words c verdict → AreSites (bare words) c sites
+ClearWhereNoSites = (image : Image) (c : Claim) (verdict : ClearVerdict) (sites : List ℕ) → IsClearVerdict image c verdict → AreSites (bare image) c sites
     → (verdict ≡ Clear) ↔ (sites ≡ [])

@@ -3,7 +3,7 @@ use Rattle.std.specs.Prelude.{ℕ, ◌≡◌, ◌<◌, ◌↔◌, List, Contains
 use Rattle.std.specs.List.{slice_get}
 use Rattle.std.specs.List.Sorted.{IsStrictlySortedBy}
 use Rattle.std.specs.Ordering.{nat_cmp}
-use Rattle.avr_model.specs.Devices.{Program}
+use Rattle.avr_model.specs.Devices.{Image}
 use Rattle.local_rules.specs.declared.local.Node.{Node}
 use Rattle.edge_rules.specs.Expansion.{IsFilled}
 use Rattle.certificate.specs.Claims.{Claim}
@@ -30,13 +30,13 @@ pub record IsFirstUnclear (task : Task) (c : Claim) (j pc : ℕ) : Type 0 where
   pub earlier : (i : ℕ) (n : Node) → slice_get nodes i ≡ Some n → i < j → IsClear task (family_of c nodes) n
 
 -- the verdict on a certificate without assumptions: all nodes are clear, or the first that isn't
-abbrev pub IsClearVerdict : Program → Claim → ClearVerdict → Type 0
-IsClearVerdict words c Clear = AreAllClear (bare words) c
-IsClearVerdict words c (Unclear j pc) = IsFirstUnclear (bare words) c j pc
+abbrev pub IsClearVerdict : Image → Claim → ClearVerdict → Type 0
+IsClearVerdict image c Clear = AreAllClear (bare image) c
+IsClearVerdict image c (Unclear j pc) = IsFirstUnclear (bare image) c j pc
 
 -- the verdict names the first node that isn't clear, exactly if there is one
-abbrev pub NamesFirstUnclear : Program → Claim → ClearVerdict → Type 0
-NamesFirstUnclear words c verdict = (j pc : ℕ) → (verdict ≡ Unclear j pc) ↔ IsFirstUnclear (bare words) c j pc
+abbrev pub NamesFirstUnclear : Image → Claim → ClearVerdict → Type 0
+NamesFirstUnclear image c verdict = (j pc : ℕ) → (verdict ≡ Unclear j pc) ↔ IsFirstUnclear (bare image) c j pc
 
 -- exactly the words at which some expanded node isn't clear, once each and ascending
 pub record AreSites (task : Task) (c : Claim) (sites : List ℕ) : Type 0 where

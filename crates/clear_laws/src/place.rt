@@ -6,7 +6,7 @@ use avr_model::listed::Listed;
 #[derive(Drop)]
 pub struct FlaggedPlace {
     /// The word address.
-    pub word: u16,
+    pub word: u32,
     /// The protected data addresses that a store may write there, not listed by any line; ascending.
     pub protected: Listed<u16>,
     /// Whether a store may write a pushed byte.

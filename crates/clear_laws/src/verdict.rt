@@ -6,5 +6,5 @@ pub enum ClearVerdict {
     /// All are: no step can be flagged.
     Clear,
     /// This node, the first that isn't, counted from 0; and its word address.
-    Unclear(u32, u16),
+    Unclear(u32, u32),
 }

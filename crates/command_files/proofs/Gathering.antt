@@ -1,6 +1,6 @@
 -- The files of a command, read in order.
 use Rattle.std.proofs.Common.{◌≡◌, ℕ, true, List, Option, Some, None, refl, sym, ap, ◌∙◌, subst}
-use Rattle.sb_base.specs.Outside.{Held, Blamed, Rose, IsBlamed}
+use Rattle.text_base.specs.Outside.{Held, Blamed, Rose, IsBlamed}
 use Rattle.commands.specs.Commands.{Command, Role, Firmware, Second, Assumptions, name_of}
 use Rattle.replies.specs.declared.status.Status.{Status}
 use Rattle.replies.specs.declared.status.Status.TheVariants as exit

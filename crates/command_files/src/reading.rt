@@ -6,8 +6,8 @@ ghost use Rattle.replies.specs.Reading as caps;
 ghost use Rattle.command_files.specs.Reading.{IsFetched, IsUnfetched, AreFetched, IsFetchedUnder, IsUnfetchedUnder, bytes_of, IsGathered, IsUngathered};
 
 use commands::{Command, Work};
-use sb_base::{FileFault, Files};
 use std::alloc::Global;
+use text_base::{FileFault, Files};
 
 // The most bytes of a firmware: 16 MiB.
 const FIRMWARE_CAP: usize = 16_777_216;

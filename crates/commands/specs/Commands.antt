@@ -5,8 +5,8 @@ use Rattle.std.specs.Str.{bytes_eq}
 use Rattle.avr_model.specs.declared.device.Device.{Device}
 use Rattle.avr_model.specs.Devices.{M328}
 use Rattle.avr_model.specs.Names.{device_named}
-use Rattle.sb_base.specs.declared.digits.DigitFault.{DigitFault}
-use Rattle.sb_base.specs.Digits.{dec_answer}
+use Rattle.text_base.specs.declared.digits.DigitFault.{DigitFault}
+use Rattle.text_base.specs.Digits.{dec_answer}
 use Rattle.commands.specs.declared.command.Topic.{Topic}
 use Rattle.commands.specs.declared.command.Topic.TheVariants.{Help, Version}
 use Rattle.commands.specs.declared.line.Permitted.{Permitted}
@@ -92,7 +92,7 @@ is_name [] = false
 is_name (b ∷ bs) = not (b == 45)
 
 -- The words after the command's name: up to two names in order, options with their values, and an option that still needs its value.
-pub record Line : Type 0 where
+pub record LineSoFar : Type 0 where
   pub first : Option (List ℕ)
   pub second : Option (List ℕ)
   pub assume : Option (List ℕ)
@@ -103,7 +103,7 @@ pub record Line : Type 0 where
   pub why : Bool
   pub waits : Option Valued
 
-abbrev pub empty_line : Line
+abbrev pub empty_line : LineSoFar
 empty_line = record { first = None; second = None; assume = None; steps = None; device = None; trials = None; json = false; why = false; waits = None }
 
 -- the value, if there was none before
@@ -111,46 +111,46 @@ abbrev pub once : Option (List ℕ) → List ℕ → Option (Option (List ℕ))
 once None word = Some (Some word)
 once (Some before) word = None
 
-abbrev pub with_assume : Line → Option (Option (List ℕ)) → Option Line
+abbrev pub with_assume : LineSoFar → Option (Option (List ℕ)) → Option LineSoFar
 with_assume line None = None
 with_assume line (Some value) = Some (record line { assume = value; waits = None })
 
-abbrev pub with_steps : Line → Option (Option (List ℕ)) → Option Line
+abbrev pub with_steps : LineSoFar → Option (Option (List ℕ)) → Option LineSoFar
 with_steps line None = None
 with_steps line (Some value) = Some (record line { steps = value; waits = None })
 
-abbrev pub with_device : Line → Option (Option (List ℕ)) → Option Line
+abbrev pub with_device : LineSoFar → Option (Option (List ℕ)) → Option LineSoFar
 with_device line None = None
 with_device line (Some value) = Some (record line { device = value; waits = None })
 
-abbrev pub with_trials : Line → Option (Option (List ℕ)) → Option Line
+abbrev pub with_trials : LineSoFar → Option (Option (List ℕ)) → Option LineSoFar
 with_trials line None = None
 with_trials line (Some value) = Some (record line { trials = value; waits = None })
 
 -- the value of an option, which may occur once
-abbrev pub with_value : Valued → Line → List ℕ → Option Line
+abbrev pub with_value : Valued → LineSoFar → List ℕ → Option LineSoFar
 with_value option.Assume line word = with_assume line (once line.assume word)
 with_value option.Steps line word = with_steps line (once line.steps word)
 with_value option.Device line word = with_device line (once line.device word)
 with_value option.Trials line word = with_trials line (once line.trials word)
 
 -- the next name, if there are at most two
-abbrev pub named : Option (List ℕ) → Option (List ℕ) → Line → List ℕ → Option Line
+abbrev pub named : Option (List ℕ) → Option (List ℕ) → LineSoFar → List ℕ → Option LineSoFar
 named None second line word = Some (record line { first = Some word })
 named (Some first) None line word = Some (record line { second = Some word })
 named (Some first) (Some second) line word = None
 
-abbrev pub waiting : Line → Valued → Line
+abbrev pub waiting : LineSoFar → Valued → LineSoFar
 waiting line option = record line { waits = Some option }
 
-abbrev pub with_json : Line → Option Line
+abbrev pub with_json : LineSoFar → Option LineSoFar
 with_json line = if line.json then None else Some (record line { json = true })
 
-abbrev pub with_why : Line → Option Line
+abbrev pub with_why : LineSoFar → Option LineSoFar
 with_why line = if line.why then None else Some (record line { why = true })
 
 -- a word that is no option's value
-abbrev pub with_free : Line → List ℕ → Option Line
+abbrev pub with_free : LineSoFar → List ℕ → Option LineSoFar
 with_free line word =
     if bytes_eq word (codes "--assume") then Some (waiting line option.Assume)
     else (if bytes_eq word (codes "--steps") then Some (waiting line option.Steps)
@@ -160,16 +160,16 @@ with_free line word =
     else (if bytes_eq word (codes "--why") then with_why line
     else (if is_name word then named line.first line.second line word else None))))))
 
-abbrev pub placed : Option Valued → Line → List ℕ → Option Line
+abbrev pub placed : Option Valued → LineSoFar → List ℕ → Option LineSoFar
 placed None line word = with_free line word
 placed (Some option) line word = if is_name word then with_value option line word else None
 
 -- one more word
-abbrev pub with_word : Line → List ℕ → Option Line
+abbrev pub with_word : LineSoFar → List ℕ → Option LineSoFar
 with_word line word = placed line.waits line word
 
 -- the line with all words, if each is permitted
-abbrev pub then_words : Option Line → List (List ℕ) → Option Line
+abbrev pub then_words : Option LineSoFar → List (List ℕ) → Option LineSoFar
 then_words line [] = line
 then_words None (word ∷ words) = None
 then_words (Some line) (word ∷ words) = then_words (with_word line word) words
@@ -249,24 +249,24 @@ abbrev pub fits : Bool → Bool → Bool
 fits permitted stands = permitted || not stands
 
 -- the line has no options with a number but these
-abbrev pub permits_numbers : Permitted → Line → Bool
+abbrev pub permits_numbers : Permitted → LineSoFar → Bool
 permits_numbers options line = fits options.steps (is_some line.steps) && fits options.trials (is_some line.trials)
 
 -- the line has no options without a value but these
-abbrev pub permits_marks : Permitted → Line → Bool
+abbrev pub permits_marks : Permitted → LineSoFar → Bool
 permits_marks options line = fits options.json line.json && fits options.why line.why
 
 -- the line has no options but these
-abbrev pub permits : Permitted → Line → Bool
+abbrev pub permits : Permitted → LineSoFar → Bool
 permits options line =
     fits options.assume (is_some line.assume) && (fits options.device (is_some line.device) && (permits_numbers options line && permits_marks options line))
 
 -- the word is this name, and the line has no options but these
-abbrev pub asks : List ℕ → Line → List ℕ → Permitted → Bool
+abbrev pub asks : List ℕ → LineSoFar → List ℕ → Permitted → Bool
 asks word line name options = bytes_eq word name && permits options line
 
 -- the work of this name with a second file
-abbrev pub paired : List ℕ → Line → List ℕ → Option Work
+abbrev pub paired : List ℕ → LineSoFar → List ℕ → Option Work
 paired word line second =
     if asks word line (codes "check") plain_options then Some (Check second)
     else (if asks word line (codes "run") plain_options then Some (Run second)
@@ -279,7 +279,7 @@ paired word line second =
     else None)))))))
 
 -- the work of this name with a second file, or without
-abbrev pub work_in : List ℕ → Line → Option (List ℕ) → Option Work
+abbrev pub work_in : List ℕ → LineSoFar → Option (List ℕ) → Option Work
 work_in word line (Some second) = paired word line second
 work_in word line None = if asks word line (codes "analyse") steps_options then option_map Analyse (steps_in line.steps) else None
 
@@ -294,14 +294,14 @@ measured (Some count) None = option_map Demo (size_in count)
 measured _ _ = None
 
 -- the command of this name
-abbrev pub called : List ℕ → Line → Option Command
+abbrev pub called : List ℕ → LineSoFar → Option Command
 called word line =
     if asks word line (codes "demo") no_options
     then measured line.first line.second
     else requested (device_in line.device) line.first line.assume (work_in word line line.second)
 
 -- no option lacks its value
-abbrev pub whole : List ℕ → Option Line → Option Command
+abbrev pub whole : List ℕ → Option LineSoFar → Option Command
 whole word None = None
 whole word (Some line) = if is_none line.waits then called word line else None
 

@@ -6,13 +6,13 @@ use Rattle.commands.specs.declared.command.Work.{Work as Owned}
 use Rattle.commands.specs.declared.command.Work.TheVariants as owned
 use Rattle.commands.specs.declared.command.Command.{Command as OwnedCommand}
 use Rattle.commands.specs.declared.command.Command.TheVariants as command
-use Rattle.commands.specs.Commands.{Work, Check, Analyse, Run, Report, Explain, Clear, Premises, Attain, Simulate, Command, On, Demo, About, Line}
+use Rattle.commands.specs.Commands.{Work, Check, Analyse, Run, Report, Explain, Clear, Premises, Attain, Simulate, Command, On, Demo, About, LineSoFar}
 
 abbrev pub text_of : Option (Bor (List ℕ)) → Option (List ℕ)
 text_of None = None
 text_of (Some text) = Some text.now
 
-abbrev pub line_of : Words → Line
+abbrev pub line_of : Words → LineSoFar
 line_of l = record { first = text_of l.first; second = text_of l.second; assume = text_of l.assume; steps = text_of l.steps; device = text_of l.device; trials = text_of l.trials; json = l.json; why = l.why; waits = None }
 
 abbrev pub work_seen : Owned → Work

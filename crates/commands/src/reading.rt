@@ -10,7 +10,7 @@ use crate::line::{CommandLine, Permitted};
 use crate::size::{ChoiceCount, Size};
 use avr_model::device::Device;
 use avr_model::naming::device_named;
-use sb_base::read_dec;
+use text_base::read_dec;
 
 // The options of `demo`, of `clear`, of most works, and of those with one more.
 const NO_OPTIONS: Permitted = Permitted {

@@ -16,7 +16,7 @@ fn with_line(alloc: Global, before: u32, word: u16) -> Result<u32, AllocError> {
     let size: &[u8] = if length(word) == 2 { b"2 " } else { b"1 " };
     let sized = digest(before, size);
     let line = match &decode(word, SECOND) {
-        Some(instr) => text(alloc, Device::M328, instr, word % 8192 * 2)?,
+        Some(instr) => text(alloc, Device::M328, instr, u32::from(word % 8192 * 2))?,
         None => Vec::from_slice(alloc, b"undefined")?,
     };
     Ok(digest(digest(sized, line.as_slice()), b"\n"))

@@ -7,10 +7,10 @@ use Rattle.avr_model.specs.declared.assumption.Entry.TheVariants.{Pairs, Masks, 
 use Rattle.avr_model.specs.Assumptions.{recur_line}
 use Rattle.avr_model.specs.State.{SIZE}
 use Rattle.vector_table.specs.Entries.{is_word, is_entry, AreEntries}
-use Rattle.mask_states.specs.declared.keys.InstKey.{InstKey}
-use Rattle.mask_states.specs.declared.keys.Kind.{Kind}
-use Rattle.mask_states.specs.declared.keys.Kind.TheVariants.{Root, Call, Vector}
-use Rattle.mask_states.specs.Keys.{if_called, cut_at}
+use Rattle.node_keys.specs.declared.keys.InstKey.{InstKey}
+use Rattle.node_keys.specs.declared.keys.Kind.{Kind}
+use Rattle.node_keys.specs.declared.keys.Kind.TheVariants.{Root, Call, Vector}
+use Rattle.node_keys.specs.Keys.{if_called, cut_at}
 use Rattle.edge_laws.specs.Laws.{CutDepthsAreSmall}
 
 -- a line of the list

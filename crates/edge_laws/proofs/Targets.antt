@@ -16,13 +16,13 @@ use Rattle.abs_state.specs.Formed.{IsFormed}
 use Rattle.vector_table.proofs.AllLaws.{enables_are_vectors}
 use Rattle.abs_state.specs.Hulls.{IsInHulls}
 use Rattle.abs_state.proofs.AllLaws.{reset_stands, entries_are_true, returns_are_true, tags_stay_fit, hulls_hold_intervals}
-use Rattle.mask_states.specs.declared.keys.InstKey.{InstKey}
-use Rattle.mask_states.specs.declared.keys.NodeKey.{NodeKey}
-use Rattle.mask_states.specs.declared.keys.EdgeKind.{EdgeKind}
-use Rattle.mask_states.specs.declared.keys.EdgeKind.TheVariants as kind
-use Rattle.mask_states.specs.declared.keys.Kind.TheVariants.{Root}
-use Rattle.mask_states.specs.declared.keys.SpForm.TheVariants.{Closed}
-use Rattle.mask_states.specs.Keys.{root_inst, entry_key, offset_of, PickFits}
+use Rattle.node_keys.specs.declared.keys.InstKey.{InstKey}
+use Rattle.node_keys.specs.declared.keys.NodeKey.{NodeKey}
+use Rattle.node_keys.specs.declared.keys.EdgeKind.{EdgeKind}
+use Rattle.node_keys.specs.declared.keys.EdgeKind.TheVariants as kind
+use Rattle.node_keys.specs.declared.keys.Kind.TheVariants.{Root}
+use Rattle.node_keys.specs.declared.keys.SpForm.TheVariants.{Closed}
+use Rattle.node_keys.specs.Keys.{root_inst, entry_key, offset_of, PickFits}
 use Rattle.local_rules.specs.declared.local.Node.{Node}
 use Rattle.local_rules.specs.declared.local.Exit.{Exit}
 use Rattle.local_rules.specs.Cover.{IsNodeIn}

@@ -1,8 +1,8 @@
 -- The nest of a family: which instance lies below which, and how deep. Source: own.
 use Rattle.std.specs.Prelude.{ℕ, ◌≡◌, Some, None}
-use Rattle.mask_states.specs.declared.keys.InstKey.{InstKey}
-use Rattle.mask_states.specs.declared.keys.EdgeKind.{EdgeKind}
-use Rattle.mask_states.specs.Keys.{root_inst, offset_of, cut_at}
+use Rattle.node_keys.specs.declared.keys.InstKey.{InstKey}
+use Rattle.node_keys.specs.declared.keys.EdgeKind.{EdgeKind}
+use Rattle.node_keys.specs.Keys.{root_inst, offset_of, cut_at}
 use Rattle.local_rules.specs.declared.local.Node.{Node}
 use Rattle.edge_rules.specs.Edges.{Enters}
 use Rattle.local_rules.specs.Site.{Task}

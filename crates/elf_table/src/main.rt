@@ -20,7 +20,7 @@ fn digest_of(flash: &Flash) -> u32 {
 
 // Prints a line for each named word.
 fn show_names(rt: &HostRuntime, loaded: &Loaded) -> io::Result<()> {
-    for word in 0..0x4000u16 {
+    for word in 0..0x4000u32 {
         if let Some(name) = loaded.names.at(word) {
             if let Ok(text) = str::from_utf8(name) {
                 println!(rt; "{word:04X} {text}")?;

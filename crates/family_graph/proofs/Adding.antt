@@ -3,25 +3,25 @@ use Rattle.std.proofs.Common.{arith, refl, sym, ap, subst, ◌∙◌, ◌≡◌,
 use Rattle.std.specs.List.{flat_map}
 use Rattle.std.proofs.lemmas.Option.{slice_get_within}
 use Rattle.avr_model.specs.declared.assumption.Entry.{Entry}
-use Rattle.mask_states.specs.declared.keys.EdgeKind.{EdgeKind}
-use Rattle.mask_states.specs.Keys.{root_inst, cut_at}
-use Rattle.nesting_bound.specs.declared.graph.Way.{Way}
-use Rattle.nesting_bound.specs.declared.graph.Way.TheVariants.{Recur}
-use Rattle.nesting_bound.specs.declared.graph.Way.TheVariants.{Enters as Enters_by}
+use Rattle.node_keys.specs.declared.keys.EdgeKind.{EdgeKind}
+use Rattle.node_keys.specs.Keys.{root_inst, cut_at}
+use Rattle.instance_graph.specs.declared.graph.GraphWay.{GraphWay}
+use Rattle.instance_graph.specs.declared.graph.GraphWay.TheVariants.{Recur}
+use Rattle.instance_graph.specs.declared.graph.GraphWay.TheVariants.{Enters as Enters_by}
 use Rattle.std.specs.Prelude.{◌↔◌}
 use Rattle.std.proofs.lemmas.List.Elements.{Contains-append_left, Contains-append_right, Contains-append_cases}
 use Rattle.basics.specs.Items.{contained_at, none_in, contained_in_join, each_of_join, only_one_in as only}
 use Rattle.basics.specs.Lists.{one_at}
 use Rattle.basics.specs.Numbers.{before_or_last}
-use Rattle.mask_states.specs.declared.keys.InstKey.{InstKey}
-use Rattle.mask_states.specs.declared.keys.SpForm.{SpForm}
-use Rattle.mask_states.specs.declared.keys.SpForm.TheVariants.{Closed, Open}
+use Rattle.node_keys.specs.declared.keys.InstKey.{InstKey}
+use Rattle.node_keys.specs.declared.keys.SpForm.{SpForm}
+use Rattle.node_keys.specs.declared.keys.SpForm.TheVariants.{Closed, Open}
 use Rattle.local_rules.specs.declared.local.Node.{Node}
 use Rattle.edge_rules.specs.Edges.{Enters}
 use Rattle.edge_rules.specs.Views.{IsSpan}
-use Rattle.nesting_bound.specs.declared.graph.Entered.{Entered}
-use Rattle.nesting_bound.specs.declared.graph.GraphInst.{GraphInst}
-use Rattle.nesting_bound.specs.declared.graph.Place.{Place}
+use Rattle.instance_graph.specs.declared.graph.Entered.{Entered}
+use Rattle.instance_graph.specs.declared.graph.GraphInst.{GraphInst}
+use Rattle.instance_graph.specs.declared.graph.Place.{Place}
 use Rattle.family_graph.specs.declared.entering.Entering.{Entering}
 use Rattle.family_graph.specs.Graphs.{AreWaysOf, IsPeopled}
 use Rattle.family_graph.specs.Numbers.{number_in, AreInstNumbers, entry_of, unless_cut, entries_for, AddsAt, IsRecurTo, AreRecurs, AreRecursOf, IsPlaceBetween, IsEntryBetween, IsInstOf}
@@ -41,7 +41,7 @@ place_is p at offset a b =
     let mk : ℕ → ℕ → Place = λ x y. record { node = x; offset = y } in
     ap (λ (x : ℕ). mk x offset) (sym a) ∙ ap (mk p.node) (sym b)
 
-entry_is : (e : Entered) (at offset into : ℕ) (way : Way) → e.node ≡ at → e.offset ≡ offset → e.way ≡ way → e.into ≡ into → record { node = at; offset = offset; way = way; into = into } ≡ e
+entry_is : (e : Entered) (at offset into : ℕ) (way : GraphWay) → e.node ≡ at → e.offset ≡ offset → e.way ≡ way → e.into ≡ into → record { node = at; offset = offset; way = way; into = into } ≡ e
 entry_is e at offset into way a b w c = sym (λ j. record { node = a j; offset = b j; way = w j; into = c j })
 
 -- ---- the edges of one node

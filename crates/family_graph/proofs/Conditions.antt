@@ -11,24 +11,24 @@ use Rattle.std.proofs.lemmas.Map.Keys.{Less-from_sorted}
 use Rattle.basics.specs.Items.{contained_at, get_contained}
 use Rattle.abs_state.specs.Frames.{entered}
 use Rattle.avr_model.specs.Devices.{device_of, back_of}
-use Rattle.mask_states.specs.declared.keys.EdgeKind.{EdgeKind}
-use Rattle.mask_states.specs.declared.keys.Kind.{Kind}
-use Rattle.mask_states.specs.declared.keys.Kind.TheVariants.{Root, Call, Vector}
-use Rattle.mask_states.specs.declared.keys.InstKey.{InstKey}
-use Rattle.mask_states.specs.declared.keys.NodeKey.{NodeKey}
-use Rattle.mask_states.specs.Keys.{root_inst, entry_key, inst_numbers, offset_of, cut_at}
-use Rattle.mask_states.specs.Order.{inst_cmp}
+use Rattle.node_keys.specs.declared.keys.EdgeKind.{EdgeKind}
+use Rattle.node_keys.specs.declared.keys.Kind.{Kind}
+use Rattle.node_keys.specs.declared.keys.Kind.TheVariants.{Root, Call, Vector}
+use Rattle.node_keys.specs.declared.keys.InstKey.{InstKey}
+use Rattle.node_keys.specs.declared.keys.NodeKey.{NodeKey}
+use Rattle.node_keys.specs.Keys.{root_inst, entry_key, inst_numbers, offset_of, cut_at}
+use Rattle.node_keys.specs.Order.{inst_cmp}
 use Rattle.local_rules.specs.declared.local.Node.{Node}
 use Rattle.local_laws.specs.Laws.{HasKey}
 use Rattle.edge_rules.specs.Edges.{Enters, entering}
 use Rattle.edge_rules.specs.Nest.{NestEdge, recurs, enters as by_node}
 use Rattle.edge_rules.specs.Families.{IsCovered}
-use Rattle.nesting_bound.specs.declared.graph.GraphInst.{GraphInst}
-use Rattle.nesting_bound.specs.declared.graph.Place.{Place}
-use Rattle.nesting_bound.specs.Graph as graph
-use Rattle.nesting_bound.specs.Chain.{HasSome, HavePlaces}
-use Rattle.nesting_bound.specs.Least.{IsLeast}
-use Rattle.nesting_bound.specs.declared.graph.Entered.{Entered}
+use Rattle.instance_graph.specs.declared.graph.GraphInst.{GraphInst}
+use Rattle.instance_graph.specs.declared.graph.Place.{Place}
+use Rattle.instance_graph.specs.Graph as graph
+use Rattle.instance_graph.specs.Chain.{HasSome, HavePlaces}
+use Rattle.instance_graph.specs.Least.{IsLeast}
+use Rattle.instance_graph.specs.declared.graph.Entered.{Entered}
 use Rattle.family_graph.specs.Graphs.{insts_of, IsPeopled, AreRooted, HasEntryOf, IsGraphOf}
 use Rattle.certificate.specs.Insts.{rank_in, need_in}
 use Rattle.certificate.specs.Claims.{Claim}

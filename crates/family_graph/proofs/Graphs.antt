@@ -11,16 +11,16 @@ use Rattle.avr_model.specs.State.{SIZE}
 use Rattle.vector_table.specs.Entries.{AreEntries}
 use Rattle.edge_laws.proofs.AllLaws.{cut_depths_are_small}
 use Rattle.avr_model.proofs.AllLaws.{devices_are_alike}
-use Rattle.mask_states.specs.declared.keys.InstKey.{InstKey}
-use Rattle.mask_states.specs.declared.keys.SpForm.TheVariants.{Closed}
-use Rattle.mask_states.specs.Keys.{offset_of}
-use Rattle.mask_states.specs.Order.{inst_cmp}
+use Rattle.node_keys.specs.declared.keys.InstKey.{InstKey}
+use Rattle.node_keys.specs.declared.keys.SpForm.TheVariants.{Closed}
+use Rattle.node_keys.specs.Keys.{offset_of}
+use Rattle.node_keys.specs.Order.{inst_cmp}
 use Rattle.local_rules.specs.declared.local.Node.{Node}
-use Rattle.call_graph.specs.Shown.{AreOfSomeDevice}
-use Rattle.nesting_bound.specs.declared.graph.Entered.{Entered}
-use Rattle.nesting_bound.specs.declared.graph.GraphInst.{GraphInst}
-use Rattle.nesting_bound.specs.declared.graph.Place.{Place}
-use Rattle.nesting_bound.specs.Graph as graph
+use Rattle.family_edges.specs.Shown.{AreOfSomeDevice}
+use Rattle.instance_graph.specs.declared.graph.Entered.{Entered}
+use Rattle.instance_graph.specs.declared.graph.GraphInst.{GraphInst}
+use Rattle.instance_graph.specs.declared.graph.Place.{Place}
+use Rattle.instance_graph.specs.Graph as graph
 use Rattle.family_graph.specs.Graphs.{insts_of, HasInst, HasPlaceOf, HasEntryOf, IsGraphOf}
 use Rattle.family_graph.specs.Numbers.{AreInstNumbers, IsInstOf, AreGraphInsts}
 use Rattle.family_graph.proofs.Lists.{get_left}

@@ -12,15 +12,15 @@ use Rattle.basics.specs.Lists.{one_at, get_pushed}
 use Rattle.basics.specs.Items.{contained_at, get_contained, only_one_in, all_at, all_pushed}
 use Rattle.basics.specs.Numbers.{before_or_last}
 use Rattle.edge_rules.specs.Places.{pair}
-use Rattle.mask_states.specs.declared.keys.InstKey.{InstKey}
-use Rattle.mask_states.specs.declared.keys.NodeKey.{NodeKey}
-use Rattle.mask_states.specs.Order.{inst_cmp, same_inst}
-use Rattle.mask_states.proofs.AllLaws.{keys_are_ordered, nodes_go_by_instance}
+use Rattle.node_keys.specs.declared.keys.InstKey.{InstKey}
+use Rattle.node_keys.specs.declared.keys.NodeKey.{NodeKey}
+use Rattle.node_keys.specs.Order.{inst_cmp, same_inst}
+use Rattle.node_keys.proofs.AllLaws.{keys_are_ordered, nodes_go_by_instance}
 use Rattle.local_rules.specs.declared.local.Node.{Node}
 use Rattle.edge_rules.specs.Views.{IsSpan, key_of}
-use Rattle.call_graph.specs.Shown.{AreOfSomeDevice}
+use Rattle.family_edges.specs.Shown.{AreOfSomeDevice}
 use Rattle.family_graph.specs.Graphs.{HasInst}
-use Rattle.family_graph.specs.Numbers.{number_in, EndsWith, Grows, stays, adds, AreInstNumbers}
+use Rattle.family_graph.specs.Numbers.{number_in, EndsWith, GrowsByInst, stays, adds, AreInstNumbers}
 use Rattle.family_graph.proofs.Lists.{get_left, index_left, index_behind, all_last}
 
 -- ---- an instance's number
@@ -123,7 +123,7 @@ module _ (nodes : List Node) where
         ]
 
     pub numbered_more : AreOfSomeDevice nodes → (insts : List InstKey) (numbers : List ℕ) (insts' : List InstKey) (number : ℕ) → AreInstNumbers nodes at insts numbers
-        → Grows insts n.key.inst insts' → number + 1 ≡ length insts' → AreInstNumbers nodes (at + 1) insts' (numbers ++ number ∷ [])
+        → GrowsByInst insts n.key.inst insts' → number + 1 ≡ length insts' → AreInstNumbers nodes (at + 1) insts' (numbers ++ number ∷ [])
     numbered_more shown insts numbers insts' number are (stays ends) is =
         record {
           all = omega (arith, length-append numbers (number ∷ []), are.all);
@@ -186,16 +186,16 @@ numbered_none nodes insts numbers a b =
 
 pub numbered_step : (nodes : List Node) (at : ℕ) (k : NodeKey) → option_map key_of (slice_get nodes at) ≡ Some k → AreOfSomeDevice nodes
     → (insts : List InstKey) (numbers : List ℕ) (insts' : List InstKey) (number : ℕ) (numbers' : List ℕ) → AreInstNumbers nodes at insts numbers
-    → Grows insts k.inst insts' → number + 1 ≡ length insts' → numbers' ≡ numbers ++ number ∷ [] → AreInstNumbers nodes (at + 1) insts' numbers'
+    → GrowsByInst insts k.inst insts' → number + 1 ≡ length insts' → numbers' ≡ numbers ++ number ∷ [] → AreInstNumbers nodes (at + 1) insts' numbers'
 numbered_step nodes at k here shown insts numbers insts' number numbers' are grows is pushed =
     let n = node_of (slice_get nodes at) k here in
     subst (AreInstNumbers nodes (at + 1) insts') (sym pushed)
-    (numbered_more nodes at n.0 n.1 shown insts numbers insts' number are (subst (λ (x : NodeKey). Grows insts x.inst insts') (sym n.2) grows) is)
+    (numbered_more nodes at n.0 n.1 shown insts numbers insts' number are (subst (λ (x : NodeKey). GrowsByInst insts x.inst insts') (sym n.2) grows) is)
 
-pub grows_kept : (insts insts' d : List InstKey) (inst : InstKey) (b : Bool) → d ≡ insts → (IsTrue b ↔ EndsWith d inst) → b ≡ true → insts' ≡ insts → Grows insts inst insts'
+pub grows_kept : (insts insts' d : List InstKey) (inst : InstKey) (b : Bool) → d ≡ insts → (IsTrue b ↔ EndsWith d inst) → b ≡ true → insts' ≡ insts → GrowsByInst insts inst insts'
 grows_kept insts insts' d inst b same ends is kept =
-    subst (Grows insts inst) (sym kept) (stays (subst (λ (xs : List InstKey). EndsWith xs inst) same (ends.0 is)))
+    subst (GrowsByInst insts inst) (sym kept) (stays (subst (λ (xs : List InstKey). EndsWith xs inst) same (ends.0 is)))
 
-pub grows_added : (insts insts' d : List InstKey) (inst : InstKey) (b : Bool) → d ≡ insts → (IsTrue b ↔ EndsWith d inst) → b ≡ false → insts' ≡ insts ++ inst ∷ [] → Grows insts inst insts'
+pub grows_added : (insts insts' d : List InstKey) (inst : InstKey) (b : Bool) → d ≡ insts → (IsTrue b ↔ EndsWith d inst) → b ≡ false → insts' ≡ insts ++ inst ∷ [] → GrowsByInst insts inst insts'
 grows_added insts insts' d inst b same ends is added =
-    subst (Grows insts inst) (sym added) (adds (λ h. both_ways b is (ends.1 (subst (λ (xs : List InstKey). EndsWith xs inst) (sym same) h))))
+    subst (GrowsByInst insts inst) (sym added) (adds (λ h. both_ways b is (ends.1 (subst (λ (xs : List InstKey). EndsWith xs inst) (sym same) h))))

@@ -2,10 +2,10 @@
 use Rattle.std.proofs.Common.{sym, ap, subst, ◌∙◌, ◌≡◌, ℕ, List, slice_index}
 use Rattle.avr_model.specs.Devices.{device_of, back_of}
 use Rattle.local_rules.specs.declared.local.Node.{Node}
-use Rattle.nesting_bound.specs.declared.graph.Link.{Link}
-use Rattle.nesting_bound.specs.Chain.{IsChain}
-use Rattle.nesting_bound.specs.Least.{IsLeast}
-use Rattle.nesting_bound.specs.Laws.{LeastNeedsAreOne, ChainsAreOne}
+use Rattle.instance_graph.specs.declared.graph.Link.{Link}
+use Rattle.instance_graph.specs.Chain.{IsChain}
+use Rattle.instance_graph.specs.Least.{IsLeast}
+use Rattle.instance_graph.specs.Laws.{LeastNeedsAreOne, ChainsAreOne}
 use Rattle.family_graph.specs.Chains.{IsDeepest}
 use Rattle.family_graph.specs.Laws.{GraphsAreAlike, DeepestChainsAreOne}
 use Rattle.local_rules.specs.Site.{Task}

@@ -6,19 +6,19 @@ use Rattle.basics.specs.Items.{only_one_in, none_in, first_in, contained_at, con
 use Rattle.basics.specs.Lists.{get_or_front, get_or_pushed, one_at}
 use Rattle.basics.specs.Numbers.{before_or_last}
 use Rattle.abs_state.specs.Frames.{entered}
-use Rattle.mask_states.specs.declared.keys.EdgeKind.{EdgeKind}
-use Rattle.mask_states.specs.declared.keys.InstKey.{InstKey}
-use Rattle.mask_states.specs.declared.keys.NodeKey.{NodeKey}
-use Rattle.mask_states.specs.Keys.{entry_key}
+use Rattle.node_keys.specs.declared.keys.EdgeKind.{EdgeKind}
+use Rattle.node_keys.specs.declared.keys.InstKey.{InstKey}
+use Rattle.node_keys.specs.declared.keys.NodeKey.{NodeKey}
+use Rattle.node_keys.specs.Keys.{entry_key}
 use Rattle.local_rules.specs.declared.local.Node.{Node}
 use Rattle.local_laws.specs.Laws.{HasKey}
 use Rattle.edge_rules.specs.declared.edge.Edge.{Edge}
 use Rattle.edge_rules.specs.Edges.{is_entry, Enters, by_call, by_interrupt, IsEdge, moving, entering, returning}
 use Rattle.edge_rules.specs.Places.{found_at, none_from}
 use Rattle.edge_rules.specs.Views.{place_of}
-use Rattle.call_graph.specs.declared.landing.Landing.{Landing}
-use Rattle.call_graph.specs.Landings.{IsLanding, AreLandingsOf, AreLandings}
-use Rattle.call_graph.proofs.Landed.{inside_at}
+use Rattle.family_edges.specs.declared.landing.Landing.{Landing}
+use Rattle.family_edges.specs.Landings.{IsLanding, AreLandingsOf, AreLandings}
+use Rattle.family_edges.proofs.Landed.{inside_at}
 use Rattle.family_graph.specs.declared.entering.Entering.{Entering}
 use Rattle.family_graph.specs.Graphs.{HasInst, IsPeopled, AreWaysOf, AreWaysTo, AreWays}
 use Rattle.family_graph.specs.Numbers.{inst_of, way_of, ways_by}

@@ -1,12 +1,12 @@
 -- The deepest chain of a family, with the least needs. Source: own.
 use Rattle.std.specs.Prelude.{ℕ, ◌≡◌, List, Some, slice_get, slice_index}
 use Rattle.avr_model.specs.Devices.{device_of, back_of}
-use Rattle.mask_states.specs.Keys.{root_inst}
+use Rattle.node_keys.specs.Keys.{root_inst}
 use Rattle.local_rules.specs.declared.local.Node.{Node}
-use Rattle.nesting_bound.specs.declared.graph.GraphInst.{GraphInst}
-use Rattle.nesting_bound.specs.declared.graph.Link.{Link}
-use Rattle.nesting_bound.specs.Chain.{IsChain}
-use Rattle.nesting_bound.specs.Least.{IsLeast}
+use Rattle.instance_graph.specs.declared.graph.GraphInst.{GraphInst}
+use Rattle.instance_graph.specs.declared.graph.Link.{Link}
+use Rattle.instance_graph.specs.Chain.{IsChain}
+use Rattle.instance_graph.specs.Least.{IsLeast}
 use Rattle.family_graph.specs.Graphs.{insts_of, IsGraphOf}
 use Rattle.local_rules.specs.Site.{Task}
 

@@ -3,20 +3,20 @@ use Rattle.std.specs.Prelude.{ℕ, ◌+◌, ◌-◌, ◌≡◌, ◌<◌, ◌≤�
 use Rattle.std.specs.List.{flat_map}
 use Rattle.std.specs.List.Sorted.{IsStrictlySortedBy}
 use Rattle.avr_model.specs.declared.assumption.Entry.{Entry}
-use Rattle.mask_states.specs.declared.keys.EdgeKind.{EdgeKind}
-use Rattle.mask_states.specs.declared.keys.InstKey.{InstKey}
-use Rattle.mask_states.specs.declared.keys.SpForm.{SpForm}
-use Rattle.mask_states.specs.declared.keys.SpForm.TheVariants.{Closed, Open}
-use Rattle.mask_states.specs.Keys.{root_inst, entry_key, cut_at}
-use Rattle.mask_states.specs.Order.{inst_cmp, same_inst}
+use Rattle.node_keys.specs.declared.keys.EdgeKind.{EdgeKind}
+use Rattle.node_keys.specs.declared.keys.InstKey.{InstKey}
+use Rattle.node_keys.specs.declared.keys.SpForm.{SpForm}
+use Rattle.node_keys.specs.declared.keys.SpForm.TheVariants.{Closed, Open}
+use Rattle.node_keys.specs.Keys.{root_inst, entry_key, cut_at}
+use Rattle.node_keys.specs.Order.{inst_cmp, same_inst}
 use Rattle.local_rules.specs.declared.local.Node.{Node}
 use Rattle.local_laws.specs.Laws.{HasKey}
 use Rattle.edge_rules.specs.Edges.{is_entry, Enters}
-use Rattle.call_graph.specs.declared.landing.Landing.{Landing}
-use Rattle.nesting_bound.specs.declared.graph.Entered.{Entered}
-use Rattle.nesting_bound.specs.declared.graph.GraphInst.{GraphInst}
-use Rattle.nesting_bound.specs.declared.graph.Place.{Place}
-use Rattle.nesting_bound.specs.declared.graph.Way.TheVariants.{Enters as Entry_by, Recur}
+use Rattle.family_edges.specs.declared.landing.Landing.{Landing}
+use Rattle.instance_graph.specs.declared.graph.Entered.{Entered}
+use Rattle.instance_graph.specs.declared.graph.GraphInst.{GraphInst}
+use Rattle.instance_graph.specs.declared.graph.Place.{Place}
+use Rattle.instance_graph.specs.declared.graph.GraphWay.TheVariants.{Enters as Entry_by, Recur}
 use Rattle.family_graph.specs.declared.entering.Entering.{Entering}
 use Rattle.family_graph.specs.Graphs.{HasInst, IsGraphPlace, IsEntryOf, IsRecurOf}
 use Rattle.local_rules.specs.Site.{Task}
@@ -38,9 +38,9 @@ pub record EndsWith (insts : List InstKey) (inst : InstKey) : Type 0 where
   pub is : insts ≡ front ++ inst ∷ []
 
 -- appends the instance, unless it is the last one already
-pub data Grows (insts : List InstKey) (inst : InstKey) : List InstKey → Type 0 where
-  stays : EndsWith insts inst → Grows insts inst insts
-  adds : (EndsWith insts inst → ⊥) → Grows insts inst (insts ++ inst ∷ [])
+pub data GrowsByInst (insts : List InstKey) (inst : InstKey) : List InstKey → Type 0 where
+  stays : EndsWith insts inst → GrowsByInst insts inst insts
+  adds : (EndsWith insts inst → ⊥) → GrowsByInst insts inst (insts ++ inst ∷ [])
 
 -- the first nodes have these numbers, which are those of these instances
 pub record AreInstNumbers (nodes : List Node) (count : ℕ) (insts : List InstKey) (numbers : List ℕ) : Type 0 where

@@ -2,20 +2,20 @@
 
 ghost use Rattle.std.specs.Prelude.{◌≡◌, ◌<◌, ◌≤◌, length, Some, IfOk, OnOk, Contains, slice_get};
 ghost use Rattle.std.specs.List.{flat_map};
-ghost use Rattle.nesting_bound.specs.Graph.{IsGraph};
+ghost use Rattle.instance_graph.specs.Graph.{IsGraph};
 ghost use Rattle.family_graph.specs.declared.entering.Entering as entering_type;
 ghost use Rattle.family_graph.specs.Graphs.{HasInst, AreWays, IsPeopled, IsGraphOf};
 ghost use Rattle.family_graph.specs.Numbers.{entries_for, AddsAt, AreRecurs, AreRecursOf, IsInstOf};
-ghost use Rattle.call_graph.specs.Tasks.{task_of};
-ghost use Rattle.call_graph.specs.Clauses.{AtNumber, Grows};
+ghost use Rattle.family_edges.specs.Tasks.{task_of};
+ghost use Rattle.family_edges.specs.Clauses.{AtNumber, Grows};
 ghost use Rattle.family_graph.specs.Numbered.{NumbersAll};
 
 use crate::entering::Entering;
 use crate::numbering::{Numbering, number_of, numbered};
 use avr_model::listed::Listed;
-use call_graph::{Filled, Task};
-use mask_states::{InstKey, SpForm};
-use nesting_bound::{Entered, Graph, GraphInst, Place, Way};
+use family_edges::{Filled, Task};
+use instance_graph::{Entered, Graph, GraphInst, GraphWay, Place};
+use node_keys::{InstKey, SpForm};
 use std::alloc::AllocError;
 
 // The places and edges of an instance found so far.
@@ -45,7 +45,7 @@ fn add_entry(
     entered.push(Entered {
         node: place.node,
         offset: place.offset,
-        way: Way::Enters(way.kind),
+        way: GraphWay::Enters(way.kind),
         into,
     })?;
     Ok(())
@@ -85,7 +85,7 @@ fn add_recurs(
             entered.push(Entered {
                 node: behind,
                 offset: depth,
-                way: Way::Recur,
+                way: GraphWay::Recur,
                 into: into as u32,
             })?;
         }

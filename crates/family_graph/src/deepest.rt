@@ -5,15 +5,15 @@ ghost use Rattle.certificate.specs.Claims.{IsClaim};
 ghost use Rattle.certificate.specs.Valid.{MeetsConditions};
 ghost use Rattle.family_graph.specs.Graphs.{AreWays, AreRooted};
 ghost use Rattle.family_graph.specs.Chains.{IsDeepest, BeginsAtRoot};
-ghost use Rattle.call_graph.specs.Tasks.{task_of};
+ghost use Rattle.family_edges.specs.Tasks.{task_of};
 
 use crate::building::graph_of;
 use crate::entering::Entering;
 use avr_model::listed::Listed;
-use call_graph::{Filled, Task};
 use certificate::Certificate;
-use nesting_bound::laws::ranks_rule_out_cycles;
-use nesting_bound::{Link, chain, compose_acyclic};
+use family_edges::{Filled, Task};
+use instance_graph::laws::ranks_rule_out_cycles;
+use instance_graph::{Link, chain, compose_acyclic};
 use std::alloc::AllocError;
 
 /// The deepest chain of a family.

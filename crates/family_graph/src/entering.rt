@@ -1,16 +1,16 @@
 //! Entries of nodes into instances.
 
 ghost use Rattle.std.specs.Prelude.{◌≡◌, ◌++◌, ◌<◌, Contains, length, IfOk, OnOk};
-ghost use Rattle.call_graph.specs.declared.landing.Landing as landing_type;
-ghost use Rattle.call_graph.specs.Landings.{AreLandings};
+ghost use Rattle.family_edges.specs.declared.landing.Landing as landing_type;
+ghost use Rattle.family_edges.specs.Landings.{AreLandings};
 ghost use Rattle.family_graph.specs.Graphs.{AreWays, IsPeopled};
 ghost use Rattle.family_graph.specs.Numbers.{way_of, ways_by};
-ghost use Rattle.call_graph.specs.Tasks.{task_of};
+ghost use Rattle.family_edges.specs.Tasks.{task_of};
 
 use avr_model::listed::Listed;
-use call_graph::{Filled, Landing, Task, Worked};
 use edge_rules::edge::is_entry;
-use mask_states::{EdgeKind, InstKey};
+use family_edges::{Filled, Landing, Task, WorkedOut};
+use node_keys::{EdgeKind, InstKey};
 use std::alloc::{AllocError, Global};
 
 /// An entry into an instance.
@@ -53,7 +53,10 @@ fn ways_of(
 }
 
 /// The entries of each node of a family, by its number. Each instance that one of them enters has its first node.
-pub fn entered_by(task: &Task<'_>, family: &Worked) -> Result<Listed<Listed<Entering>>, AllocError>
+pub fn entered_by(
+    task: &Task<'_>,
+    family: &WorkedOut,
+) -> Result<Listed<Listed<Entering>>, AllocError>
     requires landings { AreLandings (task_of task.now) family.now.nodes family.now.landings }
     requires peopled { IsPeopled (task_of task.now) family.now.nodes }
     ensures { IfOk result (AreWays (task_of task.now) family.now.nodes) }

@@ -2,7 +2,7 @@
 
 ghost use Rattle.family_graph.specs.Laws.{GraphsAreAlike, DeepestChainsAreOne, DeepestChainsAreBounded};
 
-use nesting_bound::laws::{answers_are_one, chains_are_one};
+use instance_graph::laws::{answers_are_one, chains_are_one};
 
 /// Two graphs of a family have the same least ranks and needs, and the same deepest chain.
 #[tactic(auto, using(crate::proofs::Alike::graphs_are_alike))]

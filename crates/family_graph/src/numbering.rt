@@ -2,11 +2,11 @@
 
 ghost use Rattle.std.specs.Prelude.{◌≡◌, ◌+◌, ◌<◌, ◌≤◌, ◌↔◌, length, IfOk, OnOk, IsTrue};
 ghost use Rattle.family_graph.specs.Graphs.{HasInst};
-ghost use Rattle.family_graph.specs.Numbers.{EndsWith, Grows, AreInstNumbers, number_in};
+ghost use Rattle.family_graph.specs.Numbers.{EndsWith, GrowsByInst, AreInstNumbers, number_in};
 ghost use Rattle.family_graph.specs.Numbered.{NumbersAll};
 
-use call_graph::Filled;
-use mask_states::InstKey;
+use family_edges::Filled;
+use node_keys::InstKey;
 use std::alloc::{AllocError, Global};
 
 // The instances of a family's nodes in the order of their keys, and for each node the number of its instance.
@@ -31,7 +31,7 @@ fn ends_with(insts: &[InstKey], inst: &InstKey) -> bool
 // Appends the instance of the next node, unless it is the last one already. Returns its number.
 fn put(insts: &mut Vec<InstKey>, inst: &InstKey) -> Result<u32, AllocError>
     requires { length insts.old.items < 65536 }
-    ensures grows { OnOk result (Grows insts.old.items inst.now insts.new.items) }
+    ensures grows { OnOk result (GrowsByInst insts.old.items inst.now insts.new.items) }
     ensures number { IfOk result (λ number. number + 1 ≡ length insts.new.items) }
 {
     if !ends_with(insts, inst) {

@@ -3,10 +3,10 @@
 ghost use Rattle.std.specs.Prelude.{◌≡◌, ◌<◌, length, true, false, Some, slice_get};
 ghost use Rattle.family_graph.specs.Graphs.{AreRooted};
 ghost use Rattle.family_graph.specs.Numbers.{IsRooted};
-ghost use Rattle.call_graph.specs.Tasks.{task_of};
+ghost use Rattle.family_edges.specs.Tasks.{task_of};
 
-use call_graph::{Filled, Task};
-use mask_states::NodeKey;
+use family_edges::{Filled, Task};
+use node_keys::NodeKey;
 
 // Whether the instance of the node of this number has its first node, or isn't cut.
 fn is_rooted(task: &Task<'_>, nodes: &Filled, at: usize) -> bool

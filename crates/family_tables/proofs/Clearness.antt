@@ -10,7 +10,7 @@ use Rattle.avr_model.specs.Bits.{any_below, all_below}
 use Rattle.avr_model.specs.Devices.{M328, size_of, device_of, device_row}
 use Rattle.avr_model.specs.Sites.{instruction_at, is_scratch, table_site, ijmp_from}
 use Rattle.avr_model.specs.Table.{decoded}
-use Rattle.avr_model.specs.Vectors.{places, place_at, has_enables}
+use Rattle.avr_model.specs.Vectors.{enable_places, enable_place_at, has_enables}
 use Rattle.bit_domain.specs.declared.bits.Tri.TheVariants.{Any}
 use Rattle.bit_domain.specs.Numbers.{numbers_of}
 use Rattle.bit_domain.specs.TriByte.{IsWithin, byte_any, byte_known}
@@ -24,14 +24,14 @@ use Rattle.abs_state.specs.Values.{root, unknown, known, value_at}
 use Rattle.abs_state.specs.Order.{IsByteWithin, IsSlotWithin, IsStateWithin}
 use Rattle.abs_state.specs.Formed.{IsFormed, IsUntagged, SlotNamesRegister, SlotByteFits, SlotIsUntagged, ByteFits, TagFits, SlotFits}
 use Rattle.abs_state.proofs.AllLaws.{reset_stands, tags_stay_fit}
-use Rattle.mask_states.specs.declared.keys.NodeKey.{NodeKey}
-use Rattle.mask_states.specs.declared.keys.InstKey.{InstKey}
-use Rattle.mask_states.specs.declared.keys.EdgeKind.{EdgeKind}
-use Rattle.mask_states.specs.declared.keys.SpForm.TheVariants.{Closed}
-use Rattle.mask_states.specs.declared.keys.Kind.{Kind}
-use Rattle.mask_states.specs.declared.keys.Kind.TheVariants.{Root, Call, Vector}
-use Rattle.mask_states.specs.Keys.{offset_of, if_called, cut_at}
-use Rattle.mask_states.specs.Splits.{enable_tri}
+use Rattle.node_keys.specs.declared.keys.NodeKey.{NodeKey}
+use Rattle.node_keys.specs.declared.keys.InstKey.{InstKey}
+use Rattle.node_keys.specs.declared.keys.EdgeKind.{EdgeKind}
+use Rattle.node_keys.specs.declared.keys.SpForm.TheVariants.{Closed}
+use Rattle.node_keys.specs.declared.keys.Kind.{Kind}
+use Rattle.node_keys.specs.declared.keys.Kind.TheVariants.{Root, Call, Vector}
+use Rattle.node_keys.specs.Keys.{offset_of, if_called, cut_at}
+use Rattle.node_keys.specs.Splits.{enable_tri}
 use Rattle.local_rules.specs.declared.local.Node.{Node}
 use Rattle.local_rules.specs.Raw.{Raw, one}
 use Rattle.local_rules.specs.Registers.{set, value}
@@ -63,7 +63,7 @@ unfolding raw table_site ijmp_from is_scratch any_below all_below decoded device
 read_leads = refl
 
 store_leads : raw_of (bare over_room) (at_depth 2 2) ≡ one (at_depth 4 2).key (with_bytes 2)
-unfolding raw table_site ijmp_from is_scratch any_below all_below decoded device_row written_at numbers_of enable_tri place_at places has_enables
+unfolding raw table_site ijmp_from is_scratch any_below all_below decoded device_row written_at numbers_of enable_tri enable_place_at enable_places has_enables
 store_leads = refl
 
 loop_leads : raw_of (bare over_room) (at_depth 4 2) ≡ one (at_depth 4 2).key (with_bytes 2)

@@ -13,8 +13,8 @@ use Rattle.abs_state.specs.Values.{root}
 use Rattle.abs_state.specs.Frames.{entered}
 use Rattle.abs_state.proofs.AllLaws.{entries_are_true, tags_stay_fit}
 use Rattle.vector_table.specs.Entries.{AreEntries}
-use Rattle.mask_states.specs.Keys.{root_inst, entry_key, inst_numbers, node_numbers}
-use Rattle.mask_states.specs.Order.{inst_cmp, node_cmp}
+use Rattle.node_keys.specs.Keys.{root_inst, entry_key, inst_numbers, node_numbers}
+use Rattle.node_keys.specs.Order.{inst_cmp, node_cmp}
 use Rattle.local_rules.specs.Cover.{IsNode}
 use Rattle.edge_rules.specs.Examples.{callee}
 use Rattle.edge_rules.specs.Expansion.{Seeds}

@@ -2,14 +2,14 @@
 use Rattle.std.specs.Prelude.{ℕ, ◌≡◌, true, false, List, [], ◌∷◌, replicate, refl}
 use Rattle.avr_model.specs.Assumptions.{has_masks, has_scratch}
 use Rattle.avr_model.specs.Bits.{any_below, all_below}
-use Rattle.avr_model.specs.Devices.{device_row, Program, M328, image}
+use Rattle.avr_model.specs.Devices.{device_row, Image, M328, image_of}
 use Rattle.avr_model.specs.Masks.{reads_masks}
 use Rattle.avr_model.specs.Sites.{is_scratch, is_fixed}
 use Rattle.avr_model.specs.Table.{decoded}
 use Rattle.sp_domain.specs.declared.slots.Slot.TheVariants.{Free}
 use Rattle.abs_state.specs.declared.state.AbsState.{AbsState}
-use Rattle.mask_states.specs.declared.keys.SpForm.TheVariants.{Closed}
-use Rattle.mask_states.specs.Keys.{root_inst, entry_key}
+use Rattle.node_keys.specs.declared.keys.SpForm.TheVariants.{Closed}
+use Rattle.node_keys.specs.Keys.{root_inst, entry_key}
 use Rattle.local_rules.specs.declared.local.Node.{Node}
 use Rattle.edge_rules.specs.Examples.{top}
 use Rattle.edge_rules.specs.Families.{RankedFamily}
@@ -18,12 +18,12 @@ use Rattle.clear_laws.specs.Clear.{is_clear}
 use Rattle.local_rules.specs.Site.{bare}
 
 -- a call of the next word makes room for two bytes; `in r28, 0x3d`; `sts 0x08FE, r0` onto the second byte; a jump to itself
-abbrev pub over_room : Program
-over_room = image M328 (0xD000 ∷ 0xB7CD ∷ 0x9200 ∷ 0x08FE ∷ 0xCFFF ∷ replicate 16379 0xFFFF)
+abbrev pub over_room : Image
+over_room = image_of M328 (0xD000 ∷ 0xB7CD ∷ 0x9200 ∷ 0x08FE ∷ 0xCFFF ∷ replicate 16379 0xFFFF)
 
 -- the same, but two registers are pushed
-abbrev pub over_pushed : Program
-over_pushed = image M328 (0x920F ∷ 0x920F ∷ 0x9200 ∷ 0x08FE ∷ 0xCFFF ∷ replicate 16379 0xFFFF)
+abbrev pub over_pushed : Image
+over_pushed = image_of M328 (0x920F ∷ 0x920F ∷ 0x9200 ∷ 0x08FE ∷ 0xCFFF ∷ replicate 16379 0xFFFF)
 
 -- a node of the root with this many unknown bytes on the stack
 abbrev pub with_bytes : ℕ → AbsState

@@ -3,17 +3,17 @@ use Rattle.std.proofs.Common.{◌≡◌, refl, sym, ap, ◌∙◌, subst, ◌⊎
 use Rattle.std.proofs.lemmas.List.Elements.{Contains-append_left, Contains-append_right, Contains-append_cases}
 use Rattle.std.specs.FinMap.{get}
 use Rattle.basics.specs.Items.{only_one_in, none_in, first_in, further_in as there}
-use Rattle.call_graph.proofs.AllLaws.{each_gathered, gathered_in}
+use Rattle.family_edges.proofs.AllLaws.{each_gathered, gathered_in}
 use Rattle.avr_model.specs.Assumptions.{has_pairs}
 use Rattle.avr_model.specs.Devices.{device_of}
 use Rattle.abs_state.specs.declared.state.AbsState.{AbsState}
 use Rattle.abs_state.specs.Frames.{entered}
 use Rattle.abs_state.specs.PairsBack.{returned}
 use Rattle.abs_state.proofs.AllLaws.{states_are_ordered}
-use Rattle.mask_states.specs.declared.keys.InstKey.{InstKey}
-use Rattle.mask_states.specs.declared.keys.NodeKey.{NodeKey}
-use Rattle.mask_states.specs.declared.keys.EdgeKind.TheVariants as kind
-use Rattle.mask_states.specs.Keys.{entry_key}
+use Rattle.node_keys.specs.declared.keys.InstKey.{InstKey}
+use Rattle.node_keys.specs.declared.keys.NodeKey.{NodeKey}
+use Rattle.node_keys.specs.declared.keys.EdgeKind.TheVariants as kind
+use Rattle.node_keys.specs.Keys.{entry_key}
 use Rattle.local_rules.specs.declared.local.Exit.{Exit}
 use Rattle.local_rules.specs.declared.local.Node.{Node}
 use Rattle.local_rules.specs.Cover.{IsNodeIn}
@@ -22,15 +22,15 @@ use Rattle.edge_rules.specs.declared.edge.Edge.{Edge}
 use Rattle.edge_rules.specs.Edges.{IsFaultless, raw_of, returned_key, IsEdge, moving, entering, returning, target}
 use Rattle.edge_rules.specs.Families.{IsCovered}
 use Rattle.edge_laws.proofs.AllLaws.{edges_lead_to_nodes}
-use Rattle.call_graph.specs.declared.ways.Way.{Way}
-use Rattle.call_graph.specs.Next.{returned_as, node_of}
+use Rattle.family_edges.specs.declared.ways.Way.{Way}
+use Rattle.family_edges.specs.Next.{returned_as, node_of}
 use Rattle.round_table.specs.declared.crossings.Crossing.{Crossing}
 use Rattle.round_table.specs.Crossings.{crossings_at, IsCrossing}
 use Rattle.round_rules.specs.Families.{Family, nodes_of, FamilyHas, Lands, AreFormed}
 use Rattle.round_laws.specs.Steps.{IsRoundOf}
 use Rattle.round_laws.proofs.AllLaws.{families_are_their_nodes}
 use Rattle.round_steps.specs.declared.looking.Look.{Look}
-use Rattle.round_steps.specs.declared.looking.Seen.{Seen}
+use Rattle.round_steps.specs.declared.looking.SeenState.{SeenState}
 use Rattle.round_steps.specs.declared.noting.Notes.{Notes}
 use Rattle.round_steps.specs.Looks.{IsLook, HasLook, AreSeen}
 use Rattle.round_steps.specs.Notings.{caller, leaver}
@@ -214,7 +214,7 @@ module _ (task : Task) where
 
   -- ---- the round
 
-  module _ (f : Family) (formed : AreFormed (device_of task.flash) (has_pairs task.assumptions) f) (work : List NodeKey) (old notes : Notes) (seen : Seen) (turn : Turn task f work old)
+  module _ (f : Family) (formed : AreFormed (device_of task.flash) (has_pairs task.assumptions) f) (work : List NodeKey) (old notes : Notes) (seen : SeenState) (turn : Turn task f work old)
       (are : AreSeen task f work seen) (none : seen.worst ≡ None) (known : AreKnown task f notes) where
     abbrev xs : List Look
     xs = seen.looks.items

@@ -3,16 +3,16 @@ use Rattle.std.proofs.Common.{◌≡◌, refl, sym, ap, ◌∙◌, subst, ⊎_el
 use Rattle.std.proofs.lemmas.List.Elements.{Contains-append_cases}
 use Rattle.std.specs.FinMap.{get}
 use Rattle.basics.specs.Items.{only_one_in, none_in}
-use Rattle.call_graph.proofs.AllLaws.{each_gathered}
+use Rattle.family_edges.proofs.AllLaws.{each_gathered}
 use Rattle.abs_state.specs.declared.state.AbsState.{AbsState}
 use Rattle.abs_state.specs.PairsBack.{returned}
-use Rattle.mask_states.specs.declared.keys.NodeKey.{NodeKey}
+use Rattle.node_keys.specs.declared.keys.NodeKey.{NodeKey}
 use Rattle.local_rules.specs.declared.local.Exit.{Exit}
 use Rattle.local_rules.specs.declared.local.Node.{Node}
 use Rattle.local_laws.proofs.AllLaws.{each_in_map}
 use Rattle.edge_rules.specs.Edges.{raw_of, Enters, returned_key}
-use Rattle.call_graph.specs.declared.ways.Way.{Way}
-use Rattle.call_graph.specs.Next.{returned_as, node_of}
+use Rattle.family_edges.specs.declared.ways.Way.{Way}
+use Rattle.family_edges.specs.Next.{returned_as, node_of}
 use Rattle.round_table.specs.declared.crossings.Crossing.{Crossing}
 use Rattle.round_table.specs.Crossings.{crossings_at, IsCrossing}
 use Rattle.round_rules.specs.Families.{Family}

@@ -47,7 +47,7 @@ module _ (task : Task) (f : Family) (nodes : List Node) (is : nodes ≡ nodes_of
       let g = get_inside h.graph 0 h.is_graph.some in
       ap (λ (x : Inst). x.need) (one_at insts 0 root _ e (h.insts_are.each 0 g.0 g.1))
 
-  pub bound_small : (root : Inst) → slice_get insts 0 ≡ Some root → root.need ≤ 16384
+  pub bound_small : (root : Inst) → slice_get insts 0 ≡ Some root → root.need ≤ 32768
   bound_small root e =
       let le = law.bound task solved.0 f insts seeds solved.1 parts in
       omega (arith, le, root_need root e, devices_are_alike.most_bytes (device_of task.flash))

@@ -4,22 +4,22 @@ use Rattle.std.proofs.lemmas.List.Elements.{Contains-push_cases}
 use Rattle.basics.specs.Items.{none_in, first_in}
 use Rattle.avr_model.specs.Assumptions.{has_pairs}
 use Rattle.avr_model.specs.Devices.{device_of}
-use Rattle.mask_states.specs.declared.keys.NodeKey.{NodeKey}
-use Rattle.mask_states.specs.Keys.{root_inst}
+use Rattle.node_keys.specs.declared.keys.NodeKey.{NodeKey}
+use Rattle.node_keys.specs.Keys.{root_inst}
 use Rattle.local_rules.specs.declared.local.Node.{Node}
 use Rattle.local_rules.specs.Cover.{IsNodeIn}
 use Rattle.local_laws.specs.Laws.{AreNodesIn}
 use Rattle.edge_rules.specs.Edges.{IsFaultless, target}
 use Rattle.edge_laws.specs.Laws.{with_state}
 use Rattle.edge_laws.proofs.AllLaws.{edges_lead_to_nodes}
-use Rattle.call_graph.proofs.AllLaws.{each_gathered, gathered_in}
+use Rattle.family_edges.proofs.AllLaws.{each_gathered, gathered_in}
 use Rattle.round_nesting.specs.Nestings.{AreOnce, TellsAll}
 use Rattle.round_nesting.specs.declared.verdict.NestingVerdict.TheVariants as verdicts
 use Rattle.round_rules.specs.Families.{Family, nodes_of, FamilyHas, FamilyHasInst, FitsLimits, AreFormed}
 use Rattle.round_laws.specs.Closed.{IsMade}
 use Rattle.round_laws.proofs.AllLaws.{never_both, formed_nodes, member_has}
 use Rattle.round_steps.specs.declared.looking.Look.{Look}
-use Rattle.round_steps.specs.declared.looking.Seen.{Seen}
+use Rattle.round_steps.specs.declared.looking.SeenState.{SeenState}
 use Rattle.round_steps.specs.declared.noting.Notes.{Notes}
 use Rattle.round_steps.specs.Looks.{IsLook, HasLook, AreSeen}
 use Rattle.round_steps.specs.Notings.{blank, AreNoted}
@@ -41,7 +41,7 @@ module _ (task : Task) (f : Family) where
   -- ---- notes
 
   -- if no fault was found, a node of these keys was visited
-  look_there : (keys : List NodeKey) (seen : Seen) → AreSeen task f keys seen → seen.worst ≡ None → (n : Node) → FamilyHas f n → Contains keys n.key
+  look_there : (keys : List NodeKey) (seen : SeenState) → AreSeen task f keys seen → seen.worst ≡ None → (n : Node) → FamilyHas f n → Contains keys n.key
       → HasLook seen.looks.items n.key
   look_there keys seen are none n has i = ⊎_elim (λ h. h) (λ h. absurd (let never = sym none ∙ h.found in cc)) (are.each n.key n.state i has)
 
@@ -63,7 +63,7 @@ module _ (task : Task) (f : Family) where
         };
       })
 
-  pub more_known : (keys : List NodeKey) (k : NodeKey) (old new : Notes) (seen : Seen) → AreKnownAt task f keys old → AreSeen task f (k ∷ []) seen
+  pub more_known : (keys : List NodeKey) (k : NodeKey) (old new : Notes) (seen : SeenState) → AreKnownAt task f keys old → AreSeen task f (k ∷ []) seen
       → seen.worst ≡ None → AreNoted task.assumptions old seen.looks.items new → AreKnownAt task f (keys ++ k ∷ []) new
   more_known keys k old new seen known are none noting =
       let there : (n : Node) → FamilyHas f n → k ≡ n.key → HasLook seen.looks.items n.key = λ n has e. look_there (k ∷ []) seen are none n has (this_one k n.key e) in
@@ -92,7 +92,7 @@ module _ (task : Task) (f : Family) where
         subst (λ (t : Node). IsNodeIn (device_of task.flash) (has_pairs task.assumptions) t.key t.state) a.at
         (edges_lead_to_nodes.edges task (nodes_of f) a.from a.edge (formed_nodes f formed) (member_has f a.from a.has) a.is))
 
-    pub edges_land : (k : NodeKey) (seen : Seen) (items : List Node) → AreSeen task f (k ∷ []) seen
+    pub edges_land : (k : NodeKey) (seen : SeenState) (items : List Node) → AreSeen task f (k ∷ []) seen
         → AreBeyond (device_of task.flash) (has_pairs task.assumptions) f (all_targets f notes seen.looks.items) items → items ≡ [] → LandAt task f (k ∷ [])
     edges_land k seen items are beyond none n e has i edge =
         ⊎_elim (λ h.

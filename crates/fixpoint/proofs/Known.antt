@@ -1,17 +1,17 @@
 -- After a round the notes have all nodes, and the nesting is the family's.
 use Rattle.std.proofs.Common.{◌≡◌, refl, sym, ◌∙◌, subst, subst₂, ℕ, inl, inr, ⊎_elim, List, Some, None, Contains}
-use Rattle.mask_states.specs.declared.keys.InstKey.{InstKey}
-use Rattle.mask_states.specs.declared.keys.NodeKey.{NodeKey}
-use Rattle.mask_states.specs.Keys.{root_inst, offset_of, cut_at}
+use Rattle.node_keys.specs.declared.keys.InstKey.{InstKey}
+use Rattle.node_keys.specs.declared.keys.NodeKey.{NodeKey}
+use Rattle.node_keys.specs.Keys.{root_inst, offset_of, cut_at}
 use Rattle.edge_rules.specs.Nest.{recurs, enters as by_node}
 use Rattle.local_rules.specs.declared.local.Node.{Node}
-use Rattle.call_graph.specs.declared.ways.Way.{Way}
+use Rattle.family_edges.specs.declared.ways.Way.{Way}
 use Rattle.round_table.specs.declared.crossings.Crossing.{Crossing}
 use Rattle.round_nesting.specs.Nestings.{Spot, Entrance, IsSpotOf, IsNestingOf}
 use Rattle.round_rules.specs.Families.{Family, FamilyHas, FamilyHasInst}
-use Rattle.round_rules.specs.Rounds.{Entering}
+use Rattle.round_rules.specs.Rounds.{IsEntering}
 use Rattle.round_steps.specs.declared.looking.Look.{Look}
-use Rattle.round_steps.specs.declared.looking.Seen.{Seen}
+use Rattle.round_steps.specs.declared.looking.SeenState.{SeenState}
 use Rattle.round_steps.specs.declared.noting.Notes.{Notes}
 use Rattle.round_steps.specs.Looks.{IsLook, HasLook, AreSeen}
 use Rattle.round_steps.specs.Notings.{AnyHas, caller, leaver, CallsAt, LeavesAt, InstAt, SpotAt, EntersAt, AreNoted}
@@ -46,14 +46,14 @@ module _ (task : Task) (f : Family) (old new : Notes) (xs : List Look) (noted : 
         let is = looks h.one h.member in
         record { node = seen_node task f h.one is; has = is.has; of = sym h.has.0; closed = h.has.1 }
 
-    entrance_so : (e : Entrance) → AnyHas xs (EntersAt task.assumptions) e → Entering task f e.from e.into e.offset
+    entrance_so : (e : Entrance) → AnyHas xs (EntersAt task.assumptions) e → IsEntering task f e.from e.into e.offset
     entrance_so e h =
         let is = looks h.one h.member in
         ⊎_elim
-        (λ r. subst (λ (d : Entrance). Entering task f d.from d.into d.offset) (sym r.1) (recurs (seen_node task f h.one is) is.has refl r.0 refl))
+        (λ r. subst (λ (d : Entrance). IsEntering task f d.from d.into d.offset) (sym r.1) (recurs (seen_node task f h.one is) is.has refl r.0 refl))
         (λ b.
         let w = b.one in
-        subst (λ (d : Entrance). Entering task f d.from d.into d.offset) (sym b.has.1)
+        subst (λ (d : Entrance). IsEntering task f d.from d.into d.offset) (sym b.has.1)
         (by_node (seen_node task f h.one is) w.kind w.back is.has refl refl ((look_way task f h.one is w).0 b.member) b.has.0)) h.has
 
     pub notes_so : AreTrue task f old → AreTrue task f new
@@ -96,7 +96,7 @@ module _ (task : Task) (f : Family) (old new : Notes) (xs : List Look) (noted : 
   }
 
 -- the notes of a round without a fault
-pub all_known : (task : Task) (f : Family) (work : List NodeKey) (old new : Notes) (seen : Seen) → Turn task f work old → AreSeen task f work seen
+pub all_known : (task : Task) (f : Family) (work : List NodeKey) (old new : Notes) (seen : SeenState) → Turn task f work old → AreSeen task f work seen
     → seen.worst ≡ None → AreNoted task.assumptions old seen.looks.items new → AreKnown task f new
 all_known task f work old new seen turn are none noted =
     let clean = none_faulty task f work old seen turn are none in
@@ -115,7 +115,7 @@ nesting_is task f notes known = record {
 }
   where
     -- each edge of the nest is noted
-    edge_noted : (i j : InstKey) (depth : ℕ) → Entering task f i j depth → Contains notes.nesting.entrances (record { from = i; into = j; offset = depth })
+    edge_noted : (i j : InstKey) (depth : ℕ) → IsEntering task f i j depth → Contains notes.nesting.entrances (record { from = i; into = j; offset = depth })
     edge_noted i j depth (by_node n way back has same at e whole) =
         subst₂ (λ (k : InstKey) (o : ℕ). Contains notes.nesting.entrances (record { from = k; into = j; offset = o })) same at ((known.each n has).entrances way j back e whole)
     edge_noted i j depth (recurs n has same cut top) =

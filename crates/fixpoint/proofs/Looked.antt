@@ -4,18 +4,18 @@ use Rattle.std.specs.Prelude.{◌↔◌}
 use Rattle.std.specs.FinMap.{get}
 use Rattle.std.proofs.lemmas.Option.{same_Some}
 use Rattle.round_steps.proofs.Seeing.{some_fault}
-use Rattle.mask_states.specs.declared.keys.NodeKey.{NodeKey}
+use Rattle.node_keys.specs.declared.keys.NodeKey.{NodeKey}
 use Rattle.local_rules.specs.declared.local.Node.{Node}
 use Rattle.local_rules.specs.declared.local.NodeFault.{NodeFault}
 use Rattle.local_rules.specs.Local.{local, joined_onto}
 use Rattle.edge_rules.specs.Edges.{IsFaultless, raw_of, Enters}
-use Rattle.call_graph.specs.declared.ways.Way.{Way}
-use Rattle.call_graph.proofs.AllLaws.{local_parts_are_edges}
+use Rattle.family_edges.specs.declared.ways.Way.{Way}
+use Rattle.family_edges.proofs.AllLaws.{local_parts_are_edges}
 use Rattle.round_rules.specs.Families.{Family, FamilyHas, HasNoFault}
 use Rattle.round_rules.specs.Refusals.{FaultAt, IsFaultNoLater, IsLeastFault}
 use Rattle.round_laws.proofs.AllLaws.{never_both}
 use Rattle.round_steps.specs.declared.looking.Look.{Look}
-use Rattle.round_steps.specs.declared.looking.Seen.{Seen}
+use Rattle.round_steps.specs.declared.looking.SeenState.{SeenState}
 use Rattle.round_steps.specs.declared.noting.Notes.{Notes}
 use Rattle.round_steps.specs.Looks.{IsLook, HasLook, AreSeen}
 use Rattle.fixpoint.specs.Progress.{Turn}
@@ -48,7 +48,7 @@ module _ (task : Task) where
         λ i. record { key = at i; state = state i }
 
   -- a node of the list was visited, or has a fault
-  module _ (f : Family) (work : List NodeKey) (notes : Notes) (seen : Seen) (turn : Turn task f work notes) (are : AreSeen task f work seen) where
+  module _ (f : Family) (work : List NodeKey) (notes : Notes) (seen : SeenState) (turn : Turn task f work notes) (are : AreSeen task f work seen) where
     look_at_clean : (n : Node) → FamilyHas f n → HasLook seen.looks.items n.key → IsFaultless task n
     look_at_clean n has h =
         let is = are.looks h.look h.member in

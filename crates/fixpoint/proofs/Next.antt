@@ -6,11 +6,11 @@ use Rattle.avr_model.specs.Assumptions.{has_pairs}
 use Rattle.avr_model.specs.Devices.{device_of}
 use Rattle.abs_state.specs.declared.state.AbsState.{AbsState}
 use Rattle.abs_state.proofs.AllLaws.{states_are_ordered}
-use Rattle.mask_states.specs.declared.keys.InstKey.{InstKey}
-use Rattle.mask_states.specs.declared.keys.NodeKey.{NodeKey}
-use Rattle.mask_states.specs.Order.{node_cmp, same_node}
-use Rattle.mask_states.specs.Total.{node_total}
-use Rattle.mask_states.proofs.AllLaws.{keys_are_ordered}
+use Rattle.node_keys.specs.declared.keys.InstKey.{InstKey}
+use Rattle.node_keys.specs.declared.keys.NodeKey.{NodeKey}
+use Rattle.node_keys.specs.Order.{node_cmp, same_node}
+use Rattle.node_keys.specs.Total.{node_total}
+use Rattle.node_keys.proofs.AllLaws.{keys_are_ordered}
 use Rattle.local_rules.specs.declared.local.Node.{Node}
 use Rattle.local_laws.proofs.AllLaws.{local_parts_are_monotone}
 use Rattle.edge_rules.specs.Nest.{recurs, enters as by_node}
@@ -19,7 +19,7 @@ use Rattle.edge_laws.proofs.AllLaws.{edges_grow}
 use Rattle.round_table.specs.declared.crossings.Crossing.{Crossing}
 use Rattle.round_nesting.specs.Nestings.{AreOnce}
 use Rattle.round_rules.specs.Families.{Family, FamilyHas, Lands, Below, AreFormed, HasNoFault, IsClosed}
-use Rattle.round_rules.specs.Rounds.{Entering, IsNext}
+use Rattle.round_rules.specs.Rounds.{IsEntering, IsNext}
 use Rattle.round_laws.specs.Steps.{weight}
 use Rattle.round_laws.proofs.AllLaws.{families_are_their_nodes, node_exact}
 use Rattle.round_steps.specs.declared.noting.Notes.{Notes}
@@ -63,7 +63,7 @@ module _ (task : Task) where
         let w = (local_parts_are_monotone.below task c.node.key c.node.state l.at (low c.node c.has) (high m l.is) l.above).within (clean m l.is) in
         record { node = m; has = l.is; at = c.at; of = c.of; exit = sym w.exit ∙ c.exit }
 
-    entering_up : (i j : InstKey) (offset : ℕ) → Entering task f i j offset → Entering task g i j offset
+    entering_up : (i j : InstKey) (offset : ℕ) → IsEntering task f i j offset → IsEntering task g i j offset
     entering_up i j offset (by_node n way back has same at e whole) =
         let l = below n has in
         let m = with_state n l.at in

@@ -8,12 +8,12 @@ use Rattle.std.specs.declared.cmp.Ordering.TheVariants.{Less}
 use Rattle.basics.specs.Items.{contained_at}
 use Rattle.edge_laws.proofs.AllLaws.{not_below_itself}
 use Rattle.avr_model.specs.declared.device.Device.{Device}
-use Rattle.mask_states.specs.declared.keys.NodeKey.{NodeKey}
-use Rattle.mask_states.specs.Order.{node_cmp}
+use Rattle.node_keys.specs.declared.keys.NodeKey.{NodeKey}
+use Rattle.node_keys.specs.Order.{node_cmp}
 use Rattle.local_rules.specs.declared.local.Node.{Node}
 use Rattle.edge_rules.specs.Places.{found_at, none_from}
 use Rattle.edge_rules.specs.Views.{AreShown, place_of}
-use Rattle.call_graph.specs.declared.landing.Landing.{Landing}
+use Rattle.family_edges.specs.declared.landing.Landing.{Landing}
 use Rattle.round_solutions.proofs.AllLaws.{node_before}
 use Rattle.fixpoint.specs.declared.leading.Lead.{Lead}
 use Rattle.fixpoint.specs.declared.leading.Lead.TheVariants.{Nothing}

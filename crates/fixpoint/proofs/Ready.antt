@@ -5,8 +5,8 @@ use Rattle.avr_model.specs.Assumptions.{has_pairs}
 use Rattle.avr_model.specs.Devices.{device_of}
 use Rattle.avr_model.specs.State.{SIZE}
 use Rattle.avr_model.proofs.AllLaws.{devices_are_alike}
-use Rattle.mask_states.specs.declared.keys.NodeKey.{NodeKey}
-use Rattle.mask_states.specs.Keys.{root_inst, offset_of}
+use Rattle.node_keys.specs.declared.keys.NodeKey.{NodeKey}
+use Rattle.node_keys.specs.Keys.{root_inst, offset_of}
 use Rattle.local_rules.specs.declared.local.Node.{Node}
 use Rattle.local_rules.specs.declared.local.NodeFault.{NodeFault}
 use Rattle.local_laws.specs.Laws.{AreNodesIn}
@@ -20,7 +20,7 @@ use Rattle.round_rules.specs.Families.{Family, FamilyHasInst, AreFormed, FitsLim
 use Rattle.round_rules.specs.Rounds.{PassesTests}
 use Rattle.round_rules.specs.Refusals.{over, faulty, re_entry, recursion, too_deep}
 use Rattle.round_steps.specs.declared.looking.Look.{Look}
-use Rattle.round_steps.specs.declared.looking.Seen.{Seen}
+use Rattle.round_steps.specs.declared.looking.SeenState.{SeenState}
 use Rattle.round_steps.specs.declared.noting.Notes.{Notes}
 use Rattle.round_steps.specs.Looks.{AreSeen}
 use Rattle.round_steps.specs.Targets.{all_targets}
@@ -47,12 +47,12 @@ module _ (task : Task) where
   pub too_large : (f : Family) (r : Refusal) → IsTooLarge f r → AreRoundsStopped task f r
   too_large f r h = record { test = over h.limit; holds = h.over; is = h.is }
 
-  pub has_fault : (f : Family) (work : List NodeKey) (notes : Notes) (seen : Seen) (b : NodeFault) (r : Refusal) → FitsLimits f → Turn task f work notes
+  pub has_fault : (f : Family) (work : List NodeKey) (notes : Notes) (seen : SeenState) (b : NodeFault) (r : Refusal) → FitsLimits f → Turn task f work notes
       → AreSeen task f work seen → seen.worst ≡ Some b → r ≡ Faulty b → AreRoundsStopped task f r
   has_fault f work notes seen b r fits turn are worst is = record { test = faulty b; holds = (fits, least_fault task f work notes seen turn are b worst); is = is }
 
   -- all visits are at offsets that nodes have
-  pub looks_fit : (f : Family) (work : List NodeKey) (seen : Seen) → AreFormed (device_of task.flash) (has_pairs task.assumptions) f → AreSeen task f work seen → (x : Look) → Contains seen.looks.items x
+  pub looks_fit : (f : Family) (work : List NodeKey) (seen : SeenState) → AreFormed (device_of task.flash) (has_pairs task.assumptions) f → AreSeen task f work seen → (x : Look) → Contains seen.looks.items x
       → offset_of x.key.sp ≤ SIZE
   looks_fit f work seen formed are x i =
       let is = are.looks x i in
@@ -98,7 +98,7 @@ module _ (task : Task) where
     }
 
   -- all targets are nodes
-  pub targets_fit : (f : Family) (work : List NodeKey) (old mid : Notes) (nesting : Noted) (seen : Seen) → AreFormed (device_of task.flash) (has_pairs task.assumptions) f → FitsLimits f → Turn task f work old
+  pub targets_fit : (f : Family) (work : List NodeKey) (old mid : Notes) (nesting : Noted) (seen : SeenState) → AreFormed (device_of task.flash) (has_pairs task.assumptions) f → FitsLimits f → Turn task f work old
       → AreSeen task f work seen → seen.worst ≡ None → AreKnown task f mid → AreAlike mid.nesting nesting
       → AreNodesIn (device_of task.flash) (has_pairs task.assumptions) (all_targets f (record { callers = mid.callers; leavers = mid.leavers; nesting = nesting }) seen.looks.items)
   targets_fit f work old mid nesting seen formed fits turn are none known alike =
@@ -106,7 +106,7 @@ module _ (task : Task) where
       (round_is task f formed work old notes seen turn are none (alike_known f mid fits known nesting alike)).formed
 
   -- the next nodes
-  pub is_ready : (f : Family) (work : List NodeKey) (old mid : Notes) (nesting : Noted) (seen : Seen) (nodes : List Node) → AreFormed (device_of task.flash) (has_pairs task.assumptions) f → FamilyHasInst f root_inst → FitsLimits f
+  pub is_ready : (f : Family) (work : List NodeKey) (old mid : Notes) (nesting : Noted) (seen : SeenState) (nodes : List Node) → AreFormed (device_of task.flash) (has_pairs task.assumptions) f → FamilyHasInst f root_inst → FitsLimits f
       → Turn task f work old → AreSeen task f work seen → seen.worst ≡ None → AreKnown task f mid → TellsAll (device_of task.flash) mid.nesting verdicts.Nests
       → AreAlike mid.nesting nesting → AreOnce nesting.insts
       → AreBeyond (device_of task.flash) (has_pairs task.assumptions) f (all_targets f (record { callers = mid.callers; leavers = mid.leavers; nesting = nesting }) seen.looks.items) nodes

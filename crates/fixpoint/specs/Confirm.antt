@@ -1,6 +1,6 @@
 -- Invariants while all nodes of a family are checked.
 use Rattle.std.specs.Prelude.{List, Contains}
-use Rattle.mask_states.specs.declared.keys.NodeKey.{NodeKey}
+use Rattle.node_keys.specs.declared.keys.NodeKey.{NodeKey}
 use Rattle.local_rules.specs.declared.local.Node.{Node}
 use Rattle.edge_rules.specs.declared.edge.Edge.{Edge}
 use Rattle.edge_rules.specs.Edges.{IsFaultless, IsEdge, target}

@@ -2,9 +2,9 @@
 use Rattle.std.specs.Prelude.{ℕ, ◌≡◌, ◌<◌, List, length, Some, slice_get, slice_index}
 use Rattle.avr_model.specs.Devices.{device_of, back_of}
 use Rattle.local_rules.specs.declared.local.Node.{Node}
-use Rattle.nesting_bound.specs.declared.graph.GraphInst.{GraphInst}
-use Rattle.nesting_bound.specs.Graph.{IsGraph}
-use Rattle.nesting_bound.specs.Least.{IsLeast}
+use Rattle.instance_graph.specs.declared.graph.GraphInst.{GraphInst}
+use Rattle.instance_graph.specs.Graph.{IsGraph}
+use Rattle.instance_graph.specs.Least.{IsLeast}
 use Rattle.family_graph.specs.Graphs.{IsGraphOf}
 use Rattle.certificate.specs.declared.instance.Inst.{Inst}
 use Rattle.round_rules.specs.Families.{Family, nodes_of}

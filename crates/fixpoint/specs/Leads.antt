@@ -1,16 +1,16 @@
 -- The edges that lead to each node, and the forms of nodes that follow from them.
 use Rattle.std.specs.Prelude.{ℕ, ◌+◌, ◌≡◌, ◌<◌, ◌==◌, nat_lt, if◌then◌else◌, List, [], ◌∷◌, length, Some, slice_get, slice_set, slice_index_or}
 use Rattle.abs_state.specs.declared.state.AbsState.{AbsState}
-use Rattle.mask_states.specs.declared.keys.EdgeKind.{EdgeKind}
-use Rattle.mask_states.specs.declared.keys.EdgeKind.TheVariants.{Local, Call, Interrupt, Return}
-use Rattle.mask_states.specs.declared.keys.NodeKey.{NodeKey}
+use Rattle.node_keys.specs.declared.keys.EdgeKind.{EdgeKind}
+use Rattle.node_keys.specs.declared.keys.EdgeKind.TheVariants.{Local, Call, Interrupt, Return}
+use Rattle.node_keys.specs.declared.keys.NodeKey.{NodeKey}
 use Rattle.local_rules.specs.declared.local.Node.{Node}
 use Rattle.edge_rules.specs.declared.edge.Edge.{Edge}
 use Rattle.edge_rules.specs.declared.seeded.NodeForm.{NodeForm}
 use Rattle.edge_rules.specs.declared.seeded.NodeForm.TheVariants.{State, From}
 use Rattle.edge_rules.specs.Edges.{IsEdge}
 use Rattle.edge_rules.specs.Expansion.{Seeds}
-use Rattle.call_graph.specs.declared.landing.Landing.{Landing}
+use Rattle.family_edges.specs.declared.landing.Landing.{Landing}
 use Rattle.round_rules.specs.Sparse.{IsOnlyFrom}
 use Rattle.fixpoint.specs.declared.leading.Lead.{Lead}
 use Rattle.fixpoint.specs.declared.leading.Lead.TheVariants.{Nothing, Only, More}

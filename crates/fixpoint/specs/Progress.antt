@@ -3,11 +3,11 @@ use Rattle.std.specs.Prelude.{ℕ, ◌+◌, ◌≡◌, ◌⊎◌, ⊤, List, [],
 use Rattle.abs_state.specs.declared.state.AbsState.{AbsState}
 use Rattle.abs_state.specs.Frames.{entered}
 use Rattle.abs_state.specs.PairsBack.{returned}
-use Rattle.mask_states.specs.declared.keys.InstKey.{InstKey}
-use Rattle.mask_states.specs.declared.keys.NodeKey.{NodeKey}
-use Rattle.mask_states.specs.declared.keys.EdgeKind.{EdgeKind}
-use Rattle.mask_states.specs.declared.keys.SpForm.TheVariants.{Closed}
-use Rattle.mask_states.specs.Keys.{root_inst, entry_key, offset_of, cut_at}
+use Rattle.node_keys.specs.declared.keys.InstKey.{InstKey}
+use Rattle.node_keys.specs.declared.keys.NodeKey.{NodeKey}
+use Rattle.node_keys.specs.declared.keys.EdgeKind.{EdgeKind}
+use Rattle.node_keys.specs.declared.keys.SpForm.TheVariants.{Closed}
+use Rattle.node_keys.specs.Keys.{root_inst, entry_key, offset_of, cut_at}
 use Rattle.local_rules.specs.declared.local.Exit.{Exit}
 use Rattle.local_rules.specs.declared.local.Node.{Node}
 use Rattle.local_rules.specs.Local.{joined_onto}
@@ -16,7 +16,7 @@ use Rattle.round_table.specs.declared.crossings.Crossing.{Crossing}
 use Rattle.round_table.specs.Crossings.{IsCrossing}
 use Rattle.round_nesting.specs.Nestings.{Spot, Entrance, AreOnce, IsSpotOf}
 use Rattle.round_rules.specs.Families.{Family, FamilyHas, FamilyHasInst, Lands, HasNoFault, cells}
-use Rattle.round_rules.specs.Rounds.{Entering, Comes}
+use Rattle.round_rules.specs.Rounds.{IsEntering, Comes}
 use Rattle.round_rules.specs.declared.refusal.Refusal.{Refusal}
 use Rattle.round_rules.specs.declared.refusal.Refusal.TheVariants.{Spent}
 use Rattle.round_rules.specs.Refusals.{IsSolved}
@@ -58,7 +58,7 @@ pub record AreTrue (task : Task) (f : Family) (notes : Notes) : Type 0 where
   pub leavers : (inst : InstKey) (p : Crossing) → IsCrossing notes.leavers inst p → IsLeaver task f inst p
   pub insts : (inst : InstKey) → Contains notes.nesting.insts inst → FamilyHasInst f inst
   pub spots : (s : Spot) → Contains notes.nesting.spots s → IsSpotOf f s
-  pub entrances : (e : Entrance) → Contains notes.nesting.entrances e → Entering task f e.from e.into e.offset
+  pub entrances : (e : Entrance) → Contains notes.nesting.entrances e → IsEntering task f e.from e.into e.offset
 
 -- the notes have all that the node contributes
 pub record IsKnown (task : Task) (notes : Notes) (n : Node) : Type 0 where

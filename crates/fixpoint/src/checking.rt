@@ -4,7 +4,7 @@ ghost use Rattle.std.specs.Prelude.{◌≡◌, ◌≢◌, ◌≤◌, length, Con
 ghost use Rattle.std.specs.FinMap.{len};
 ghost use Rattle.avr_model.specs.Devices.{device_of};
 ghost use Rattle.avr_model.specs.State.{SIZE};
-ghost use Rattle.mask_states.specs.Keys.{offset_of};
+ghost use Rattle.node_keys.specs.Keys.{offset_of};
 ghost use Rattle.certificate.specs.Claims.{most_nodes};
 ghost use Rattle.round_nesting.specs.Nestings.{AreAlike, AreOnce, TellsAll};
 ghost use Rattle.round_nesting.specs.declared.verdict.NestingVerdict.TheVariants.{Nests};
@@ -14,13 +14,13 @@ ghost use Rattle.round_steps.specs.declared.looking.Look as look_type;
 ghost use Rattle.round_steps.specs.Notings.{AreNoted};
 ghost use Rattle.fixpoint.specs.Checks.{IsTooLarge, IsFaulty, IsVerdictTold};
 
-use call_graph::Task;
 use certificate::{Limit, MOST_CELLS, MOST_NODES};
+use family_edges::Task;
 use flash_image::Flash;
 use local_rules::NodeFault;
 use round_nesting::{Nesting, NestingVerdict};
 use round_rules::Refusal;
-use round_steps::{Notes, Seen};
+use round_steps::{Notes, SeenState};
 use round_table::Table;
 
 /// Checks that the nodes, and then the cells, are within the limits.
@@ -39,7 +39,7 @@ pub fn check_size(table: &Table, counted: u64) -> Result<(), Refusal>
 }
 
 /// Notes the results of visits, unless a node has a fault.
-pub fn note_seen(task: &Task<'_>, notes: &mut Notes, seen: &Seen) -> Result<(), Refusal>
+pub fn note_seen(task: &Task<'_>, notes: &mut Notes, seen: &SeenState) -> Result<(), Refusal>
     requires small { (x : look_type.Look) → Contains seen.now.looks.items x → offset_of x.key.sp ≤ SIZE }
     requires once { AreOnce notes.old.nesting.insts }
     ensures none { OnOk result (seen.now.worst ≡ None) }

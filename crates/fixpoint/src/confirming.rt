@@ -5,7 +5,7 @@ ghost use Rattle.std.specs.FinMap.{get};
 ghost use Rattle.avr_model.specs.Devices.{device_of};
 ghost use Rattle.avr_model.specs.Assumptions.{has_pairs};
 ghost use Rattle.abs_state.specs.declared.state.AbsState as state_type;
-ghost use Rattle.mask_states.specs.declared.keys.NodeKey as key_type;
+ghost use Rattle.node_keys.specs.declared.keys.NodeKey as key_type;
 ghost use Rattle.round_nesting.specs.Nestings.{AreOnce};
 ghost use Rattle.round_rules.specs.Families.{AreFormed, cells};
 ghost use Rattle.round_laws.specs.Closed.{IsMade};
@@ -13,20 +13,20 @@ ghost use Rattle.round_steps.specs.Looks.{AreSeen};
 ghost use Rattle.round_steps.specs.Notings.{blank};
 ghost use Rattle.fixpoint.specs.Progress.{AreKnown, AreRoundsFound};
 ghost use Rattle.fixpoint.specs.Confirm.{AreKnownAt, LandAt};
-ghost use Rattle.call_graph.specs.Tasks.{task_of};
+ghost use Rattle.family_edges.specs.Tasks.{task_of};
 
 use crate::checking::{check_nesting, check_size, note_seen};
 use crate::unfound::Unfound;
-use call_graph::Task;
-use mask_states::NodeKey;
+use family_edges::Task;
+use node_keys::NodeKey;
 use round_rules::Refusal;
 use round_steps::targets::targets;
-use round_steps::{Notes, Seen, look_all};
+use round_steps::{Notes, SeenState, look_all};
 use round_table::Table;
 use std::alloc::AllocError;
 
 // The result of a visit of one node.
-fn look_at(task: &Task<'_>, table: &Table, key: &NodeKey) -> Result<Seen, AllocError>
+fn look_at(task: &Task<'_>, table: &Table, key: &NodeKey) -> Result<SeenState, AllocError>
     requires { AreFormed (device_of task.now.flash.now) (has_pairs task.now.assumptions.now) table.now }
     ensures { IfOk result (λ seen. AreSeen (task_of task.now) table.now (key.now ∷ []) seen) }
 {

@@ -7,7 +7,7 @@ ghost use Rattle.vector_table.specs.Entries.{most_entries};
 ghost use Rattle.round_rules.specs.Solutions.{AllFit, IsFirstMisfit};
 
 use avr_model::device::Device;
-use call_graph::Task;
+use family_edges::Task;
 use vector_table::{Entry, fits};
 
 // The place of the first entry that no list of the device has.

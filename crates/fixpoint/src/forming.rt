@@ -1,17 +1,17 @@
 //! The nodes that are written with states, and those without.
 
 ghost use Rattle.std.specs.Prelude.{◌≡◌, ◌≤◌, ◌<◌, length, IfOk};
-ghost use Rattle.call_graph.specs.Landings.{AreLandings};
+ghost use Rattle.family_edges.specs.Landings.{AreLandings};
 ghost use Rattle.round_solutions.specs.Parts.{AreForms};
 ghost use Rattle.fixpoint.specs.Leads.{lead_at, form_by, forms_from};
-ghost use Rattle.call_graph.specs.Tasks.{task_of};
+ghost use Rattle.family_edges.specs.Tasks.{task_of};
 
 use crate::leading::{Lead, leads};
 use abs_state::AbsState;
-use call_graph::{NodeForm, Task, Worked};
 use edge_rules::HeldState;
+use family_edges::{NodeForm, Task, WorkedOut};
 use local_rules::Node;
-use mask_states::NodeKey;
+use node_keys::NodeKey;
 use std::alloc::{AllocError, Global};
 
 // The form of the node of this number, by the edges that lead to nodes.
@@ -47,7 +47,7 @@ fn formed(
 
 /// The nodes of a family, at most 65,536, with their forms: the number of an earlier node if the only edge to the node is local and comes
 /// from there, else the state. No local part is computed.
-pub fn forms(task: &Task<'_>, family: Worked) -> Result<Vec<(NodeKey, NodeForm)>, AllocError>
+pub fn forms(task: &Task<'_>, family: WorkedOut) -> Result<Vec<(NodeKey, NodeForm)>, AllocError>
     requires few { length family.nodes ≤ 65536 }
     requires landings { AreLandings (task_of task.now) family.nodes family.landings }
     ensures { IfOk result (λ forms. AreForms (task_of task.now) family.nodes forms.items) }

@@ -1,13 +1,13 @@
 //! The edges that lead to each node.
 
 ghost use Rattle.std.specs.Prelude.{◌≡◌, ◌<◌, ◌≤◌, fold, length, IfOk, Contains};
-ghost use Rattle.call_graph.specs.declared.landing.Landing as landing_type;
-ghost use Rattle.call_graph.specs.Landings.{AreLandings};
+ghost use Rattle.family_edges.specs.declared.landing.Landing as landing_type;
+ghost use Rattle.family_edges.specs.Landings.{AreLandings};
 ghost use Rattle.fixpoint.specs.Leads.{led, noted, AreLeads};
-ghost use Rattle.call_graph.specs.Tasks.{task_of};
+ghost use Rattle.family_edges.specs.Tasks.{task_of};
 
-use call_graph::{Landing, Task, Worked};
-use mask_states::EdgeKind;
+use family_edges::{Landing, Task, WorkedOut};
+use node_keys::EdgeKind;
 use std::alloc::AllocError;
 
 // The edges that lead to a node.
@@ -47,7 +47,7 @@ fn note_all(at: u32, landings: &[Landing], leads: &mut [Lead])
 }
 
 // The edges that lead to each node of a family, by its landings.
-pub(crate) fn leads(task: &Task<'_>, family: &Worked) -> Result<Vec<Lead>, AllocError>
+pub(crate) fn leads(task: &Task<'_>, family: &WorkedOut) -> Result<Vec<Lead>, AllocError>
     requires few { length family.now.nodes ≤ 65536 }
     requires landings { AreLandings (task_of task.now) family.now.nodes family.now.landings }
     ensures { IfOk result (λ l. AreLeads (task_of task.now) family.now.nodes (length family.now.nodes) l.items) }

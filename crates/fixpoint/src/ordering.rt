@@ -13,16 +13,16 @@ ghost use Rattle.fixpoint.specs.Progress.{AreRoundsFound};
 ghost use Rattle.fixpoint.specs.Order.{IsUnderWay};
 ghost use Rattle.fixpoint.specs.OrderLaws.{OrdersEnd};
 ghost use Rattle.fixpoint.specs.Turns.{AreUnderWay, IsOnItsWay, room};
-ghost use Rattle.call_graph.specs.Tasks.{task_of};
+ghost use Rattle.family_edges.specs.Tasks.{task_of};
 
 use crate::checking::{check_nesting, check_size, note_seen};
 use crate::confirming::confirm;
 use crate::rounds::{Rounds, begin, family_of, go_on, start};
 use crate::unfound::Unfound;
-use call_graph::Task;
 use certificate::MOST_INSTANCES;
+use family_edges::Task;
 use flash_image::Flash;
-use mask_states::NodeKey;
+use node_keys::NodeKey;
 use round_nesting::Nesting;
 use round_rules::Refusal;
 use round_steps::targets::targets;
@@ -61,7 +61,7 @@ fn look_on(
 }
 
 /// An item of the worklist: a node's offset in the frame, its word, and its key. The least offset and word is the greatest item.
-pub type Due = (Reverse<u16>, Reverse<u16>, NodeKey);
+pub type Due = (Reverse<u16>, Reverse<u32>, NodeKey);
 
 // Adds the keys to the worklist.
 fn await_all(waiting: &mut BinaryHeap<Due>, keys: Vec<NodeKey>) -> Result<(), AllocError>

@@ -4,7 +4,7 @@ ghost use Rattle.std.specs.Prelude.{ℕ, ◌+◌, ◌≡◌, ◌≢◌, ◌<◌,
 ghost use Rattle.std.specs.FinMap.{empty};
 ghost use Rattle.avr_model.specs.Devices.{device_of};
 ghost use Rattle.avr_model.specs.Assumptions.{has_pairs};
-ghost use Rattle.mask_states.specs.Keys.{root_inst};
+ghost use Rattle.node_keys.specs.Keys.{root_inst};
 ghost use Rattle.round_rules.specs.declared.refusal.Refusal.TheVariants.{Memory};
 ghost use Rattle.round_rules.specs.Families.{AreFormed, FamilyHasInst, cells};
 ghost use Rattle.round_rules.specs.Rounds.{first};
@@ -14,12 +14,12 @@ ghost use Rattle.round_steps.specs.Notings.{blank};
 ghost use Rattle.fixpoint.specs.Progress.{Turn, IsBudgetLeft, IsSpent, AreRoundsFound};
 ghost use Rattle.fixpoint.specs.Turns.{AreUnderWay, room};
 ghost use Rattle.fixpoint.specs.Checks.{AreRoundsStopped, IsReady};
-ghost use Rattle.call_graph.specs.Tasks.{task_of};
+ghost use Rattle.family_edges.specs.Tasks.{task_of};
 
 use crate::checking::{check_nesting, check_size, note_seen};
-use call_graph::Task;
+use family_edges::Task;
 use local_rules::Node;
-use mask_states::{InstKey, NodeKey};
+use node_keys::{InstKey, NodeKey};
 use round_rules::Refusal;
 use round_steps::targets::targets;
 use round_steps::{Notes, join_all, look_all};

@@ -5,13 +5,13 @@ ghost use Rattle.certificate.specs.Claims.{Claim};
 ghost use Rattle.certificate.specs.Valid.{IsValid};
 ghost use Rattle.round_rules.specs.declared.refusal.Refusal.TheVariants.{Memory};
 ghost use Rattle.round_rules.specs.Solutions.{IsAnswer, IsWhyNot, IsShown};
-ghost use Rattle.call_graph.specs.Tasks.{task_of};
+ghost use Rattle.family_edges.specs.Tasks.{task_of};
 
 use crate::fitting::first_misfit;
 use crate::ordering::found_family;
 use crate::writing::certificate_of;
-use call_graph::Task;
 use certificate::Certificate;
+use family_edges::Task;
 use round_rules::Refusal;
 
 /// The certificate of the least family for the firmware's device, with least ranks and needs and the root's need as bound, without a

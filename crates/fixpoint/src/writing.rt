@@ -4,18 +4,18 @@ ghost use Rattle.std.specs.Prelude.{ℕ, ◌≡◌, length, true, IfOk};
 ghost use Rattle.std.specs.List.{All};
 ghost use Rattle.avr_model.specs.Devices.{device_of};
 ghost use Rattle.vector_table.specs.Entries.{fits_device};
-ghost use Rattle.call_graph.specs.Landings.{AreLandings};
+ghost use Rattle.family_edges.specs.Landings.{AreLandings};
 ghost use Rattle.round_rules.specs.Refusals.{IsSolved};
 ghost use Rattle.round_rules.specs.Solutions.{IsSolution};
 ghost use Rattle.round_solutions.specs.Parts.{AreInsts};
 ghost use Rattle.fixpoint.specs.Insts.{AreSolvedNodes, AreInstsOf};
-ghost use Rattle.call_graph.specs.Tasks.{task_of};
+ghost use Rattle.family_edges.specs.Tasks.{task_of};
 
 use crate::forming::forms;
-use call_graph::{Filled, Task, Worked};
 use certificate::{Certificate, Inst};
+use family_edges::{Filled, Task, WorkedOut};
 use family_graph::{entered_by, graph_of};
-use nesting_bound::{Composed, Graph, compose_acyclic};
+use instance_graph::{Composed, Graph, compose_acyclic};
 use round_solutions::laws::solved_families_are_shown;
 use round_table::Table;
 use std::alloc::{AllocError, Global};
@@ -42,7 +42,7 @@ fn instances(alloc: Global, graph: &Graph, composed: &Composed) -> Result<Vec<In
 }
 
 // The assumptions, and the instances of the family at which the rounds end.
-fn heading(task: &Task<'_>, family: &Worked) -> Result<(Assumptions, Vec<Inst>), AllocError>
+fn heading(task: &Task<'_>, family: &WorkedOut) -> Result<(Assumptions, Vec<Inst>), AllocError>
     requires solved { AreSolvedNodes (task_of task.now) family.now.nodes }
     requires landings { AreLandings (task_of task.now) family.now.nodes family.now.landings }
     ensures listed { IfOk result (λ head. head.0 ≡ task.now.assumptions.now) }
@@ -66,7 +66,7 @@ pub(crate) fn certificate_of(task: &Task<'_>, table: Table) -> Result<Certificat
     solved_families_are_shown();
     // These entries are those of a valid list of assumptions.
     let _entries = task.assumptions.entries();
-    let family = Worked::of(task, Filled::new(table.into_sorted(task.alloc)?))?;
+    let family = WorkedOut::of(task, Filled::new(table.into_sorted(task.alloc)?))?;
     match heading(task, &family) {
         Ok((listed, insts)) => {
             let seeds = forms(task, family)?;

@@ -6,7 +6,7 @@ use Rattle.std.proofs.lemmas.List.{get_or-drop, get_or-take, length-drop, length
 use Rattle.std.proofs.lemmas.Grind.{same_number_lists}
 use Rattle.basics.specs.Numbers.{one_step_on}
 use Rattle.avr_model.specs.declared.device.Device.{Device}
-use Rattle.avr_model.specs.Devices.{Program, image, words_of, limit_of}
+use Rattle.avr_model.specs.Devices.{Image, image_of, words_of, limit_of}
 use Rattle.avr_model.specs.Image.{IsNarrowed, IsOutside}
 use Rattle.flash_image.specs.Narrowing.{outside_word}
 use Rattle.avr_model.proofs.AllLaws.{devices_are_alike}
@@ -56,18 +56,18 @@ behind_at : (device : Device) (all : List ℕ) (k : ℕ) → slice_index (behind
 unfolding behind
 behind_at device all k = get_or-drop (words_of device) all k 0
 
-pub narrowed : (device : Device) (all : List ℕ) (words : Program) → length all ≡ limit_of device → IsNarrowed device all words → words ≡ image device (take (words_of device) all)
-narrowed device all words size n =
+pub narrowed : (device : Device) (all : List ℕ) (image : Image) → length all ≡ limit_of device → IsNarrowed device all image → image ≡ image_of device (take (words_of device) all)
+narrowed device all image size n =
     let most = devices_are_alike.in_limit device in
     let count : length (take (words_of device) all) ≡ words_of device = length-take-le (words_of device) all (omega (arith, size, most)) in
-    let same : words.words ≡ take (words_of device) all =
-    same_number_lists words.words (take (words_of device) all) (n.count ∙ sym count)
+    let same : image.words ≡ take (words_of device) all =
+    same_number_lists image.words (take (words_of device) all) (n.count ∙ sym count)
     (λ a lt. let less : a < words_of device = (let e = n.count in omega (arith, e, lt)) in n.each a less ∙ sym (get_or-take (words_of device) all a 0 less)) in
-    λ i. image (n.is i) (same i)
+    λ i. image_of (n.is i) (same i)
 
-pub none_outside : (device : Device) (all : List ℕ) (words : Program) → length all ≡ limit_of device → IsNarrowed device all words → outside_word device all ≡ None
+pub none_outside : (device : Device) (all : List ℕ) (image : Image) → length all ≡ limit_of device → IsNarrowed device all image → outside_word device all ≡ None
 unfolding behind
-none_outside device all words size n =
+none_outside device all image size n =
     let count = behind_length device all size in
     all_erased (behind device all) (words_of device)
     (λ k lt. behind_at device all k ∙ n.erased (words_of device + k) (omega arith) (omega (arith, count, lt)))
@@ -84,7 +84,7 @@ one_outside device all word size o =
     (λ j lt. behind_at device all j ∙ o.least (words_of device + j) (omega arith) (omega (arith, lt, from)))
     ∙ ap Some place
 
-pub narrows : (device : Device) (all : List ℕ) → length all ≡ limit_of device → outside_word device all ≡ None → IsNarrowed device all (image device (take (words_of device) all))
+pub narrows : (device : Device) (all : List ℕ) → length all ≡ limit_of device → outside_word device all ≡ None → IsNarrowed device all (image_of device (take (words_of device) all))
 unfolding behind
 narrows device all size none =
     let most = devices_are_alike.in_limit device in

@@ -10,7 +10,7 @@ use Rattle.basics.specs.Booleans.{never_both}
 use Rattle.basics.specs.Items.{none_in}
 use Rattle.basics.specs.Numbers.{before_or_last}
 use Rattle.pair_domain.specs.Marks.{mark_below, mark_above}
-use Rattle.flash_image.specs.Marked.{AreListed, IsListOf}
+use Rattle.flash_image.specs.Marked.{AreListed, IsListOfMarks}
 use Rattle.flash_image.proofs.Marked.{below_is, above_is}
 
 -- marked numbers are in the table
@@ -70,7 +70,7 @@ module _ (n : ℕ) (table : List Bool) (list : List ℕ) (so : AreListedBelow n 
 
 -- ---- by bisection
 
-module _ (ms list : List ℕ) (of : IsListOf ms list) where
+module _ (ms list : List ℕ) (of : IsListOfMarks ms list) where
   -- a marked number has a place
   placed : (m : ℕ) → get_or of.table m false ≡ true → (i : ℕ) × ((i < length list) × (get_or list i 0 ≡ m))
   placed m on =

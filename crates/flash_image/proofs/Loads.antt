@@ -8,8 +8,7 @@ use Rattle.std.proofs.lemmas.List.Folds.{list_any-append}
 use Rattle.basics.specs.Booleans.{or_with_false, and_with_false}
 use Rattle.avr_model.specs.declared.instruction.ImmediateInstr.{ImmediateInstr}
 use Rattle.avr_model.specs.declared.instruction.Instr.{Instr}
-use Rattle.avr_model.specs.declared.device.Device.{Device}
-use Rattle.avr_model.specs.Devices.{Program, device_of, wrapped, IsFlash}
+use Rattle.avr_model.specs.Devices.{Image, device_of, IsFlash}
 use Rattle.avr_model.specs.Image.{word_at, AreErased}
 use Rattle.avr_model.specs.Marks.{joined_below, usual_marks, device_marks, immediate_in, immediate_at, loaded_byte, side_marks, marks_from, marks_at, marks}
 use Rattle.avr_model.specs.Sites.{instruction_at, on_device, loads}
@@ -18,32 +17,17 @@ use Rattle.avr_model.proofs.AllLaws.{devices_are_alike}
 use Rattle.flash_image.specs.Marked.{marked, noted, loaded_below, AreLoadsBelow, AreLoads}
 use Rattle.flash_image.proofs.Marked.{marked_length, marked_tells, set_tells, joined_none, joined_more, map_joined}
 
--- ---- word addresses of 16 bits
-
--- 16 bits of a word address are enough
-pub of_16_bits : (words : Program) (a : ℕ) → instruction_at words (a % 65536) ≡ instruction_at words a
-of_16_bits words a =
-    ap (λ (n : ℕ). on_device d (decoded (slice_index words.words n) (word_at words (a % 65536 + 1)))) (devices_are_alike.of_16 d a)
-    ∙ ap (λ (n : ℕ). on_device d (decoded (word_at words a) (slice_index words.words n))) next
-  where
-    d : Device
-    d = device_of words
-
-    next : wrapped d (a % 65536 + 1) ≡ wrapped d (a + 1)
-    next = let same : (a % 65536 + 1) % 65536 ≡ (a + 1) % 65536 = omega arith in
-        sym (devices_are_alike.of_16 d (a % 65536 + 1)) ∙ ap (wrapped d) same ∙ devices_are_alike.of_16 d (a + 1)
-
 -- ---- behind the last written word
 
 undefined : (next : ℕ) → decoded 0xFFFF next ≡ None
 unfolding decoded
 undefined next = refl
 
-unwritten : (words : Program) (a : ℕ) → IsFlash words → a < length words.words → slice_index words.words a ≡ 0xFFFF → instruction_at words a ≡ None
-unwritten words a flash lt is = ap (on_device (device_of words)) (ap (λ (w : ℕ). decoded w (word_at words (a + 1))) (place ∙ is) ∙ undefined (word_at words (a + 1)))
+unwritten : (image : Image) (a : ℕ) → IsFlash image → a < length image.words → slice_index image.words a ≡ 0xFFFF → instruction_at image a ≡ None
+unwritten image a flash lt is = ap (on_device (device_of image)) (ap (λ (w : ℕ). decoded w (word_at image (a + 1))) (place ∙ is) ∙ undefined (word_at image (a + 1)))
   where
-    place : word_at words a ≡ slice_index words.words a
-    place = ap (slice_index words.words) (devices_are_alike.same (device_of words) a (omega (arith, lt, flash)))
+    place : word_at image a ≡ slice_index image.words a
+    place = ap (slice_index image.words) (devices_are_alike.same (device_of image) a (omega (arith, lt, flash)))
 
 joined_behind : (n m : ℕ) (f : ℕ → List ℕ) → n ≤ m → ((a : ℕ) → n ≤ a → a < m → f a ≡ []) → joined_below n f ≡ joined_below m f
 unfolding joined_below
@@ -59,29 +43,29 @@ joined_behind n (suc m) f le none = ⊎_elim (before (joined_behind n m f)) last
     last ge = ap (λ (k : ℕ). joined_below k f) (let e : n ≡ suc m = omega (arith, le, ge) in e)
 
 -- all marks, if those of the words up to the last written one are marked
-pub all_marked : (words : Program) (start now : List Bool) (n : ℕ) → IsFlash words → n ≤ length words.words → AreErased words.words n (length words.words)
-    → now ≡ marked start (usual_marks ++ device_marks (device_of words) ++ joined_below n (marks_at words)) → now ≡ marked start (marks words)
+pub all_marked : (image : Image) (start now : List Bool) (n : ℕ) → IsFlash image → n ≤ length image.words → AreErased image.words n (length image.words)
+    → now ≡ marked start (usual_marks ++ device_marks (device_of image) ++ joined_below n (marks_at image)) → now ≡ marked start (marks image)
 unfolding marks
-all_marked words start now n flash le erased is =
-    is ∙ ap (λ (ms : List ℕ). marked start (usual_marks ++ device_marks (device_of words) ++ ms)) (joined_behind n (length words.words) (marks_at words) le none)
+all_marked image start now n flash le erased is =
+    is ∙ ap (λ (ms : List ℕ). marked start (usual_marks ++ device_marks (device_of image) ++ ms)) (joined_behind n (length image.words) (marks_at image) le none)
   where
-    none : (a : ℕ) → n ≤ a → a < length words.words → marks_at words a ≡ []
-    none a from below = ap (λ (x : Option Instr). marks_from words a (immediate_in x)) (unwritten words a flash below (erased a from below))
+    none : (a : ℕ) → n ≤ a → a < length image.words → marks_at image a ≡ []
+    none a from below = ap (λ (x : Option Instr). marks_from image a (immediate_in x)) (unwritten image a flash below (erased a from below))
 
 -- ---- noting what is loaded
 
 -- a whole table with the bytes that the first n words load
-pub record AreLoadsNoted (words : Program) (n : ℕ) (table : List Bool) : Type 0 where
+pub record AreLoadsNoted (image : Image) (n : ℕ) (table : List Bool) : Type 0 where
   pub size : length table ≡ 8192
-  pub tells : AreLoadsBelow n words table
+  pub tells : AreLoadsBelow n image table
 
 -- no word so far
-pub noted_none : (words : Program) (table : List Bool) → table ≡ replicate 8192 false → AreLoadsNoted words 0 table
-noted_none words table is = record {
+pub noted_none : (image : Image) (table : List Bool) → table ≡ replicate 8192 false → AreLoadsNoted image 0 table
+noted_none image table is = record {
   size = ap length is ∙ length-replicate 8192 false;
   tells = λ p b p_lt b_lt.
       ap (λ (t : List Bool). get_or t (256 * p + b) false) is ∙ get_or-replicate 8192 (256 * p + b) false false (omega (arith, p_lt, b_lt))
-      ∙ sym (ap (list_any (λ (m : ℕ). eqb m b)) (joined_none (λ a. loaded_byte p (immediate_at words a))));
+      ∙ sym (ap (list_any (λ (m : ℕ). eqb m b)) (joined_none (λ a. loaded_byte p (immediate_at image a))));
 }
 
 same_byte : (r y p b : ℕ) (t : Bool) → eqb r p ≡ t → y < 256 → b < 256 → eqb (256 * r + y) (256 * p + b) ≡ list_any (λ (m : ℕ). eqb m b) (if t then y ∷ [] else [])
@@ -107,26 +91,26 @@ turned true false = refl
 turned false true = refl
 turned false false = refl
 
-more_loaded : (words : Program) (n p b : ℕ) → list_any (λ (m : ℕ). eqb m b) (loaded_below words p (n + 1))
-    ≡ (list_any (λ (m : ℕ). eqb m b) (loaded_byte p (immediate_at words n)) || list_any (λ (m : ℕ). eqb m b) (loaded_below words p n))
-more_loaded words n p b =
-    ap (list_any (λ (m : ℕ). eqb m b)) (joined_more n (λ a. loaded_byte p (immediate_at words a))) ∙ list_any-append (λ (m : ℕ). eqb m b) (loaded_below words p n) _
-    ∙ turned (list_any (λ (m : ℕ). eqb m b) (loaded_below words p n)) _
+more_loaded : (image : Image) (n p b : ℕ) → list_any (λ (m : ℕ). eqb m b) (loaded_below image p (n + 1))
+    ≡ (list_any (λ (m : ℕ). eqb m b) (loaded_byte p (immediate_at image n)) || list_any (λ (m : ℕ). eqb m b) (loaded_below image p n))
+more_loaded image n p b =
+    ap (list_any (λ (m : ℕ). eqb m b)) (joined_more n (λ a. loaded_byte p (immediate_at image a))) ∙ list_any-append (λ (m : ℕ). eqb m b) (loaded_below image p n) _
+    ∙ turned (list_any (λ (m : ℕ). eqb m b) (loaded_below image p n)) _
 
 note_long : (t : Bool) (table : List Bool) (m : ℕ) → length (if t then set table m true else table) ≡ length table
 note_long true table m = length-set table m true
 note_long false table m = refl
 
 -- one more word, which has a register and a byte
-pub noted_more : (words : Program) (n : ℕ) (table next : List Bool) (x : ImmediateInstr) → AreLoadsNoted words n table → x.byte < 256 → Some x ≡ immediate_at words n
-    → next ≡ noted table (Some x) → AreLoadsNoted words (n + 1) next
-noted_more words n table next x so_far byte at is = record {
+pub noted_more : (image : Image) (n : ℕ) (table next : List Bool) (x : ImmediateInstr) → AreLoadsNoted image n table → x.byte < 256 → Some x ≡ immediate_at image n
+    → next ≡ noted table (Some x) → AreLoadsNoted image (n + 1) next
+noted_more image n table next x so_far byte at is = record {
   size = ap length is ∙ note_long (loads x.op) table (256 * x.register + x.byte) ∙ so_far.size;
   tells = λ p b p_lt b_lt.
       ap (λ (t : List Bool). get_or t (256 * p + b) false) is ∙ note_tells (loads x.op) x.register x.byte p b table so_far.size byte p_lt b_lt
       ∙ ap (λ (t : Bool). list_any (λ (m : ℕ). eqb m b) (loaded_byte p (Some x)) || t) (so_far.tells p b p_lt b_lt)
-      ∙ ap (λ (found : Option ImmediateInstr). list_any (λ (m : ℕ). eqb m b) (loaded_byte p found) || list_any (λ (m : ℕ). eqb m b) (loaded_below words p n)) at
-      ∙ sym (more_loaded words n p b);
+      ∙ ap (λ (found : Option ImmediateInstr). list_any (λ (m : ℕ). eqb m b) (loaded_byte p found) || list_any (λ (m : ℕ). eqb m b) (loaded_below image p n)) at
+      ∙ sym (more_loaded image n p b);
 }
 
 pub none_found : (found at : Option ImmediateInstr) → ((x : ImmediateInstr) → found ≡ Some x → ⊥) → found ≡ at → None ≡ at
@@ -134,23 +118,23 @@ none_found None at never is = is
 none_found (Some x) at never is = absurd (never x refl)
 
 -- one more word, which has not
-pub noted_no_more : (words : Program) (n : ℕ) (table next : List Bool) → AreLoadsNoted words n table → None ≡ immediate_at words n → next ≡ table → AreLoadsNoted words (n + 1) next
-noted_no_more words n table next so_far at is = record {
+pub noted_no_more : (image : Image) (n : ℕ) (table next : List Bool) → AreLoadsNoted image n table → None ≡ immediate_at image n → next ≡ table → AreLoadsNoted image (n + 1) next
+noted_no_more image n table next so_far at is = record {
   size = ap length is ∙ so_far.size;
   tells = λ p b p_lt b_lt.
       ap (λ (t : List Bool). get_or t (256 * p + b) false) is ∙ so_far.tells p b p_lt b_lt
-      ∙ ap (λ (found : Option ImmediateInstr). list_any (λ (m : ℕ). eqb m b) (loaded_byte p found) || list_any (λ (m : ℕ). eqb m b) (loaded_below words p n)) at
-      ∙ sym (more_loaded words n p b);
+      ∙ ap (λ (found : Option ImmediateInstr). list_any (λ (m : ℕ). eqb m b) (loaded_byte p found) || list_any (λ (m : ℕ). eqb m b) (loaded_below image p n)) at
+      ∙ sym (more_loaded image n p b);
 }
 
 -- all words
-pub all_loads : (words : Program) (n : ℕ) (table : List Bool) → IsFlash words → n ≤ length words.words → AreErased words.words n (length words.words) → AreLoadsBelow n words table
-    → AreLoads words table
-all_loads words n table flash le erased so_far p b p_lt b_lt =
-    so_far p b p_lt b_lt ∙ ap (list_any (λ (m : ℕ). eqb m b)) (joined_behind n (length words.words) (λ a. loaded_byte p (immediate_at words a)) le none)
+pub all_loads : (image : Image) (n : ℕ) (table : List Bool) → IsFlash image → n ≤ length image.words → AreErased image.words n (length image.words) → AreLoadsBelow n image table
+    → AreLoads image table
+all_loads image n table flash le erased so_far p b p_lt b_lt =
+    so_far p b p_lt b_lt ∙ ap (list_any (λ (m : ℕ). eqb m b)) (joined_behind n (length image.words) (λ a. loaded_byte p (immediate_at image a)) le none)
   where
-    none : (a : ℕ) → n ≤ a → a < length words.words → loaded_byte p (immediate_at words a) ≡ []
-    none a from below = ap (λ (x : Option Instr). loaded_byte p (immediate_in x)) (unwritten words a flash below (erased a from below))
+    none : (a : ℕ) → n ≤ a → a < length image.words → loaded_byte p (immediate_at image a) ≡ []
+    none a from below = ap (λ (x : Option Instr). loaded_byte p (immediate_in x)) (unwritten image a flash below (erased a from below))
 
 -- ---- a low byte with the high bytes that are loaded
 
@@ -229,22 +213,22 @@ high_marked table now next p low h test is = is ∙ ap (λ (t : Bool). marked no
 pub none_marked : (table now : List Bool) (p low h : ℕ) → get_or table (256 * p + h) false ≡ false → now ≡ marked now (high_marks table p low h)
 none_marked table now p low h test = ap (λ (t : Bool). marked now (map (λ (high : ℕ). 256 * high + low) (if t then h ∷ [] else []))) (sym test)
 
-pub side_marked : (words : Program) (table start now : List Bool) (p low n : ℕ) → n ≡ 256 → p < 32 → low < 256 → length start ≡ 65536 → AreLoads words table
-    → now ≡ marked start ((low ∷ []) ++ joined_below n (high_marks table p low)) → now ≡ marked start (side_marks words low (Some p))
-side_marked words table start now p low n all p_lt low_lt size are is =
+pub side_marked : (image : Image) (table start now : List Bool) (p low n : ℕ) → n ≡ 256 → p < 32 → low < 256 → length start ≡ 65536 → AreLoads image table
+    → now ≡ marked start ((low ∷ []) ++ joined_below n (high_marks table p low)) → now ≡ marked start (side_marks image low (Some p))
+side_marked image table start now p low n all p_lt low_lt size are is =
     is ∙ ap (λ (m : ℕ). marked start (low ∷ joined_below m (high_marks table p low))) all
     ∙ ap (λ (ms : List ℕ). marked start (low ∷ ms)) (sym (map_joined (λ (high : ℕ). 256 * high + low) 256 (if_told table p)))
     ∙ ap (λ (m : ℕ). marked start (m ∷ map (λ (high : ℕ). 256 * high + low) (joined_below 256 (if_told table p)))) first
-    ∙ same_marks (map (λ (high : ℕ). 256 * high + low) (0 ∷ joined_below 256 (if_told table p))) (map (λ (high : ℕ). 256 * high + low) (0 ∷ loaded_below words p (length words.words))) start each
+    ∙ same_marks (map (λ (high : ℕ). 256 * high + low) (0 ∷ joined_below 256 (if_told table p))) (map (λ (high : ℕ). 256 * high + low) (0 ∷ loaded_below image p (length image.words))) start each
   where
     first : low ≡ 256 * 0 + low
     first = omega arith
 
-    same : (m : ℕ) → m < 256 → list_any (λ (k : ℕ). eqb k m) (0 ∷ joined_below 256 (if_told table p)) ≡ list_any (λ (k : ℕ). eqb k m) (0 ∷ loaded_below words p (length words.words))
+    same : (m : ℕ) → m < 256 → list_any (λ (k : ℕ). eqb k m) (0 ∷ joined_below 256 (if_told table p)) ≡ list_any (λ (k : ℕ). eqb k m) (0 ∷ loaded_below image p (length image.words))
     same m lt = ap (λ (b : Bool). eqb 0 m || b) (told table p 256 m lt ∙ are p m p_lt lt)
 
     each : (k : ℕ) → k < length start
-        → list_any (λ (n : ℕ). eqb n k) (map (λ (high : ℕ). 256 * high + low) (0 ∷ joined_below 256 (if_told table p))) ≡ list_any (λ (n : ℕ). eqb n k) (map (λ (high : ℕ). 256 * high + low) (0 ∷ loaded_below words p (length words.words)))
+        → list_any (λ (n : ℕ). eqb n k) (map (λ (high : ℕ). 256 * high + low) (0 ∷ joined_below 256 (if_told table p))) ≡ list_any (λ (n : ℕ). eqb n k) (map (λ (high : ℕ). 256 * high + low) (0 ∷ loaded_below image p (length image.words)))
     each k lt =
         mapped_tell low k (0 ∷ joined_below 256 (if_told table p)) low_lt ∙ ap (λ (b : Bool). eqb (k % 256) low && b) (same (k / 256) (omega (arith, lt, size)))
-        ∙ sym (mapped_tell low k (0 ∷ loaded_below words p (length words.words)) low_lt)
+        ∙ sym (mapped_tell low k (0 ∷ loaded_below image p (length image.words)) low_lt)

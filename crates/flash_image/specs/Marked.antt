@@ -5,7 +5,7 @@ use Rattle.std.specs.List.Sorted.{IsNonDecreasingBy}
 use Rattle.avr_model.specs.declared.instruction.ImmediateInstr.{ImmediateInstr}
 use Rattle.avr_model.specs.Marks.{joined_below, immediate_at, loaded_byte, marks}
 use Rattle.avr_model.specs.Sites.{loads}
-use Rattle.avr_model.specs.Devices.{Program}
+use Rattle.avr_model.specs.Devices.{Image}
 
 -- the table with these numbers marked too
 abbrev pub marked : List Bool → List ℕ → List Bool
@@ -23,14 +23,14 @@ pub record AreListed (table : List Bool) (list : List ℕ) : Type 0 where
   pub exact : (m : ℕ) → Contains list m ↔ (slice_index_or table m false ≡ true)
 
 -- the list has these numbers, ascending and without repeats
-pub record IsListOf (ms list : List ℕ) : Type 0 where
+pub record IsListOfMarks (ms list : List ℕ) : Type 0 where
   pub table : List Bool
   pub tells : IsTable ms table
   pub listed : AreListed table list
 
 -- there is no list yet, or it has the program's marks
-abbrev pub AreMarksKept : Program → List ℕ → Type 0
-AreMarksKept words list = 0 < length list → IsListOf (marks words) list
+abbrev pub AreMarksKept : Image → List ℕ → Type 0
+AreMarksKept image list = 0 < length list → IsListOfMarks (marks image) list
 
 -- the table with the byte noted that an instruction loads, at 256 times its register and the byte
 abbrev pub noted : List Bool → Option ImmediateInstr → List Bool
@@ -38,13 +38,13 @@ noted table None = table
 noted table (Some x) = if loads x.op then slice_set table (256 * x.register + x.byte) true else table
 
 -- the bytes that `ldi` loads into register p
-abbrev pub loaded_below : Program → ℕ → ℕ → List ℕ
-loaded_below words p n = joined_below n (λ a. loaded_byte p (immediate_at words a))
+abbrev pub loaded_below : Image → ℕ → ℕ → List ℕ
+loaded_below image p n = joined_below n (λ a. loaded_byte p (immediate_at image a))
 
 -- the table has the bytes that the first n words load, by register
-abbrev pub AreLoadsBelow : ℕ → Program → List Bool → Type 0
-AreLoadsBelow n words table = (p b : ℕ) → p < 32 → b < 256 → slice_index_or table (256 * p + b) false ≡ list_any (λ m. m == b) (loaded_below words p n)
+abbrev pub AreLoadsBelow : ℕ → Image → List Bool → Type 0
+AreLoadsBelow n image table = (p b : ℕ) → p < 32 → b < 256 → slice_index_or table (256 * p + b) false ≡ list_any (λ m. m == b) (loaded_below image p n)
 
 -- the table has the bytes that the program loads, by register
-abbrev pub AreLoads : Program → List Bool → Type 0
-AreLoads words table = AreLoadsBelow (length words.words) words table
+abbrev pub AreLoads : Image → List Bool → Type 0
+AreLoads image table = AreLoadsBelow (length image.words) image table

@@ -22,20 +22,20 @@ impl Flash {
 
     /// The instruction at word `a`, which counts modulo the number of words; none if the word is undefined.
     #[inline(always)]
-    pub fn instruction(&self, a: u16) -> Option<Instr>
+    pub fn instruction(&self, a: u32) -> Option<Instr>
         ensures { result ≡ instruction_at self.now a }
     {
-        match self.readings.get(usize::from(a)) {
+        match self.readings.get(a as usize) {
             Some(reading) => reading.instruction,
-            None => avr_decode::instruction(self.device, &self.words, usize::from(a)),
+            None => avr_decode::instruction(self.device, &self.words, a as usize),
         }
     }
 
     /// Whether word `a` is a store whose pointer is certainly loaded just before.
-    pub fn is_fixed(&self, a: u16) -> bool
+    pub fn is_fixed(&self, a: u32) -> bool
         ensures { result ≡ is_fixed self.now a }
     {
-        match self.readings.get(usize::from(a)) {
+        match self.readings.get(a as usize) {
             Some(reading) => reading.is_fixed,
             None => avr_decode::is_fixed(self.device, &self.words, a),
         }
@@ -43,7 +43,7 @@ impl Flash {
 
     /// Whether the site `pc` counts as fixed: it has a `prove` entry, or the words say so and it has no `free` entry.
     #[tactic(auto, unfolding(avr_model::specs::Assumptions::is_fixed_site))]
-    pub fn is_fixed_site(&self, assumptions: &Assumptions, pc: u16) -> bool
+    pub fn is_fixed_site(&self, assumptions: &Assumptions, pc: u32) -> bool
         ensures { result ≡ is_fixed_site self.now assumptions.now pc }
     {
         assumptions.proved(pc) || !assumptions.freed(pc) && self.is_fixed(pc)
@@ -51,10 +51,10 @@ impl Flash {
 
     /// Whether a push at word `a` makes room for a compiler's small frame.
     #[inline(always)]
-    pub fn is_scratch(&self, a: u16) -> bool
+    pub fn is_scratch(&self, a: u32) -> bool
         ensures { result ≡ is_scratch self.now a }
     {
-        match self.readings.get(usize::from(a)) {
+        match self.readings.get(a as usize) {
             Some(reading) => reading.is_scratch,
             None => avr_decode::is_scratch(self.device, &self.words, a),
         }
@@ -62,7 +62,7 @@ impl Flash {
 
     /// The word of the `ijmp` of the table site that begins at word `a`; none if no site does.
     #[tactic(auto, unfolding(avr_model::specs::Sites::table_site))]
-    pub fn table_site(&self, a: u16) -> Option<u16>
+    pub fn table_site(&self, a: u32) -> Option<u32>
         ensures { result ≡ table_site self.now a }
     {
         match &self.instruction(a) {

@@ -1,7 +1,7 @@
 //! The words of a device's flash.
 
 ghost use Rattle.std.specs.Prelude.{◌≡◌, ℕ, ◌+◌, ◌*◌, ◌%◌, ◌<◌, ◌≤◌, ◌↔◌, ◌≢◌, List, length, IfOk, MatchResult, MatchOption, IsTrue, is_ok, replicate};
-ghost use Rattle.avr_model.specs.Devices.{words_of, limit_of, device_of, image, IsFlash};
+ghost use Rattle.avr_model.specs.Devices.{words_of, limit_of, device_of, image_of, IsFlash};
 ghost use Rattle.avr_model.specs.Image.{word_at, byte_at, IsRawImage, IsNarrowed, IsOutside, AreErased};
 ghost use Rattle.flash_image.specs.Placing.{filled_for, placed};
 
@@ -25,15 +25,15 @@ pub struct Flash {
 }
 
 impl Model for Flash {
-    ghost use Rattle.avr_model.specs.Devices.{Program, image, IsFlash};
+    ghost use Rattle.avr_model.specs.Devices.{Image, image_of, IsFlash};
     ghost use Rattle.avr_decode.specs.Reading.{AreReadings};
     ghost use Rattle.flash_image.specs.Marked.{AreMarksKept};
 
-    ghost Value = { Program };
+    ghost Value = { Image };
 
-    ghost view = { λ f. image f.device f.words.items };
+    ghost view = { λ f. image_of f.device f.words.items };
 
-    ghost invariant = { λ f. IsFlash (image f.device f.words.items) × AreReadings (image f.device f.words.items) f.readings.items × AreMarksKept (image f.device f.words.items) f.mark_list.items };
+    ghost invariant = { λ f. IsFlash (image_of f.device f.words.items) × AreReadings (image_of f.device f.words.items) f.readings.items × AreMarksKept (image_of f.device f.words.items) f.mark_list.items };
 }
 
 /// Why a file is refused as a raw image.
@@ -49,7 +49,7 @@ pub enum RawFault {
 
 /// The first word behind a device's flash that isn't erased.
 #[derive(Clone, Copy, Drop)]
-pub struct Outside(pub u16);
+pub struct Outside(pub u32);
 
 // The device whose flash a file for this device fills.
 fn filled_for(device: Device) -> Device
@@ -66,7 +66,7 @@ fn filled_for(device: Device) -> Device
 impl Flash {
     /// The flash that a file for this device fills, with all words FFFF: as many as texts of the device admit.
     pub fn erased(alloc: Global, device: Device) -> Result<Flash, AllocError>
-        ensures words { IfOk result (λ flash. flash ≡ image (filled_for device) (replicate (limit_of device) 0xFFFF)) }
+        ensures words { IfOk result (λ flash. flash ≡ image_of (filled_for device) (replicate (limit_of device) 0xFFFF)) }
         ensures device { IfOk result (λ flash. device_of flash ≡ filled_for device) }
     {
         let words = vec![in alloc; 0xFFFFu16; device.limit() as usize]?;
@@ -117,10 +117,10 @@ impl Flash {
 
     /// The word at `a`, which counts modulo the number of words.
     #[tactic(auto, using(crate::proofs::Narrowing::inside))]
-    pub fn word(&self, a: u16) -> u16
+    pub fn word(&self, a: u32) -> u16
         ensures { result ≡ word_at self.now a }
     {
-        self.words[usize::from(self.device.wrap(u32::from(a)))]
+        self.words[self.device.wrap(a) as usize]
     }
 
     /// The words of a file in the device's flash, which has at most as many. Refuses with the first word behind that device's last that
@@ -142,13 +142,13 @@ impl Flash {
     }
 
     // The first word behind a device's last that isn't FFFF.
-    fn first_outside(&self, device: Device) -> Option<u16>
+    fn first_outside(&self, device: Device) -> Option<u32>
         requires { length self.now.words ≡ limit_of device }
         ensures { MatchOption result (AreErased self.now.words (words_of device) (limit_of device)) (IsOutside device self.now.words) }
     {
         for at in device.words()..device.limit() {
             if self.words[at as usize] != 0xFFFF {
-                return Some(at as u16);
+                return Some(at);
             }
         }
         None

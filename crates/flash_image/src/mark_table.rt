@@ -1,10 +1,10 @@
 //! Tables of marks, with a truth for each 16-bit number, and ascending lists of marks.
 
 ghost use Rattle.std.specs.Prelude.{◌≡◌, ◌+◌, ◌*◌, ◌<◌, ◌++◌, ℕ, List, Some, IfOk, length};
-ghost use Rattle.avr_model.specs.Devices.{Program};
+ghost use Rattle.avr_model.specs.Devices.{Image};
 ghost use Rattle.avr_model.specs.Marks.{loaded_number, pair_number, added_number, side_marks, usual_marks, device_marks};
 ghost use Rattle.pair_domain.specs.Marks.{mark_below, mark_above, outward};
-ghost use Rattle.flash_image.specs.Marked.{marked, IsTable, AreListed, IsListOf, noted, AreLoads};
+ghost use Rattle.flash_image.specs.Marked.{marked, IsTable, AreListed, IsListOfMarks, noted, AreLoads};
 
 use avr_decode::is_pair;
 use avr_model::device::Device;
@@ -74,7 +74,7 @@ pub(crate) fn note_load(loads: &mut [bool; LOADS], load: ImmediateInstr)
 // Marks a low byte with each high byte that the program loads into a register, and with 0.
 pub(crate) fn mark_side(table: &mut [bool; NUMBERS], loads: &[bool; LOADS], side: u16, low: u8)
     requires { side < 32 }
-    ensures { (words : Program) → AreLoads words loads.now → table.new ≡ marked table.old (side_marks words low (Some side)) }
+    ensures { (words : Image) → AreLoads words loads.now → table.new ≡ marked table.old (side_marks words low (Some side)) }
 {
     table[usize::from(low)] = true;
     for high in 0..256 {
@@ -161,7 +161,7 @@ pub(crate) fn listed(alloc: Global, table: &[bool]) -> Result<Vec<u16>, AllocErr
 
 // The greatest of ascending marks up to `x`, or 0.
 fn last_to(marks: &[u16], x: u16) -> u16
-    ensures { (ms : List ℕ) → IsListOf ms marks.now → result ≡ mark_below ms x }
+    ensures { (ms : List ℕ) → IsListOfMarks ms marks.now → result ≡ mark_below ms x }
 {
     let count = marks.partition_point(|mark| *mark <= x);
     if count == 0 { 0 } else { marks[count - 1] }
@@ -169,7 +169,7 @@ fn last_to(marks: &[u16], x: u16) -> u16
 
 // The least of ascending marks from `x` on, or 65,535.
 fn first_from(marks: &[u16], x: u16) -> u16
-    ensures { (ms : List ℕ) → IsListOf ms marks.now → result ≡ mark_above ms x }
+    ensures { (ms : List ℕ) → IsListOfMarks ms marks.now → result ≡ mark_above ms x }
 {
     let at = marks.partition_point(|mark| *mark < x);
     if at < marks.len() { marks[at] } else { 0xFFFF }
@@ -177,7 +177,7 @@ fn first_from(marks: &[u16], x: u16) -> u16
 
 // The interval, widened outwards to the nearest of ascending marks. Each end is found by bisection.
 pub(crate) fn widened_by(marks: &[u16], interval: Interval) -> Interval
-    ensures { (ms : List ℕ) → IsListOf ms marks.now → result ≡ outward ms interval }
+    ensures { (ms : List ℕ) → IsListOfMarks ms marks.now → result ≡ outward ms interval }
 {
     Interval {
         low: last_to(marks, interval.low),

@@ -14,7 +14,6 @@ use crate::mark_table::{
     widened_by,
 };
 use avr_decode::{immediate, other_side, written};
-use avr_model::device::WORDS;
 use avr_model::instruction::ImmediateInstr;
 use pair_domain::Interval;
 use std::alloc::AllocError;
@@ -103,12 +102,11 @@ impl Flash {
     }
 
     // The instruction at a word address, if it has a register and a byte.
-    #[tactic(auto, using(crate::proofs::Loads::of_16_bits))]
     fn immediate(&self, a: u32) -> Option<ImmediateInstr>
         ensures value { result ≡ immediate_at self.now a }
         ensures register { IfSome result (λ found. found.register < 32) }
     {
-        match &self.instruction((a % WORDS) as u16) {
+        match &self.instruction(a) {
             Some(instr) => immediate(instr),
             None => None,
         }
@@ -126,7 +124,6 @@ impl Flash {
     }
 
     // Marks those of an instruction with the one in the next word, which is word `a`.
-    #[tactic(auto, using(crate::proofs::Loads::of_16_bits))]
     fn mark_compared(
         &self,
         table: &mut [bool; NUMBERS],
@@ -137,7 +134,7 @@ impl Flash {
         requires { AreLoads self.now loads.now }
         ensures { table.new ≡ marked table.old (compared_marks self.now first (instruction_at self.now a)) }
     {
-        if let Some(next) = &self.instruction((a % WORDS) as u16) {
+        if let Some(next) = &self.instruction(a) {
             if let Some(side) = other_side(first, next) {
                 mark_side(table, loads, side, first.byte);
             }

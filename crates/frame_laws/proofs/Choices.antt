@@ -19,12 +19,12 @@ use Rattle.avr_model.specs.State.{State, i_flag}
 use Rattle.avr_model.specs.Effects.{effect_of, calling, way_back}
 use Rattle.avr_model.specs.Step.{Answer, Illegal, Undefined, Overflow, Flagged, Done, after, all_inside, live_write, protected_write, refused_transfer, moves_vectors, is_guarding, may_take, enables_taken, entering, never_target, take, go, step}
 use Rattle.avr_model.specs.Run.{HasBytes}
-use Rattle.mask_states.specs.declared.keys.NodeKey.{NodeKey}
-use Rattle.mask_states.specs.Keys.{cut_at}
-use Rattle.mask_states.specs.Place.{EnablesAre}
-use Rattle.mask_states.specs.declared.keys.EdgeKind.TheVariants as kind
-use Rattle.mask_states.specs.declared.keys.SpForm.{SpForm}
-use Rattle.mask_states.specs.declared.keys.SpForm.TheVariants.{Closed, Open}
+use Rattle.node_keys.specs.declared.keys.NodeKey.{NodeKey}
+use Rattle.node_keys.specs.Keys.{cut_at}
+use Rattle.node_keys.specs.Place.{EnablesAre}
+use Rattle.node_keys.specs.declared.keys.EdgeKind.TheVariants as kind
+use Rattle.node_keys.specs.declared.keys.SpForm.{SpForm}
+use Rattle.node_keys.specs.declared.keys.SpForm.TheVariants.{Closed, Open}
 use Rattle.abs_state.specs.declared.state.AbsState.{AbsState}
 use Rattle.local_rules.specs.declared.local.CallSite.{CallSite}
 use Rattle.local_rules.specs.Raw.{Raw, untracked_if}

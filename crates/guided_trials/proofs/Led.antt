@@ -15,7 +15,7 @@ use Rattle.avr_model.specs.declared.assumption.Entry.{Entry}
 use Rattle.avr_model.specs.declared.choice.Choice.TheVariants.{Go, Take}
 use Rattle.avr_model.specs.Assumptions.{lists, is_never}
 use Rattle.avr_model.specs.Bits.{any_below}
-use Rattle.avr_model.specs.Devices.{Program, device_of, words_of}
+use Rattle.avr_model.specs.Devices.{Image, device_of, words_of}
 use Rattle.avr_model.specs.Sites.{instruction_at}
 use Rattle.avr_model.specs.State.{State}
 use Rattle.avr_model.specs.Vectors.{watchdog, vector_word, enable_count}
@@ -106,41 +106,41 @@ module _ (q : ℕ → Bool) where
   below_some (suc n) a lt h =
       ⊎_elim (λ old. ap (λ (b : Bool). b || q n) (below_some n a old h)) (λ same. ap (λ (b : Bool). any_below n q || b) (subst (λ (y : ℕ). q y ≡ true) same h) ∙ or_with_true (any_below n q)) (below_or_last a n lt)
 
-module _ (words : Program) (byte : ℕ) where
+module _ (image : Image) (byte : ℕ) where
   abbrev tells : ℕ → Bool
-  tells at = lists (told_if (instruction_at words at)) byte
+  tells at = lists (told_if (instruction_at image at)) byte
 
-  told_by : (n : ℕ) → is_told words n byte ≡ true → (at : ℕ) × (at < n) × Contains (told_if (instruction_at words at)) byte
+  told_by : (n : ℕ) → is_told image n byte ≡ true → (at : ℕ) × (at < n) × Contains (told_if (instruction_at image at)) byte
   unfolding is_told
-  told_by n h = let r = some_below tells n h in (r.0, r.1, in_listed byte (told_if (instruction_at words r.0)) r.2)
+  told_by n h = let r = some_below tells n h in (r.0, r.1, in_listed byte (told_if (instruction_at image r.0)) r.2)
 
-  by_told : (n at : ℕ) → at < n → Contains (told_if (instruction_at words at)) byte → is_told words n byte ≡ true
+  by_told : (n at : ℕ) → at < n → Contains (told_if (instruction_at image at)) byte → is_told image n byte ≡ true
   unfolding is_told
-  by_told n at lt h = below_some tells n at lt (listed_in byte (told_if (instruction_at words at)) h)
+  by_told n at lt h = below_some tells n at lt (listed_in byte (told_if (instruction_at image at)) h)
 
-  telling_told : is_telling words byte ≡ true → IsByteTold words byte
+  telling_told : is_telling image byte ≡ true → IsByteTold image byte
   telling_told h =
-      ⊎_elim (λ always. inl (in_listed byte fills always)) (λ told. inr (told_by (words_of (device_of words)) told)) (or_cases (lists fills byte) (is_told words (words_of (device_of words)) byte) h)
+      ⊎_elim (λ always. inl (in_listed byte fills always)) (λ told. inr (told_by (words_of (device_of image)) told)) (or_cases (lists fills byte) (is_told image (words_of (device_of image)) byte) h)
 
-  told_telling : IsByteTold words byte → is_telling words byte ≡ true
-  told_telling (inl h) = ap (λ (b : Bool). b || is_told words (words_of (device_of words)) byte) (listed_in byte fills h)
-  told_telling (inr h) = ap (λ (b : Bool). lists fills byte || b) (by_told (words_of (device_of words)) h.0 h.1 h.2) ∙ or_with_true (lists fills byte)
+  told_telling : IsByteTold image byte → is_telling image byte ≡ true
+  told_telling (inl h) = ap (λ (b : Bool). b || is_told image (words_of (device_of image)) byte) (listed_in byte fills h)
+  told_telling (inr h) = ap (λ (b : Bool). lists fills byte || b) (by_told (words_of (device_of image)) h.0 h.1 h.2) ∙ or_with_true (lists fills byte)
 
-telling_ascends : (words : Program) → Ascends (telling words)
+telling_ascends : (image : Image) → Ascends (telling image)
 unfolding telling
-telling_ascends words = passing_ascends (is_telling words) 256
+telling_ascends image = passing_ascends (is_telling image) 256
 
-in_telling : (words : Program) (byte : ℕ) → Contains (telling words) byte → (byte < 256) × IsByteTold words byte
+in_telling : (image : Image) (byte : ℕ) → Contains (telling image) byte → (byte < 256) × IsByteTold image byte
 unfolding telling
-in_telling words byte h = let r = passing_below (is_telling words) 256 byte h in (r.0, telling_told words byte r.1)
+in_telling image byte h = let r = passing_below (is_telling image) 256 byte h in (r.0, telling_told image byte r.1)
 
-telling_in : (words : Program) (byte : ℕ) → (byte < 256) × IsByteTold words byte → Contains (telling words) byte
+telling_in : (image : Image) (byte : ℕ) → (byte < 256) × IsByteTold image byte → Contains (telling image) byte
 unfolding telling
-telling_in words byte h = passing_has (is_telling words) 256 byte h.0 (told_telling words byte h.1)
+telling_in image byte h = passing_has (is_telling image) 256 byte h.0 (told_telling image byte h.1)
 
 -- zero is always tried
-pub some_told : (words : Program) → 1 ≤ length (telling words)
-some_told words = let i = telling_in words 0 (omega arith, inl (first_in 0 (0xFF ∷ 0x55 ∷ 0xAA ∷ 0x01 ∷ 0x80 ∷ 0x7F ∷ 0xFE ∷ []))) in omega (arith, i.1)
+pub some_told : (image : Image) → 1 ≤ length (telling image)
+some_told image = let i = telling_in image 0 (omega arith, inl (first_in 0 (0xFF ∷ 0x55 ∷ 0xAA ∷ 0x01 ∷ 0x80 ∷ 0x7F ∷ 0xFE ∷ []))) in omega (arith, i.1)
 
 -- ---- the byte of a trial
 
@@ -157,14 +157,14 @@ byte_changed : (b : Bool) (bytes : List ℕ) (x y : ℕ) → Contains bytes x �
 byte_changed true bytes x y h = inr h
 byte_changed false bytes x y h = inl refl
 
-kept : (words : Program) (g : Guide) (t pc : ℕ) (l : TrialMoment) → reads words pc ≡ false → (after words g t l pc).byte ≡ l.byte
-kept words g t pc l e = byte_kept (low (next l.number) % hold t == 0) (reads words pc) (member g.bytes (middle (next l.number))) l.byte e
+kept : (image : Image) (g : Guide) (t pc : ℕ) (l : TrialMoment) → reads image pc ≡ false → (after image g t l pc).byte ≡ l.byte
+kept image g t pc l e = byte_kept (low (next l.number) % hold t == 0) (reads image pc) (member g.bytes (middle (next l.number))) l.byte e
 
-changed : (words : Program) (A : List Entry) (c : Claim) (t pc : ℕ) (l : TrialMoment)
-    → ((after words (guide_of words A c) t l pc).byte ≡ l.byte) ⊎ Contains (telling words) (after words (guide_of words A c) t l pc).byte
-changed words A c t pc l =
-    byte_changed ((low (next l.number) % hold t == 0) && reads words pc) (telling words) (member (telling words) (middle (next l.number))) l.byte
-    (member_in (telling words) (middle (next l.number)) (some_told words))
+changed : (image : Image) (A : List Entry) (c : Claim) (t pc : ℕ) (l : TrialMoment)
+    → ((after image (guide_of image A c) t l pc).byte ≡ l.byte) ⊎ Contains (telling image) (after image (guide_of image A c) t l pc).byte
+changed image A c t pc l =
+    byte_changed ((low (next l.number) % hold t == 0) && reads image pc) (telling image) (member (telling image) (middle (next l.number))) l.byte
+    (member_in (telling image) (middle (next l.number)) (some_told image))
 
 -- ---- what holds of all interrupts holds of the one that is taken
 
@@ -197,25 +197,25 @@ module _ {X : Type 0} (q : X → Bool) where
   got_every (x ∷ xs) zero h = h.0
   got_every (x ∷ xs) (suc n) h = got_every xs n h.1
 
-module _ (words : Program) (A : List Entry) where
+module _ (image : Image) (A : List Entry) where
   -- no line bars the vector
   abbrev may_come : Candidate → Bool
-  may_come k = not (is_never A (vector_word (device_of words) k.vector))
+  may_come k = not (is_never A (vector_word (device_of image) k.vector))
 
-  takes_if : (v need : ℕ) (b : Bool) → not (is_never A (vector_word (device_of words) v)) ≡ true
+  takes_if : (v need : ℕ) (b : Bool) → not (is_never A (vector_word (device_of image) v)) ≡ true
       → Every may_come (if b then record { vector = v; clears = true; need = need } ∷ [] else [])
   takes_if v need true h = (h, tt)
   takes_if v need false h = tt
 
-  at_if : (v need : ℕ) (b : Bool) → is_never A (vector_word (device_of words) v) ≡ b → Every may_come (if b then [] else takes_of (device_of words) v need)
+  at_if : (v need : ℕ) (b : Bool) → is_never A (vector_word (device_of image) v) ≡ b → Every may_come (if b then [] else takes_of (device_of image) v need)
   at_if v need true is = tt
-  at_if v need false is = let h : not (is_never A (vector_word (device_of words) v)) ≡ true = ap not is in (h, takes_if v need (v == watchdog (device_of words)) h)
+  at_if v need false is = let h : not (is_never A (vector_word (device_of image) v)) ≡ true = ap not is in (h, takes_if v need (v == watchdog (device_of image)) h)
 
-  every_take : (insts : List Inst) (n : ℕ) → Every may_come (first_takes words A insts n)
+  every_take : (insts : List Inst) (n : ℕ) → Every may_come (first_takes image A insts n)
   unfolding first_takes
   every_take insts zero = tt
   every_take insts (suc n) =
-      every_append may_come (first_takes words A insts n) (takes_at words A insts (n + 2)) (every_take insts n) (at_if (n + 2) (need_of insts (n + 2)) (is_never A (vector_word (device_of words) (n + 2))) refl)
+      every_append may_come (first_takes image A insts n) (takes_at image A insts (n + 2)) (every_take insts n) (at_if (n + 2) (need_of insts (n + 2)) (is_never A (vector_word (device_of image) (n + 2))) refl)
 
   taken_every : (t x depth : ℕ) (g : Guide) (p : Candidate → Bool) → Every may_come g.takes → PassesIfAny may_come (taken_at g t x depth p)
   taken_every t x depth g p h =
@@ -228,24 +228,24 @@ module _ (words : Program) (A : List Entry) where
   same_vector : (v w : ℕ) (a b : Bool) → Take v a ≡ Take w b → v ≡ w
   same_vector v w a b e = cc
 
-  only_taken : (o : Option Candidate) (byte v : ℕ) (clears : Bool) → PassesIfAny may_come o → taken_or (Go byte byte) o ≡ Take v clears → is_never A (vector_word (device_of words) v) ≡ false
+  only_taken : (o : Option Candidate) (byte v : ℕ) (clears : Bool) → PassesIfAny may_come o → taken_or (Go byte byte) o ≡ Take v clears → is_never A (vector_word (device_of image) v) ≡ false
   only_taken None byte v clears h e = absurd cc
   only_taken (Some k) byte v clears h e =
-      subst (λ (w : ℕ). is_never A (vector_word (device_of words) w) ≡ false) (same_vector k.vector v k.clears clears e) (not-true (is_never A (vector_word (device_of words) k.vector)) h)
+      subst (λ (w : ℕ). is_never A (vector_word (device_of image) w) ≡ false) (same_vector k.vector v k.clears clears e) (not-true (is_never A (vector_word (device_of image) k.vector)) h)
 
-never : (words : Program) (A : List Entry) (c : Claim) (t : ℕ) (l : TrialMoment) (m : State) (v : ℕ) (clears : Bool)
-    → pick words (guide_of words A c) t l m ≡ Take v clears → is_never A (vector_word (device_of words) v) ≡ false
-never words A c t l m v clears e =
-    let g : Guide = guide_of words A c in
-    only_taken words A (taken_at g t (next l.number) (fallen words m.sp) (may_be m)) (left words g t l m).byte v clears
-    (taken_every words A t (next l.number) (fallen words m.sp) g (may_be m) (every_take words A c.instances (enable_count (device_of words)))) e
+never : (image : Image) (A : List Entry) (c : Claim) (t : ℕ) (l : TrialMoment) (m : State) (v : ℕ) (clears : Bool)
+    → pick image (guide_of image A c) t l m ≡ Take v clears → is_never A (vector_word (device_of image) v) ≡ false
+never image A c t l m v clears e =
+    let g : Guide = guide_of image A c in
+    only_taken image A (taken_at g t (next l.number) (fallen image m.sp) (may_be m)) (left image g t l m).byte v clears
+    (taken_every image A t (next l.number) (fallen image m.sp) g (may_be m) (every_take image A c.instances (enable_count (device_of image)))) e
 
 -- ---- the law
 
 pub trials_are_led : TrialsAreLed
 trials_are_led = record {
   ascend = telling_ascends;
-  told = λ words byte. (in_telling words byte, telling_in words byte);
+  told = λ image byte. (in_telling image byte, telling_in image byte);
   kept = kept;
   changed = changed;
   legal = picked_stands;

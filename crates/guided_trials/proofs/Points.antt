@@ -6,7 +6,7 @@ use Rattle.avr_model.specs.declared.device.Device.{Device}
 use Rattle.avr_model.specs.Vectors.{is_enabled, watchdog}
 use Rattle.avr_model.specs.Step.{may_take}
 use Rattle.avr_model.specs.State.{State, i_flag}
-use Rattle.avr_model.specs.Devices.{Program}
+use Rattle.avr_model.specs.Devices.{Image}
 use Rattle.avr_machine.specs.declared.menu.Menu.{Menu}
 use Rattle.avr_machine.specs.Menu.{has_choice}
 use Rattle.stimulus.specs.Driving.{IsMenuOf}
@@ -65,7 +65,7 @@ passes_if p a b false h k = k
 
 -- ---- a choice stands in its menu
 
-module _ (menu : Menu) (words : Program) (g : Guide) (t x : ℕ) where
+module _ (menu : Menu) (image : Image) (g : Guide) (t x : ℕ) where
   taken_passes : (depth : ℕ) → PassesIfAny (stands menu) (taken_at g t x depth (stands menu))
   taken_passes depth =
       passes_if (stands menu) (wanted_at g depth (stands menu)) (by_chance t x (filter (stands menu) g.takes))
@@ -78,9 +78,9 @@ module _ (menu : Menu) (words : Program) (g : Guide) (t x : ℕ) where
   choice_stands byte None h = refl
   choice_stands byte (Some k) h = h
 
-pub picked_stands : (words : Program) (g : Guide) (t : ℕ) (l : TrialMoment) (menu : Menu) → IsTrue (has_choice menu (picked words g t l menu))
-picked_stands words g t l menu =
-    choice_stands menu words g t (next l.number) (left_by words g t l menu).byte _ (taken_passes menu words g t (next l.number) (fallen words menu.sp))
+pub picked_stands : (image : Image) (g : Guide) (t : ℕ) (l : TrialMoment) (menu : Menu) → IsTrue (has_choice menu (picked image g t l menu))
+picked_stands image g t l menu =
+    choice_stands menu image g t (next l.number) (left_by image g t l menu).byte _ (taken_passes menu image g t (next l.number) (fallen image menu.sp))
 
 -- ---- by the menu as by the state
 
@@ -96,8 +96,8 @@ legal_as menu m is k =
     ∙ ap (λ (d : Device). may_take m k.vector false && (not k.clears || (k.vector == watchdog d))) is.device
     ∙ regrouped (is_enabled m.device m.enables k.vector) (i_flag m) m.delay k.clears (k.vector == watchdog m.device)
 
-pub left_is : (words : Program) (g : Guide) (t : ℕ) (l : TrialMoment) (menu : Menu) (m : State) → IsMenuOf menu m → left_by words g t l menu ≡ left words g t l m
-left_is words g t l menu m is = ap (after words g t l) is.pc
+pub left_is : (image : Image) (g : Guide) (t : ℕ) (l : TrialMoment) (menu : Menu) (m : State) → IsMenuOf menu m → left_by image g t l menu ≡ left image g t l m
+left_is image g t l menu m is = ap (after image g t l) is.pc
 
 module _ (g : Guide) (t : ℕ) (now : TrialMoment) (depth : ℕ) where
   choice_as : (p q : Candidate → Bool) → ((k : Candidate) → p k ≡ q k) → choice_by g t now depth p ≡ choice_by g t now depth q
@@ -106,8 +106,8 @@ module _ (g : Guide) (t : ℕ) (now : TrialMoment) (depth : ℕ) where
       ∙ ap (λ (o : Option Candidate). taken_or (Go now.byte now.byte) (taken t now.number (filter q g.takes) o))
       (find_as (λ k. p k && is_wanted g depth k) (λ k. q k && is_wanted g depth k) (λ k. ap (λ (b : Bool). b && is_wanted g depth k) (same k)) g.takes)
 
-pub picked_is : (words : Program) (g : Guide) (t : ℕ) (l : TrialMoment) (menu : Menu) (m : State) → IsMenuOf menu m → picked words g t l menu ≡ pick words g t l m
-picked_is words g t l menu m is =
-    choice_as g t (left_by words g t l menu) (fallen words menu.sp) (stands menu) (may_be m) (legal_as menu m is)
-    ∙ ap (λ (now : TrialMoment). choice_by g t now (fallen words menu.sp) (may_be m)) (left_is words g t l menu m is)
-    ∙ ap (λ (sp : ℕ). choice_by g t (left words g t l m) (fallen words sp) (may_be m)) is.sp
+pub picked_is : (image : Image) (g : Guide) (t : ℕ) (l : TrialMoment) (menu : Menu) (m : State) → IsMenuOf menu m → picked image g t l menu ≡ pick image g t l m
+picked_is image g t l menu m is =
+    choice_as g t (left_by image g t l menu) (fallen image menu.sp) (stands menu) (may_be m) (legal_as menu m is)
+    ∙ ap (λ (now : TrialMoment). choice_by g t now (fallen image menu.sp) (may_be m)) (left_is image g t l menu m is)
+    ∙ ap (λ (sp : ℕ). choice_by g t (left image g t l m) (fallen image sp) (may_be m)) is.sp

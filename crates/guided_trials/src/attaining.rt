@@ -12,7 +12,7 @@ use crate::trial::first_trial;
 use avr_model::listed::Listed;
 use certificate::{Certificate, Inst};
 use flash_image::Flash;
-use mask_states::Kind;
+use node_keys::Kind;
 use std::alloc::{AllocError, Global};
 use vector_table::Assumptions;
 use witness_replay::Schedule;

@@ -55,7 +55,7 @@ fn is_input(instr: &Instr) -> bool
 }
 
 // Whether the instruction at a word address may read an input.
-fn reads(flash: &Flash, pc: u16) -> bool
+fn reads(flash: &Flash, pc: u32) -> bool
     ensures { result ≡ spec.reads flash.now pc }
 {
     match flash.instruction(pc) {
@@ -66,7 +66,7 @@ fn reads(flash: &Flash, pc: u16) -> bool
 
 /// The moment after this one, at a word address.
 #[inline(always)]
-pub fn after(flash: &Flash, guide: &Guide, t: u32, moment: TrialMoment, pc: u16) -> TrialMoment
+pub fn after(flash: &Flash, guide: &Guide, t: u32, moment: TrialMoment, pc: u32) -> TrialMoment
     ensures { result ≡ spec.after flash.now guide.now t moment pc }
 {
     let number = next(moment.number);

@@ -60,7 +60,7 @@ fn mark_told(told: &mut [bool; 256], instr: &Instr)
 }
 
 // Marks the bytes that the word at an address distinguishes, if it is an instruction.
-fn mark_at(told: &mut [bool; 256], flash: &Flash, at: u16)
+fn mark_at(told: &mut [bool; 256], flash: &Flash, at: u32)
     ensures { spec.MarksToo told.old told.new (lists (spec.told_if (instruction_at flash.now at))) }
 {
     if let Some(instr) = flash.instruction(at) {
@@ -73,7 +73,7 @@ fn mark_words(told: &mut [bool; 256], flash: &Flash)
     ensures { spec.MarksToo told.old told.new (spec.is_told flash.now (words_of (device_of flash.now))) }
 {
     for at in 0..flash.device().words() {
-        mark_at(told, flash, at as u16);
+        mark_at(told, flash, at);
     }
 }
 

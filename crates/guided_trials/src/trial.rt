@@ -6,7 +6,7 @@ ghost use Rattle.avr_model.specs.Devices.{device_of};
 ghost use Rattle.avr_model.specs.State.{IsReset};
 ghost use Rattle.avr_model.specs.Run.{IsRun};
 ghost use Rattle.stimulus.specs.Steady.{IsSteady};
-ghost use Rattle.trial_runs.specs.Length.{most_choices};
+ghost use Rattle.trial_runs.specs.Length.{most_trial_steps};
 ghost use Rattle.guided_trials.specs.Attaining.{AttainsIfBounded};
 ghost use Rattle.guided_trials.specs.Choosing as choosing;
 ghost use Rattle.guided_trials.specs.Trials.{fill_of, initial, trial_by, depth_by, HasDepth, IsGuidedBy, IsGuidedTried, IsGuidedFound};
@@ -19,7 +19,7 @@ use flash_image::Flash;
 use std::alloc::{AllocError, Global};
 use stimulus::laws::depth_is_kept;
 use stimulus::{Driver, Trace};
-use trial_runs::most_choices;
+use trial_runs::most_trial_steps;
 use vector_table::Assumptions;
 use witness_replay::Schedule;
 
@@ -65,7 +65,7 @@ fn attempt<F: FnMut(&Menu) -> Choice + Drop>(
     requires steady { IsSteady F.FnMut choose }
     requires guided { IsGuidedBy (CalledAt F.FnMut) flash.now guide.now t choose }
     ensures reset { IsReset (device_of flash.now) (initial flash.now guide.now t) }
-    ensures choices { IfOk result (λ x. x.choices ≡ trial_by most_choices flash.now assumptions.now guide.now t) }
+    ensures choices { IfOk result (λ x. x.choices ≡ trial_by most_trial_steps flash.now assumptions.now guide.now t) }
     ensures run { IfOk result (λ x. IsRun flash.now assumptions.now x.choices (initial flash.now guide.now t)) }
     ensures depth { IfOk result (HasDepth flash.now assumptions.now (initial flash.now guide.now t)) }
 {
@@ -73,7 +73,7 @@ fn attempt<F: FnMut(&Menu) -> Choice + Drop>(
     let fill = fill_of(guide, t);
     let mut machine = Machine::start(flash.device(), fill);
     let mut driver = Driver::new(choose);
-    let steps = most_choices();
+    let steps = most_trial_steps();
     driver.drive(alloc, &mut machine, flash, assumptions, guide.bound, steps)
 }
 
@@ -89,7 +89,7 @@ fn try_number(
     ensures attained { IfOk result (AttainsIfBounded flash.now assumptions.now guide.now.bound) }
 {
     depth_is_kept();
-    let steps = most_choices();
+    let steps = most_trial_steps();
     let fill = fill_of(guide, t);
     let mut moment = TrialMoment {
         number: first(t),

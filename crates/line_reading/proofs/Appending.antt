@@ -1,8 +1,8 @@
 -- Appended texts, and prefixes of them.
 use Rattle.std.proofs.Common.{◌≡◌, inl, inr, ◌++◌, ℕ, List, [], ◌∷◌, if◌then◌else◌, refl, ap, sym, ◌∙◌, subst, append_assoc, append-nil}
 use Rattle.std.proofs.lemmas.List.{append_cancel_left}
-use Rattle.sb_base.specs.Lines.{line}
-use Rattle.sb_base.specs.Writing.{Written, with_word, with_words, with_end, WritesLines}
+use Rattle.text_base.specs.Lines.{line}
+use Rattle.text_base.specs.Writing.{Written, with_word, with_words, with_end, WritesLines}
 use Rattle.line_reading.specs.Appending.{WroteWords, LineIsAppended, LineIsPart, PartOfMore, PartBehind}
 
 pub line_is_appended : WritesLines → LineIsAppended

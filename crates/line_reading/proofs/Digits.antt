@@ -5,7 +5,7 @@ use Rattle.std.specs.Prelude.{if◌then◌else◌}
 use Rattle.std.specs.List.{position}
 use Rattle.std.proofs.lemmas.Iterator.Adapters.{position_from-zero}
 use Rattle.std.proofs.lemmas.Bool.Decides.{nat_tests}
-use Rattle.sb_base.specs.Digits.{is_hex, digit_of, number_from, unless_bad, hex_answer}
+use Rattle.text_base.specs.Digits.{is_hex, digit_of, number_from, unless_bad, hex_answer}
 use Rattle.line_reading.specs.Letters.{number_before, digits_at}
 
 pub no_letter : (bs : List ℕ) → length bs ≡ 0 → None ≡ digits_at 2 bs

@@ -5,8 +5,8 @@ use Rattle.std.proofs.lemmas.List.{take-append-drop}
 use Rattle.std.proofs.Math.Seq.{take-append_seam, drop-append_seam}
 use Rattle.std.proofs.lemmas.Option.{same_Some, none-some}
 use Rattle.basics.specs.Lists.{chosen, same_head_and_tail}
-use Rattle.sb_base.specs.Digits.{hex_digits, hex_digit, hex_answer}
-use Rattle.sb_base.specs.declared.digits.DigitFault.{DigitFault}
+use Rattle.text_base.specs.Digits.{hex_digits, hex_digit, hex_answer}
+use Rattle.text_base.specs.declared.digits.DigitFault.{DigitFault}
 use Rattle.line_reading.specs.Reading.{number_and}
 use Rattle.line_reading.specs.Letters.{letter_at, number_before, digits_at, is_end}
 use Rattle.line_reading.specs.Words.{WordLaws}

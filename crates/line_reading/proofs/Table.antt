@@ -3,7 +3,7 @@ use Rattle.std.proofs.Common.{ℕ, ◌<◌, ◌≤◌, ◌≡◌, ◌∙◌, Boo
 use Rattle.std.proofs.lemmas.Bool.{agree_below, agree_below_at}
 use Rattle.std.proofs.lemmas.Bool.Decides.{nat_tests}
 use Rattle.std.specs.Prelude.{if◌then◌else◌}
-use Rattle.sb_base.specs.Digits.{is_hex, digit_of}
+use Rattle.text_base.specs.Digits.{is_hex, digit_of}
 use Rattle.line_reading.specs.declared.letters.TheConstants.{DIGITS}
 
 abbrev digit_in : ℕ → Option ℕ

@@ -6,12 +6,12 @@ use Rattle.std.proofs.lemmas.List.Splits.{join_with_byte-slice_split}
 use Rattle.std.specs.List.{position, AllByRecursion, flat_map}
 use Rattle.std.specs.Fmt.{decimal}
 use Rattle.basics.specs.Lists.{all_pass_if_none_fails, chosen}
-use Rattle.sb_base.proofs.Spelling.{not_ok, same_number, unless_bad_ok}
-use Rattle.sb_base.specs.declared.digits.DigitFault.{DigitFault}
-use Rattle.sb_base.specs.declared.digits.DigitFault.TheVariants.{WrongLength, BadDigit, TooGreat}
-use Rattle.sb_base.specs.Digits.{is_dec, is_hex, digit_of, number_from, hex_answer, dec_answer, capped, has_extra_zero, hex_digits}
-use Rattle.sb_base.specs.Lines.{TextLine, lines_of, joined, line, spaced, Lacks, IsEnded}
-use Rattle.sb_base.specs.Spelling.{HexIsRead, HexIsSpelled, DecimalIsRead, DecimalIsSpelled, WordsAreRead, LinesAreRead}
+use Rattle.text_base.proofs.Spelling.{not_ok, same_number, unless_bad_ok}
+use Rattle.text_base.specs.declared.digits.DigitFault.{DigitFault}
+use Rattle.text_base.specs.declared.digits.DigitFault.TheVariants.{WrongLength, BadDigit, TooGreat}
+use Rattle.text_base.specs.Digits.{is_dec, is_hex, digit_of, number_from, hex_answer, dec_answer, capped, has_extra_zero, hex_digits}
+use Rattle.text_base.specs.Lines.{TextLine, lines_of, joined, line, spaced, Lacks, IsEnded}
+use Rattle.text_base.specs.Spelling.{HexIsRead, HexIsSpelled, DecimalIsRead, DecimalIsSpelled, WordsAreRead, LinesAreRead}
 use Rattle.line_reading.specs.Reading.{number_and}
 use Rattle.line_reading.specs.Words.{IsWord, whole, HexTakes, HexIsTaken, HexIsWord, DecTakes, DecIsTaken, DecIsWord, WordsStand, LineIsWords, LinesStand, sizes, LinesAreText, TextIsLines}
 

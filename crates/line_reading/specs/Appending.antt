@@ -1,7 +1,7 @@
 -- What a writer of lines has written after a call, also after one that failed.
 use Rattle.std.specs.Prelude.{◌≡◌, ◌⊎◌, ◌++◌, ℕ, List, [], ◌∷◌, false}
-use Rattle.sb_base.specs.Lines.{line}
-use Rattle.sb_base.specs.Writing.{Written, with_word, with_words, with_end}
+use Rattle.text_base.specs.Lines.{line}
+use Rattle.text_base.specs.Writing.{Written, with_word, with_words, with_end}
 
 -- a text appended at the beginning of a line
 abbrev pub with_text : Written → List ℕ → Written

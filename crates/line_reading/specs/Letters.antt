@@ -1,7 +1,7 @@
 -- Reads the bytes of a word from its front. A reading gives a value and the bytes behind it, or nothing.
 use Rattle.std.specs.Prelude.{ℕ, nat_lt, Bool, true, false, List, [], ◌∷◌, length, take, drop, Option, Some, None, Result, Ok, Err, if◌then◌else◌}
-use Rattle.sb_base.specs.Digits.{hex_answer}
-use Rattle.sb_base.specs.declared.digits.DigitFault.{DigitFault}
+use Rattle.text_base.specs.Digits.{hex_answer}
+use Rattle.text_base.specs.declared.digits.DigitFault.{DigitFault}
 
 -- the first byte
 abbrev pub letter_at : List ℕ → Option (ℕ × List ℕ)

@@ -2,9 +2,9 @@
 use Rattle.std.specs.Prelude.{◌≡◌, ℕ, ◌+◌, List, [], ◌∷◌, Bool, true, false, Option, Some, None, Result, Ok, Err, if◌then◌else◌}
 use Rattle.std.specs.Option.{option_map}
 use Rattle.std.specs.Str.{bytes_eq}
-use Rattle.sb_base.specs.Lines.{TextLine, Place, size_of}
-use Rattle.sb_base.specs.Digits.{hex_answer, dec_answer}
-use Rattle.sb_base.specs.declared.digits.DigitFault.{DigitFault}
+use Rattle.text_base.specs.Lines.{TextLine, Position, size_of}
+use Rattle.text_base.specs.Digits.{hex_answer, dec_answer}
+use Rattle.text_base.specs.declared.digits.DigitFault.{DigitFault}
 use Rattle.line_reading.specs.declared.Malformed.{Malformed}
 
 -- ---- words
@@ -64,23 +64,23 @@ first_by f ls = text_in ls >>= f
 abbrev pub this_by : List ℕ → List ℕ → Option (Unit {0})
 this_by text t = if bytes_eq t text then Some tt else None
 
-abbrev pub passed_from : ℕ → List TextLine → Place
+abbrev pub passed_from : ℕ → List TextLine → Position
 passed_from at [] = record { at = at; rest = [] }
 passed_from at (l ∷ ls) = record { at = at + size_of l; rest = ls }
 
 -- the place after the next line
-abbrev pub passed : Place → Place
+abbrev pub passed : Position → Position
 passed p = passed_from p.at p.rest
 
-abbrev pub taken : {A : Type 0} → Option A → Place → Place → Result (A × Place) Place
+abbrev pub taken : {A : Type 0} → Option A → Position → Position → Result (A × Position) Position
 taken None here next = Err here
 taken (Some x) here next = Ok (x, next)
 
 -- the next line, by a reading of its text, and the place after it
-unfoldable pub line_by : {A : Type 0} → (List ℕ → Option A) → Place → Result (A × Place) Place
+unfoldable pub line_by : {A : Type 0} → (List ℕ → Option A) → Position → Result (A × Position) Position
 line_by f p = taken (first_by f p.rest) p (passed p)
 
 -- a call's result, and the reader's place after it, are those of the reading
-abbrev pub ReadsAt : {X Y : Type 0} → (X → Y) → Place → Result X Malformed → Result (Y × Place) Place → Type 0
+abbrev pub ReadsAt : {X Y : Type 0} → (X → Y) → Position → Result X Malformed → Result (Y × Position) Position → Type 0
 ReadsAt view after (Ok x) due = due ≡ Ok (view x, after)
 ReadsAt view after (Err fault) due = (due ≡ Err after) × (fault.0 ≡ after.at)

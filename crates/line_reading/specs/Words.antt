@@ -1,9 +1,9 @@
 -- Words and lines as they are written, and the readings of them.
 use Rattle.std.specs.Prelude.{◌≡◌, ◌≤◌, ◌<◌, ◌^◌, ◌+◌, ◌++◌, ℕ, List, [], ◌∷◌, length, Some, true, decimal, map}
 use Rattle.std.specs.List.{AllByRecursion, flat_map}
-use Rattle.sb_base.specs.Digits.{hex_digits}
-use Rattle.sb_base.specs.Lines.{TextLine, Place, size_of, AreLines, joined, words_of, spaced, line, Lacks}
-use Rattle.sb_base.specs.Spelling.{LinesMakeText, LinesOfTextAreLines}
+use Rattle.text_base.specs.Digits.{hex_digits}
+use Rattle.text_base.specs.Lines.{TextLine, Position, size_of, AreLines, joined, words_of, spaced, line, Lacks}
+use Rattle.text_base.specs.Spelling.{LinesMakeText, LinesOfTextAreLines}
 use Rattle.line_reading.specs.Reading.{hex_at, dec_at}
 
 -- a word of a line: it has no space and no line feed
@@ -20,7 +20,7 @@ sizes [] = 0
 sizes (l ∷ ls) = size_of l + sizes ls
 
 -- These lines are at the first place, and the second place is after them.
-pub record Passes (p : Place) (ls : List TextLine) (q : Place) : Type 0 where
+pub record Passes (p : Position) (ls : List TextLine) (q : Position) : Type 0 where
   pub lines : p.rest ≡ ls ++ q.rest
   pub offset : q.at ≡ p.at + sizes ls
 
@@ -59,16 +59,16 @@ abbrev pub LinesStand : Type 0
 LinesStand = (wss : List (List (List ℕ))) (ls : List TextLine) → AllByRecursion (AllByRecursion IsWord) wss → AreLines ls → AreLines (map whole wss ++ ls)
 
 -- the text from the place on begins with the text of these lines of words
-pub record PassesText (p : Place) (wss : List (List (List ℕ))) (q : Place) : Type 0 where
+pub record PassesText (p : Position) (wss : List (List (List ℕ))) (q : Position) : Type 0 where
   pub bytes : joined p.rest ≡ flat_map line wss ++ joined q.rest
   pub offset : q.at ≡ p.at + length (flat_map line wss)
 
 -- lines are at a place exactly when the text there begins with theirs
 abbrev pub LinesAreText : Type 0
-LinesAreText = (p : Place) (wss : List (List (List ℕ))) (q : Place) → Passes p (map whole wss) q → PassesText p wss q
+LinesAreText = (p : Position) (wss : List (List (List ℕ))) (q : Position) → Passes p (map whole wss) q → PassesText p wss q
 
 abbrev pub TextIsLines : Type 0
-TextIsLines = (p : Place) (wss : List (List (List ℕ))) (q : Place) → AllByRecursion (AllByRecursion IsWord) wss → AreLines p.rest → AreLines q.rest → PassesText p wss q → Passes p (map whole wss) q
+TextIsLines = (p : Position) (wss : List (List (List ℕ))) (q : Position) → AllByRecursion (AllByRecursion IsWord) wss → AreLines p.rest → AreLines q.rest → PassesText p wss q → Passes p (map whole wss) q
 
 -- all laws of words
 pub record WordLaws : Type 0 where

@@ -3,7 +3,7 @@
 ghost use Rattle.line_reading.specs.Words.{WordLaws};
 ghost use Rattle.line_reading.specs.Appending.{AppendingLaws};
 
-use sb_base::laws::spelling;
+use text_base::laws::spelling;
 
 /// Numbers, words and lines that are written are read back, and what is read was written so. The body is empty; the contract is these laws.
 pub fn word_laws()

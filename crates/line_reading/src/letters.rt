@@ -2,11 +2,11 @@
 
 ghost use Rattle.std.specs.Prelude.{◌≡◌, ◌≤◌, ◌<◌, ◌^◌, Some, None, if◌then◌else◌, IfSome};
 ghost use Rattle.std.specs.Option.{option_map};
-ghost use Rattle.sb_base.specs.Digits.{is_hex, digit_of};
+ghost use Rattle.text_base.specs.Digits.{is_hex, digit_of};
 ghost use Rattle.line_reading.specs.Letters.{letter_at, digits_at, is_end};
 
-use sb_base::read_hex;
 use std::marker::Model;
+use text_base::read_hex;
 
 /// The bytes of a word that are still to be read.
 #[derive(Drop)]

@@ -10,16 +10,16 @@ ghost use Rattle.std.specs.Option.{option_map};
 ghost use Rattle.line_reading.specs.Reading.{hex_at, dec_at, word_at, is_over, text_in, this_by, taken, passed, line_by, ReadsAt};
 
 pub use letters::Letters;
-use sb_base::{LineReader, Words, read_dec, read_hex};
+use text_base::{LineReader, Words, read_dec, read_hex};
 
 /// The line at this offset has the wrong form, or is missing.
 #[derive(Clone, Copy)]
 pub struct Malformed(pub usize);
 
 /// Reads the next word as a number of exactly `digits` upper-case hexadecimal digits.
-pub fn hex_word(words: &mut Words<'_>, digits: usize) -> Option<u64>
+pub fn hex_word(words: &mut Words<'_>, digits: usize) -> Option<u128>
     requires some { 1 ≤ digits }
-    requires few { digits ≤ 16 }
+    requires few { digits ≤ 32 }
     ensures exact { option_map (λ n. (n, words.new)) result ≡ hex_at digits words.old }
     ensures small { IfSome result (λ n. n < 16 ^ digits) }
 {

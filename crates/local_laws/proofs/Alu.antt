@@ -41,7 +41,7 @@ use Rattle.abs_state.specs.Values.{untagged}
 use Rattle.abs_state.specs.Formed.{CarryIsUntagged}
 use Rattle.abs_state.specs.Stands.{ByteStands, RegistersStand}
 use Rattle.abs_state.proofs.AllLaws.{bits_make_values}
-use Rattle.mask_states.specs.declared.keys.NodeKey.{NodeKey}
+use Rattle.node_keys.specs.declared.keys.NodeKey.{NodeKey}
 use Rattle.local_rules.specs.HighBytes.{view_by, low_number, carry_number, seen_high}
 use Rattle.local_rules.specs.Raw.{setting as node_setting}
 use Rattle.local_rules.specs.Registers.{value, bits, carry_bit, with_bits, set as node_set, set_pair as node_pair, with_carry, but_carry, low_tag, borrow_tag, high_tag, high_tag_of, swapped, product_row, down_by, pair_tags, pair_moved, wide_row, going_with, sum_tagged, sum_after, compare_after, difference_after, sub_after, sbc_after, logic_after, step_tagged, step_after, shift_after, com_after}

@@ -15,10 +15,10 @@ use Rattle.abs_state.specs.Formed.{IsFormed, IsUntagged, TagsFit}
 use Rattle.abs_state.specs.Hulls.{IsInHulls}
 use Rattle.abs_state.specs.Laws.{HoldsAt}
 use Rattle.abs_state.specs.Stands.{Stands}
-use Rattle.mask_states.specs.declared.keys.NodeKey.{NodeKey}
-use Rattle.mask_states.specs.declared.keys.Kind.TheVariants.{Root}
-use Rattle.mask_states.specs.Keys.{offset_of, PickFits}
-use Rattle.mask_states.specs.Place.{AtNode}
+use Rattle.node_keys.specs.declared.keys.NodeKey.{NodeKey}
+use Rattle.node_keys.specs.declared.keys.Kind.TheVariants.{Root}
+use Rattle.node_keys.specs.Keys.{offset_of, PickFits}
+use Rattle.node_keys.specs.Place.{AtNode}
 use Rattle.local_rules.specs.Machine.{IsMachine}
 use Rattle.local_rules.specs.Cover.{FormFits, IsKey, IsNodeIn, InFrameIn}
 

@@ -1,7 +1,7 @@
 -- Rows that read or write data space or flash cover each step of the machine.
 use Rattle.std.proofs.Common.{◌≡◌, refl, sym, ◌∙◌, subst, ℕ, ◌<◌, Bool, true, false, not, nat_lt, if◌then◌else◌, List, [], ◌∷◌, ◌++◌, length, Option, Some, None, slice_set, arith, length-set, ◌*◌}
 use Rattle.std.specs.Int.{from_bool}
-use Rattle.avr_model.specs.Devices.{Program, words_of, device_of, wrapped}
+use Rattle.avr_model.specs.Devices.{Image, words_of, device_of, wrapped}
 use Rattle.avr_model.specs.declared.instruction.Instr.{Instr}
 use Rattle.avr_model.specs.declared.instruction.Instr.TheVariants as i
 use Rattle.avr_model.specs.declared.instruction.Base.{Base}
@@ -32,8 +32,8 @@ use Rattle.abs_state.specs.declared.values.AbsByte.{AbsByte}
 use Rattle.abs_state.specs.declared.state.AbsState.{AbsState}
 use Rattle.abs_state.specs.Values.{untagged, known, unknown}
 use Rattle.abs_state.specs.Stands.{ByteStands, RegistersStand}
-use Rattle.mask_states.specs.declared.keys.NodeKey.{NodeKey}
-use Rattle.mask_states.specs.Wakes.{without}
+use Rattle.node_keys.specs.declared.keys.NodeKey.{NodeKey}
+use Rattle.node_keys.specs.Wakes.{without}
 use Rattle.local_rules.specs.Flow.{reading_zero}
 use Rattle.local_rules.specs.Permitted.{permits_number}
 use Rattle.local_rules.specs.Raw.{Raw, at_word, off_table, next, going_to as node_going_to, setting as node_setting, further as node_further}
@@ -114,10 +114,10 @@ flash_by : (o : Origin) (b : Bool) (x input : ℕ) → x < 256 → input < 256 �
 flash_by o true x input small lt = known_stands o x small
 flash_by o false x input small lt = any_stands o input lt
 
-flash_stands : (o : Origin) (words : Program) (c : Option ℕ) (z input : ℕ) → AreWords words → input < 256 → ((x : ℕ) → c ≡ Some x → z ≡ x) → ByteStands o (flash_value words c) (flash_read words z input)
-flash_stands o words None z input are lt is = any_stands o (flash_read words z input) (flash_small words z input are lt)
-flash_stands o words (Some x) z input are lt is =
-    subst (λ y. ByteStands o (flash_value words (Some x)) (flash_read words y input)) (sym (is x refl)) (flash_by o (nat_lt x (2 * words_of (device_of words))) (byte_at words.words x) input (byte_at_small words x are) lt)
+flash_stands : (o : Origin) (image : Image) (c : Option ℕ) (z input : ℕ) → AreWords image → input < 256 → ((x : ℕ) → c ≡ Some x → z ≡ x) → ByteStands o (flash_value image c) (flash_read image z input)
+flash_stands o image None z input are lt is = any_stands o (flash_read image z input) (flash_small image z input are lt)
+flash_stands o image (Some x) z input are lt is =
+    subst (λ y. ByteStands o (flash_value image (Some x)) (flash_read image y input)) (sym (is x refl)) (flash_by o (nat_lt x (2 * words_of (device_of image))) (byte_at image.words x) input (byte_at_small image x are) lt)
 
 -- ---- a bit that is tested
 

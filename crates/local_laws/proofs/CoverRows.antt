@@ -7,7 +7,7 @@ use Rattle.std.proofs.lemmas.Option.{same_Some}
 use Rattle.basics.specs.Booleans.{not_from_never, or_with_false}
 use Rattle.basics.specs.Items.{first_in}
 use Rattle.abs_alu.proofs.AllLaws.{has_known}
-use Rattle.avr_model.specs.Devices.{Program, wrapped}
+use Rattle.avr_model.specs.Devices.{Image, wrapped}
 use Rattle.avr_model.specs.declared.assumption.Entry.{Entry}
 use Rattle.avr_model.specs.declared.effect.Effect.{Effect}
 use Rattle.avr_model.specs.declared.instruction.Instr.{Instr}
@@ -42,7 +42,7 @@ use Rattle.abs_state.specs.declared.state.AbsState.{AbsState}
 use Rattle.abs_state.specs.Values.{known}
 use Rattle.abs_state.specs.Formed.{CarryIsUntagged}
 use Rattle.abs_state.proofs.AllLaws.{bits_make_values}
-use Rattle.mask_states.specs.declared.keys.NodeKey.{NodeKey}
+use Rattle.node_keys.specs.declared.keys.NodeKey.{NodeKey}
 use Rattle.local_rules.specs.HighBytes.{view_by}
 use Rattle.local_rules.specs.Raw.{Raw, further}
 use Rattle.local_rules.specs.Registers.{value, bits, carry_bit, less_than, less_kept, going_by, binary_after}
@@ -117,31 +117,31 @@ module _ {may : Bool} (m : State) (o : Origin) (k : NodeKey) (s : AbsState) (at 
     unary_covered unary.Ror d spare = shift_covered m o k s at guarded b1 b2 shift.Ror d
     unary_covered unary.Dec d spare = step_covered m o k s at guarded b1 b2 false d spare
 
-    binary_covered : (words : Program) (op : BinaryOp) (d r : ℕ) → SparesAll s.flags.carry (set_by_binary op d) → FollowsWhere may m o s.facts k guarded b1 b2 (binary_effect words m op d r) (going_by (site_at m.device k s) (binary_at (view_by m.device k) false s op d r) (equal_skip words (site_at m.device k s) d r))
-    binary_covered words binary.Cpc d r spares =
+    binary_covered : (image : Image) (op : BinaryOp) (d r : ℕ) → SparesAll s.flags.carry (set_by_binary op d) → FollowsWhere may m o s.facts k guarded b1 b2 (binary_effect image m op d r) (going_by (site_at m.device k s) (binary_at (view_by m.device k) false s op d r) (equal_skip image (site_at m.device k s) d r))
+    binary_covered image binary.Cpc d r spares =
         compare_covered m o k s at guarded b1 b2 (register m d) (register m r) (bits s d) (bits s r) (carry m) (carry_bit s) true
         (less_kept (byte_constant (bits s d)) (byte_constant (bits s r)) s.flags.carry) (register_byte m o k s at d) (register_byte m o k s at r)
         (register_bits m o k s at d) (register_bits m o k s at r) (carry_may m o k s at guarded b1 b2)
         (kept_is CarryIsUntagged (byte_constant (bits s d)) (byte_constant (bits s r)) s.flags.carry (alone_untagged s.flags.carry) tt)
         (kept_holds m.registers (register m d) (register m r) (byte_constant (bits s d)) (byte_constant (bits s r)) s.flags.carry (carry m) (register_number d) (register_number r) at.stands.less)
-    binary_covered words binary.Sbc d r spares =
+    binary_covered image binary.Sbc d r spares =
         sbc_covered m o k s at guarded b1 b2 d (register m r) (bits s r) (byte_constant (bits s r)) (register_byte m o k s at r) (register_bits m o k s at r) (register_number r)
-    binary_covered words binary.Add d r spares = sum_covered m o k s at guarded b1 b2 d (register m r) (bits s r) false Zero (register_byte m o k s at r) (register_bits m o k s at r) refl
-    binary_covered words binary.Cpse d r spares =
-        skip_covered m o k s at guarded b1 b2 words (register m d == register m r) (byte_equal (bits s d) (bits s r))
+    binary_covered image binary.Add d r spares = sum_covered m o k s at guarded b1 b2 d (register m r) (bits s r) false Zero (register_byte m o k s at r) (register_bits m o k s at r) refl
+    binary_covered image binary.Cpse d r spares =
+        skip_covered m o k s at guarded b1 b2 image (register m d == register m r) (byte_equal (bits s d) (bits s r))
         (logic_covers.tests (bits s d) (bits s r) (register m d) (register m r) (register_byte m o k s at d) (register_byte m o k s at r) (register_bits m o k s at d) (register_bits m o k s at r))
-    binary_covered words binary.Cp d r spares =
+    binary_covered image binary.Cp d r spares =
         compare_covered m o k s at guarded b1 b2 (register m d) (register m r) (bits s d) (bits s r) false Zero false (less_than d (byte_constant (bits s r)))
         (register_byte m o k s at d) (register_byte m o k s at r) (register_bits m o k s at d) (register_bits m o k s at r) refl
         (than_untagged d (byte_constant (bits s r))) (than_holds m.registers d (register m r) (byte_constant (bits s r)) (register_number r))
-    binary_covered words binary.Sub d r spares = sub_by m o k s at guarded b1 b2 d r (d == r) refl
-    binary_covered words binary.Adc d r spares =
+    binary_covered image binary.Sub d r spares = sub_by m o k s at guarded b1 b2 d r (d == r) refl
+    binary_covered image binary.Adc d r spares =
         sum_covered m o k s at guarded b1 b2 d (register m r) (bits s r) (carry m) (carry_bit s) (register_byte m o k s at r) (register_bits m o k s at r) (carry_may m o k s at guarded b1 b2)
-    binary_covered words binary.And d r spares = kept_covered m o k s at guarded b1 b2 logic.And and_self d r spares.0
-    binary_covered words binary.Eor d r spares = eor_by m o k s at guarded b1 b2 d r spares.0 (d == r) refl
-    binary_covered words binary.Or d r spares = kept_covered m o k s at guarded b1 b2 logic.Or or_self d r spares.0
-    binary_covered words binary.Mov d r spares = moves m o k s at guarded b1 b2 d (register m r) (value s r) (register_stands m o k s at r) spares.0
-    binary_covered words binary.Mul d r spares = product_covered m o k s at guarded b1 b2 product.Mul d r
+    binary_covered image binary.And d r spares = kept_covered m o k s at guarded b1 b2 logic.And and_self d r spares.0
+    binary_covered image binary.Eor d r spares = eor_by m o k s at guarded b1 b2 d r spares.0 (d == r) refl
+    binary_covered image binary.Or d r spares = kept_covered m o k s at guarded b1 b2 logic.Or or_self d r spares.0
+    binary_covered image binary.Mov d r spares = moves m o k s at guarded b1 b2 d (register m r) (value s r) (register_stands m o k s at r) spares.0
+    binary_covered image binary.Mul d r spares = product_covered m o k s at guarded b1 b2 product.Mul d r
 
     -- ---- at a site with a `frame` line
 
@@ -172,34 +172,34 @@ module _ {may : Bool} (m : State) (o : Origin) (k : NodeKey) (s : AbsState) (at 
     unary_line_covered false op d spare = unary_covered op d spare
 
     -- the row of two registers, with pairs or without
-    abbrev row_by : Program → Bool → BinaryOp → ℕ → ℕ → Raw
-    row_by words framed op d r = going_by (site_at m.device k s) (if framed then framed_binary (view_by m.device k) s op d r else binary_after (view_by m.device k) s op d r) (node_skipping words (site_at m.device k s) k k (byte_equal (bits s d) (bits s r)))
+    abbrev row_by : Image → Bool → BinaryOp → ℕ → ℕ → Raw
+    row_by image framed op d r = going_by (site_at m.device k s) (if framed then framed_binary (view_by m.device k) s op d r else binary_after (view_by m.device k) s op d r) (node_skipping image (site_at m.device k s) k k (byte_equal (bits s d) (bits s r)))
 
-    binary_line_covered : (words : Program) (framed : Bool) (op : BinaryOp) (d r : ℕ) → SparesAll s.flags.carry (set_by_binary op d) → FollowsWhere may m o s.facts k guarded b1 b2 (binary_effect words m op d r) (row_by words framed op d r)
-    binary_line_covered words false op d r spares = binary_covered words op d r spares
-    binary_line_covered words true binary.Cpc d r spares = binary_covered words binary.Cpc d r spares
-    binary_line_covered words true binary.Sbc d r spares = binary_covered words binary.Sbc d r spares
-    binary_line_covered words true binary.Add d r spares = framed_add_covered m o k s at guarded b1 b2 d r
-    binary_line_covered words true binary.Cpse d r spares = binary_covered words binary.Cpse d r spares
-    binary_line_covered words true binary.Cp d r spares = binary_covered words binary.Cp d r spares
-    binary_line_covered words true binary.Sub d r spares =
+    binary_line_covered : (image : Image) (framed : Bool) (op : BinaryOp) (d r : ℕ) → SparesAll s.flags.carry (set_by_binary op d) → FollowsWhere may m o s.facts k guarded b1 b2 (binary_effect image m op d r) (row_by image framed op d r)
+    binary_line_covered image false op d r spares = binary_covered image op d r spares
+    binary_line_covered image true binary.Cpc d r spares = binary_covered image binary.Cpc d r spares
+    binary_line_covered image true binary.Sbc d r spares = binary_covered image binary.Sbc d r spares
+    binary_line_covered image true binary.Add d r spares = framed_add_covered m o k s at guarded b1 b2 d r
+    binary_line_covered image true binary.Cpse d r spares = binary_covered image binary.Cpse d r spares
+    binary_line_covered image true binary.Cp d r spares = binary_covered image binary.Cp d r spares
+    binary_line_covered image true binary.Sub d r spares =
         framed_sub_covered m o k s at guarded b1 b2 d (register m r) (bits s r) (byte_constant (bits s r)) (register_byte m o k s at r) (register_bits m o k s at r) (register_number r)
-    binary_line_covered words true binary.Adc d r spares = framed_adc_covered m o k s at guarded b1 b2 d r
-    binary_line_covered words true binary.And d r spares = binary_covered words binary.And d r spares
-    binary_line_covered words true binary.Eor d r spares = binary_covered words binary.Eor d r spares
-    binary_line_covered words true binary.Or d r spares = binary_covered words binary.Or d r spares
-    binary_line_covered words true binary.Mov d r spares = binary_covered words binary.Mov d r spares
-    binary_line_covered words true binary.Mul d r spares = binary_covered words binary.Mul d r spares
+    binary_line_covered image true binary.Adc d r spares = framed_adc_covered m o k s at guarded b1 b2 d r
+    binary_line_covered image true binary.And d r spares = binary_covered image binary.And d r spares
+    binary_line_covered image true binary.Eor d r spares = binary_covered image binary.Eor d r spares
+    binary_line_covered image true binary.Or d r spares = binary_covered image binary.Or d r spares
+    binary_line_covered image true binary.Mov d r spares = binary_covered image binary.Mov d r spares
+    binary_line_covered image true binary.Mul d r spares = binary_covered image binary.Mul d r spares
 
 -- whether the bytes that an instruction at this word pushes stay live
 abbrev pub guarding : Bool → List Entry → ℕ → Instr → Bool
 guarding scratch A pc (i.Push r) = not (scratch || has_scratch A pc)
 guarding scratch A pc _ = not scratch
 
-pub guards_are : (words : Program) (A : List Entry) (pc pc' : ℕ) (instr : Instr) → pc ≡ pc' → guarding (is_scratch words pc) A pc' instr ≡ is_guarding words A pc instr
+pub guards_are : (image : Image) (A : List Entry) (pc pc' : ℕ) (instr : Instr) → pc ≡ pc' → guarding (is_scratch image pc) A pc' instr ≡ is_guarding image A pc instr
 unfolding is_guarding
-guards_are words A pc pc' (i.Push r) e = ap (λ x. not (is_scratch words pc || has_scratch A x)) (sym e)
-guards_are words A pc pc' instr e = ap not (sym (or_with_false (is_scratch words pc)))
+guards_are image A pc pc' (i.Push r) e = ap (λ x. not (is_scratch image pc || has_scratch A x)) (sym e)
+guards_are image A pc pc' instr e = ap not (sym (or_with_false (is_scratch image pc)))
 
 -- the part of a row covers the machine's step, if it has no fault and the step isn't flagged
 abbrev pub CoversRow : Task → State → Origin → NodeKey → ℕ → ℕ → Bool → Instr → Raw → Type 0
@@ -215,9 +215,9 @@ listed_call : (A : List Entry) (pc : ℕ) (e : Effect) → unlisted_transfer A p
 unfolding unlisted_transfer
 listed_call A pc e h = h
 
-module _ (A : List Entry) (m : State) (o : Origin) (k : NodeKey) (s : AbsState) (at : InBareFrame (reads_masks m.device A) m o k s) (b1 b2 : ℕ) (words : Program) (scratch : Bool) where
+module _ (A : List Entry) (m : State) (o : Origin) (k : NodeKey) (s : AbsState) (at : InBareFrame (reads_masks m.device A) m o k s) (b1 b2 : ℕ) (image : Image) (scratch : Bool) where
   abbrev task : Task
-  task = task_with words A
+  task = task_with image A
 
   bit_may : (r b : ℕ) → Permits (tri_at (bits s r) b) (from_bool (flag (register m r) b))
   bit_may r b = permits_flag (bits s r) (register m r) b (register_bits m o k s at r)
@@ -225,8 +225,8 @@ module _ (A : List Entry) (m : State) (o : Origin) (k : NodeKey) (s : AbsState) 
   -- the goal of a row
   abbrev pub RowIsCovered : Instr → Type 0
   RowIsCovered instr =
-      (row_of task scratch (site_at m.device k s) instr).faults ≡ [] → IsUnflagged task m instr (effect_of words (reads_masks m.device A) m instr b1 b2)
-      → FollowsWhere (reads_masks m.device A) m o s.facts k (guarding scratch A k.pc instr) b1 b2 (effect_of words (reads_masks m.device A) m instr b1 b2) (row_of task scratch (site_at m.device k s) instr)
+      (row_of task scratch (site_at m.device k s) instr).faults ≡ [] → IsUnflagged task m instr (effect_of image (reads_masks m.device A) m instr b1 b2)
+      → FollowsWhere (reads_masks m.device A) m o s.facts k (guarding scratch A k.pc instr) b1 b2 (effect_of image (reads_masks m.device A) m instr b1 b2) (row_of task scratch (site_at m.device k s) instr)
 
   -- Each row is covered, if those that name an address are.
   pub row_covered : b1 < 256 → (instr : Instr) → SparesAll s.flags.carry (written instr) → IsInstrSized instr → (scratch ≡ true → MakesRoom instr) → (NamesAddress instr → RowIsCovered instr) → RowIsCovered instr
@@ -237,7 +237,7 @@ module _ (A : List Entry) (m : State) (o : Origin) (k : NodeKey) (s : AbsState) 
   row_covered small (i.Fmul d r) spares sized rooms addressed none unflagged = product_covered m o k s at (not scratch) b1 b2 product.Fmul d r
   row_covered small (i.Fmuls d r) spares sized rooms addressed none unflagged = product_covered m o k s at (not scratch) b1 b2 product.Fmuls d r
   row_covered small (i.Fmulsu d r) spares sized rooms addressed none unflagged = product_covered m o k s at (not scratch) b1 b2 product.Fmulsu d r
-  row_covered small (i.Binary op d r) spares sized rooms addressed none unflagged = binary_line_covered m o k s at b1 b2 (not scratch) words (is_followed (is_frame A k.pc) d r) op d r spares
+  row_covered small (i.Binary op d r) spares sized rooms addressed none unflagged = binary_line_covered m o k s at b1 b2 (not scratch) image (is_followed (is_frame A k.pc) d r) op d r spares
   row_covered small (i.Immediate op d n) spares sized rooms addressed none unflagged = immediate_line_covered m o k s at b1 b2 (not scratch) (is_frame A k.pc) op d n spares sized
   row_covered small (i.Ldd d b q) spares sized rooms addressed none unflagged = addressed tt none unflagged
   row_covered small (i.Std b q r) spares sized rooms addressed none unflagged = addressed tt none unflagged
@@ -254,8 +254,8 @@ module _ (A : List Entry) (m : State) (o : Origin) (k : NodeKey) (s : AbsState) 
   row_covered small (i.Unary op d) spares sized rooms addressed none unflagged = unary_line_covered m o k s at b1 b2 (not scratch) (is_frame A k.pc) op d spares.0
   row_covered small (i.Bset n) spares sized rooms addressed none unflagged = flag_covered m o k s at (not scratch) b1 b2 n true
   row_covered small (i.Bclr n) spares sized rooms addressed none unflagged = flag_covered m o k s at (not scratch) b1 b2 n false
-  row_covered small i.Ijmp spares sized rooms addressed none unflagged = ijmp_covered m o k s at (not scratch) b1 b2 A (listed_word A m.pc (effect_of words (reads_masks m.device A) m i.Ijmp b1 b2) unflagged.listed) none
-  row_covered small i.Icall spares sized rooms addressed none unflagged = icall_covered m o k s at (not scratch) b1 b2 A (not_from_never scratch rooms) (listed_call A m.pc (effect_of words (reads_masks m.device A) m i.Icall b1 b2) unflagged.listed) none
+  row_covered small i.Ijmp spares sized rooms addressed none unflagged = ijmp_covered m o k s at (not scratch) b1 b2 A (listed_word A m.pc (effect_of image (reads_masks m.device A) m i.Ijmp b1 b2) unflagged.listed) none
+  row_covered small i.Icall spares sized rooms addressed none unflagged = icall_covered m o k s at (not scratch) b1 b2 A (not_from_never scratch rooms) (listed_call A m.pc (effect_of image (reads_masks m.device A) m i.Icall b1 b2) unflagged.listed) none
   row_covered small i.Ret spares sized rooms addressed none unflagged = ret_covered m o k s at (not scratch) b1 b2 none
   row_covered small i.Reti spares sized rooms addressed none unflagged = reti_covered m o k s at (not scratch) b1 b2 none
   row_covered small i.Sleep spares sized rooms addressed none unflagged = going_covered m o k s at (not scratch) b1 b2 _ (further m.device k 1) (goes_further m o k s at (not scratch) b1 b2 1)
@@ -279,5 +279,5 @@ module _ (A : List Entry) (m : State) (o : Origin) (k : NodeKey) (s : AbsState) 
   row_covered small (i.Brbc n t) spares sized rooms addressed none unflagged = brbc_covered m o k s at (not scratch) b1 b2 n t
   row_covered small (i.Bld d b) spares sized rooms addressed none unflagged = bld_covered m o k s at (not scratch) b1 b2 d b spares.0
   row_covered small (i.Bst d b) spares sized rooms addressed none unflagged = bst_covered m o k s at (not scratch) b1 b2 d b
-  row_covered small (i.Sbrc r b) spares sized rooms addressed none unflagged = skip_covered m o k s at (not scratch) b1 b2 words (not (flag (register m r) b)) (tri_not (tri_at (bits s r) b)) (not_may (tri_at (bits s r) b) (flag (register m r) b) (bit_may r b))
-  row_covered small (i.Sbrs r b) spares sized rooms addressed none unflagged = skip_covered m o k s at (not scratch) b1 b2 words (flag (register m r) b) (tri_at (bits s r) b) (bit_may r b)
+  row_covered small (i.Sbrc r b) spares sized rooms addressed none unflagged = skip_covered m o k s at (not scratch) b1 b2 image (not (flag (register m r) b)) (tri_not (tri_at (bits s r) b)) (not_may (tri_at (bits s r) b) (flag (register m r) b) (bit_may r b))
+  row_covered small (i.Sbrs r b) spares sized rooms addressed none unflagged = skip_covered m o k s at (not scratch) b1 b2 image (flag (register m r) b) (tri_at (bits s r) b) (bit_may r b)

@@ -1,7 +1,7 @@
 -- The local part of a node covers each step of the machine there.
 use Rattle.std.proofs.Common.{◌≡◌, refl, subst, ℕ, ◌<◌, Bool, true, false, List, Option, Some, None, sym, ap, nat_lt, nat_le, length, map, if◌then◌else◌, lt-ltb}
 use Rattle.avr_model.specs.declared.device.Device.{Device}
-use Rattle.avr_model.specs.Devices.{Program, image, words_of, size_of, device_of}
+use Rattle.avr_model.specs.Devices.{Image, image_of, words_of, size_of, device_of}
 use Rattle.avr_model.specs.declared.assumption.Entry.{Entry}
 use Rattle.avr_model.specs.declared.instruction.Instr.{Instr}
 use Rattle.avr_model.specs.Masks.{reads_masks}
@@ -10,8 +10,8 @@ use Rattle.avr_model.specs.Written.{written}
 use Rattle.avr_model.specs.State.{State, register}
 use Rattle.sp_domain.specs.Tags.{Origin}
 use Rattle.abs_state.specs.declared.state.AbsState.{AbsState}
-use Rattle.mask_states.specs.declared.keys.NodeKey.{NodeKey}
-use Rattle.mask_states.specs.Keys.{offset_of}
+use Rattle.node_keys.specs.declared.keys.NodeKey.{NodeKey}
+use Rattle.node_keys.specs.Keys.{offset_of}
 use Rattle.local_rules.specs.declared.local.NodeFault.TheVariants.{UnresolvedJump}
 use Rattle.local_rules.specs.Raw.{Raw, fails, all_of, untracked_if, too_deep_if}
 use Rattle.local_rules.specs.Local.{row_at, row_in, row_by, plain_row, is_hung, fetched, picks, picking, picked_row, split_site, splitting, raw}
@@ -36,10 +36,10 @@ use Rattle.local_laws.proofs.Picks.{splits_at, at_quiet, in_picks, picked_at, al
 use Rattle.local_rules.specs.Site.{Task, masks_by, site_at, task_with}
 
 module _ (ws : List ℕ) (A : List Entry) (m : State) (o : Origin) (k : NodeKey) (s : AbsState) (at : InBareFrame (reads_masks m.device A) m o k s) (b1 b2 : ℕ) (small : b1 < 256)
-    (other : b2 < 256) (are : AreWords (image m.device ws)) where
+    (other : b2 < 256) (are : AreWords (image_of m.device ws)) where
   -- the words, on the machine's device
-  abbrev words : Program
-  words = image m.device ws
+  abbrev words : Image
+  words = image_of m.device ws
 
   abbrev task : Task
   task = task_with words A
@@ -93,10 +93,10 @@ module _ (ws : List ℕ) (A : List Entry) (m : State) (o : Origin) (k : NodeKey)
       subst (λ pc. Covering (row_at task (is_scratch words pc) (site_at m.device k s) (fetched m.device words pc))) at.place.pc here
 
 module _ (ws : List ℕ) (A : List Entry) (m : State) (o : Origin) (k : NodeKey) (s : AbsState) (at : InBareFrame (reads_masks m.device A) m o k s) (b1 b2 : ℕ) (small : b1 < 256)
-    (other : b2 < 256) (are : AreWords (image m.device ws)) where
+    (other : b2 < 256) (are : AreWords (image_of m.device ws)) where
   -- the words, on the machine's device
-  abbrev flash : Program
-  flash = image m.device ws
+  abbrev flash : Image
+  flash = image_of m.device ws
 
   abbrev Covers : Raw → Type 0
   Covers r = CoversStep (task_with flash A) m o k b1 b2 (instruction_at flash m.pc) r
@@ -144,12 +144,12 @@ module _ (ws : List ℕ) (A : List Entry) (m : State) (o : Origin) (k : NodeKey)
 
 -- for words of the machine's device
 covered_on : {followed : Bool} (device : Device) (ws : List ℕ) (A : List Entry) (m : State) (o : Origin) (k : NodeKey) (s : AbsState) (b1 b2 : ℕ) → m.device ≡ device
-    → AreWords (image device ws) → InFrameIn followed (reads_masks device A) m o k s → b1 < 256 → b2 < 256
-    → CoversStep (task_with (image device ws) A) m o k b1 b2 (instruction_at (image device ws) m.pc) (raw (task_with (image device ws) A) k s)
+    → AreWords (image_of device ws) → InFrameIn followed (reads_masks device A) m o k s → b1 < 256 → b2 < 256
+    → CoversStep (task_with (image_of device ws) A) m o k b1 b2 (instruction_at (image_of device ws) m.pc) (raw (task_with (image_of device ws) A) k s)
 covered_on {followed = followed} device ws A m o k s b1 b2 told =
     subst
-    (λ (d : Device). AreWords (image d ws) → InFrameIn followed (reads_masks d A) m o k s → b1 < 256 → b2 < 256
-    → CoversStep (task_with (image d ws) A) m o k b1 b2 (instruction_at (image d ws) m.pc) (raw (task_with (image d ws) A) k s))
+    (λ (d : Device). AreWords (image_of d ws) → InFrameIn followed (reads_masks d A) m o k s → b1 < 256 → b2 < 256
+    → CoversStep (task_with (image_of d ws) A) m o k b1 b2 (instruction_at (image_of d ws) m.pc) (raw (task_with (image_of d ws) A) k s))
     told (λ are at small other. covered ws A m o k s (bare_frame m o k s (masked m.device A) at) b1 b2 small other are)
 
 pub local_parts_cover : LocalPartsCover

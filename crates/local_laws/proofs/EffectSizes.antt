@@ -2,7 +2,7 @@
 use Rattle.std.proofs.Common.{ℕ, ◌+◌, ◌-◌, ◌*◌, ◌/◌, ◌%◌, ◌<◌, ◌==◌, Bool, true, false, not, nat_lt, nat_le, if◌then◌else◌, List, [], ◌++◌, slice_index, arith}
 use Rattle.abs_alu.proofs.AllLaws.{logic_small, result_small, top_small}
 use Rattle.avr_model.proofs.AllLaws.{devices_are_alike}
-use Rattle.avr_model.specs.Devices.{Program, words_of, device_of, back_of, wrapped}
+use Rattle.avr_model.specs.Devices.{Image, words_of, device_of, back_of, wrapped}
 use Rattle.avr_model.specs.declared.effect.Write.{Write}
 use Rattle.avr_model.specs.declared.instruction.Instr.{Instr}
 use Rattle.avr_model.specs.declared.instruction.Instr.TheVariants as i
@@ -50,18 +50,18 @@ wide_flags_small : (up : Bool) (a k s : ℕ) → s < 256 → flags_of_wide up a 
 wide_flags_small true a k s h = with_flags_small _ _ _ _ _ s h
 wide_flags_small false a k s h = with_flags_small _ _ _ _ _ s h
 
-pub byte_at_small : (words : Program) (z : ℕ) → AreWords words → byte_at words.words z < 256
-byte_at_small words z h = here (z % 2 == 0)
+pub byte_at_small : (image : Image) (z : ℕ) → AreWords image → byte_at image.words z < 256
+byte_at_small image z h = here (z % 2 == 0)
   where
-    here : (b : Bool) → (if b then slice_index words.words (z / 2) % 256 else slice_index words.words (z / 2) / 256) < 256
+    here : (b : Bool) → (if b then slice_index image.words (z / 2) % 256 else slice_index image.words (z / 2) / 256) < 256
     here true = omega arith
-    here false = omega (arith, below_in_list 65536 words.words (z / 2) (omega arith) h)
+    here false = omega (arith, below_in_list 65536 image.words (z / 2) (omega arith) h)
 
-pub flash_small : (words : Program) (z input : ℕ) → AreWords words → input < 256 → flash_read words z input < 256
-flash_small words z input h small = here (nat_lt z (2 * words_of (device_of words)))
+pub flash_small : (image : Image) (z input : ℕ) → AreWords image → input < 256 → flash_read image z input < 256
+flash_small image z input h small = here (nat_lt z (2 * words_of (device_of image)))
   where
-    here : (b : Bool) → (if b then byte_at words.words z else input) < 256
-    here true = byte_at_small words z h
+    here : (b : Bool) → (if b then byte_at image.words z else input) < 256
+    here true = byte_at_small image z h
     here false = small
 
 one_write : (r b : ℕ) → b < 256 → AreByteWrites (set r b)
@@ -129,19 +129,19 @@ module _ (m : State) (h : IsMachine m) where
   multiplies : (op : Mul) (a b : ℕ) → a < 256 → b < 256 → IsEffect m.device (setting m (set_pair 0 (result_of op a b)) (flags_of_product op a b m.sreg))
   multiplies op a b small_a small_b = sets _ _ (pair_writes 0 _ (result_small op a b small_a small_b)) (with_carry_and_zero_small _ _ m.sreg h.sreg_byte)
 
-  binary_fits : (words : Program) (op : BinaryOp) (d r : ℕ) → IsEffect m.device (binary_effect words m op d r)
-  binary_fits words binary.Cpc d r = sets [] _ tt (with_flags_small _ _ _ _ _ m.sreg h.sreg_byte)
-  binary_fits words binary.Sbc d r = sets _ _ (one_write d _ (omega arith)) (with_flags_small _ _ _ _ _ m.sreg h.sreg_byte)
-  binary_fits words binary.Add d r = sets _ _ (one_write d _ (omega arith)) (with_flags_small _ _ _ _ _ m.sreg h.sreg_byte)
-  binary_fits words binary.Cpse d r = goes _
-  binary_fits words binary.Cp d r = sets [] _ tt (with_flags_small _ _ _ _ _ m.sreg h.sreg_byte)
-  binary_fits words binary.Sub d r = sets _ _ (one_write d _ (omega arith)) (with_flags_small _ _ _ _ _ m.sreg h.sreg_byte)
-  binary_fits words binary.Adc d r = sets _ _ (one_write d _ (omega arith)) (with_flags_small _ _ _ _ _ m.sreg h.sreg_byte)
-  binary_fits words binary.And d r = logic_fits logic.And d (register m d) (register m r) (byte d) (byte r)
-  binary_fits words binary.Eor d r = logic_fits logic.Eor d (register m d) (register m r) (byte d) (byte r)
-  binary_fits words binary.Or d r = logic_fits logic.Or d (register m d) (register m r) (byte d) (byte r)
-  binary_fits words binary.Mov d r = sets _ _ (one_write d _ (byte r)) h.sreg_byte
-  binary_fits words binary.Mul d r = multiplies product.Mul (register m d) (register m r) (byte d) (byte r)
+  binary_fits : (image : Image) (op : BinaryOp) (d r : ℕ) → IsEffect m.device (binary_effect image m op d r)
+  binary_fits image binary.Cpc d r = sets [] _ tt (with_flags_small _ _ _ _ _ m.sreg h.sreg_byte)
+  binary_fits image binary.Sbc d r = sets _ _ (one_write d _ (omega arith)) (with_flags_small _ _ _ _ _ m.sreg h.sreg_byte)
+  binary_fits image binary.Add d r = sets _ _ (one_write d _ (omega arith)) (with_flags_small _ _ _ _ _ m.sreg h.sreg_byte)
+  binary_fits image binary.Cpse d r = goes _
+  binary_fits image binary.Cp d r = sets [] _ tt (with_flags_small _ _ _ _ _ m.sreg h.sreg_byte)
+  binary_fits image binary.Sub d r = sets _ _ (one_write d _ (omega arith)) (with_flags_small _ _ _ _ _ m.sreg h.sreg_byte)
+  binary_fits image binary.Adc d r = sets _ _ (one_write d _ (omega arith)) (with_flags_small _ _ _ _ _ m.sreg h.sreg_byte)
+  binary_fits image binary.And d r = logic_fits logic.And d (register m d) (register m r) (byte d) (byte r)
+  binary_fits image binary.Eor d r = logic_fits logic.Eor d (register m d) (register m r) (byte d) (byte r)
+  binary_fits image binary.Or d r = logic_fits logic.Or d (register m d) (register m r) (byte d) (byte r)
+  binary_fits image binary.Mov d r = sets _ _ (one_write d _ (byte r)) h.sreg_byte
+  binary_fits image binary.Mul d r = multiplies product.Mul (register m d) (register m r) (byte d) (byte r)
 
   immediate_fits : (op : ImmediateOp) (d n : ℕ) → n < 256 → IsEffect m.device (immediate_effect m op d n)
   immediate_fits immediate.Cpi d n small = sets [] _ tt (with_flags_small _ _ _ _ _ m.sreg h.sreg_byte)
@@ -165,9 +165,9 @@ module _ (m : State) (h : IsMachine m) where
   branches true k = goes _
   branches false k = goes _
 
-  module _ (words : Program) (are : AreWords words) (still : Bool) (b1 b2 : ℕ) (small1 : b1 < 256) (small2 : b2 < 256) where
+  module _ (image : Image) (are : AreWords image) (still : Bool) (b1 b2 : ℕ) (small1 : b1 < 256) (small2 : b2 < 256) where
     -- the effect of every row is in range
-    pub row_fits : (instr : Instr) → IsInstrSized instr → IsEffect m.device (effect_of words still m instr b1 b2)
+    pub row_fits : (instr : Instr) → IsInstrSized instr → IsEffect m.device (effect_of image still m instr b1 b2)
     row_fits i.Nop sized = goes _
     row_fits (i.Movw d r) sized = sets _ _ (pair_writes (2 * d) (pair m (2 * r)) (omega (arith, byte (2 * r), byte (2 * r + 1)))) h.sreg_byte
     row_fits (i.Muls d r) sized = multiplies product.Muls (register m d) (register m r) (byte d) (byte r)
@@ -175,14 +175,14 @@ module _ (m : State) (h : IsMachine m) where
     row_fits (i.Fmul d r) sized = multiplies product.Fmul (register m d) (register m r) (byte d) (byte r)
     row_fits (i.Fmuls d r) sized = multiplies product.Fmuls (register m d) (register m r) (byte d) (byte r)
     row_fits (i.Fmulsu d r) sized = multiplies product.Fmulsu (register m d) (register m r) (byte d) (byte r)
-    row_fits (i.Binary op d r) sized = binary_fits words op d r
+    row_fits (i.Binary op d r) sized = binary_fits image op d r
     row_fits (i.Immediate op d n) sized = immediate_fits op d n sized
     row_fits (i.Ldd d b q) sized = sets _ _ (one_write d _ (read_small m still _ b1 h small1)) h.sreg_byte
     row_fits (i.Std b q r) sized = stores_byte _ _ (byte r)
     row_fits (i.Lds d a) sized = record { pc = inside _; registers = (read_small m still a b1 h small1, tt); sreg = h.sreg_byte; sp = h.sp_fits; enables = h.enable_bits; stores = tt; pushes = tt }
     row_fits (i.Ld d p) sized = sets _ _ (moved_and_one p _ d _ (read_small m still _ b1 h small1)) h.sreg_byte
-    row_fits (i.LpmZ d) sized = sets _ _ (one_write d _ (flash_small words (pair m 30) b1 are small1)) h.sreg_byte
-    row_fits (i.LpmZPlus d) sized = sets _ _ (and_one 30 (plus16 (pair m 30) 1) d _ (omega arith) (flash_small words (pair m 30) b1 are small1)) h.sreg_byte
+    row_fits (i.LpmZ d) sized = sets _ _ (one_write d _ (flash_small image (pair m 30) b1 are small1)) h.sreg_byte
+    row_fits (i.LpmZPlus d) sized = sets _ _ (and_one 30 (plus16 (pair m 30) 1) d _ (omega arith) (flash_small image (pair m 30) b1 are small1)) h.sreg_byte
     row_fits (i.ElpmZ d) sized = sets _ _ (one_write d _ small1) h.sreg_byte
     row_fits (i.ElpmZPlus d) sized = sets _ _ (and_one 30 (plus16 (pair m 30) 1) d _ (omega arith) small1) h.sreg_byte
     row_fits i.Elpm sized = sets _ _ (one_write 0 _ small1) h.sreg_byte
@@ -200,7 +200,7 @@ module _ (m : State) (h : IsMachine m) where
     row_fits i.Sleep sized = goes _
     row_fits i.Break sized = goes _
     row_fits i.Wdr sized = goes _
-    row_fits i.Lpm sized = sets _ _ (one_write 0 _ (flash_small words (pair m 30) b1 are small1)) h.sreg_byte
+    row_fits i.Lpm sized = sets _ _ (one_write 0 _ (flash_small image (pair m 30) b1 are small1)) h.sreg_byte
     row_fits (i.Jmp t) sized = goes t
     row_fits (i.Call t) sized = calls t _
     row_fits (i.Adiw d n) sized = sets _ _ (pair_writes (2 * d) _ (wide_small true (pair m (2 * d)) n)) (wide_flags_small true (pair m (2 * d)) n m.sreg h.sreg_byte)

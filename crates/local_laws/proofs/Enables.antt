@@ -10,22 +10,22 @@ use Rattle.std.specs.Option.{option_map}
 use Rattle.basics.specs.Numbers.{at_most_from_test}
 use Rattle.avr_model.proofs.AllLaws.{devices_are_alike, places_are_apart}
 use Rattle.avr_model.specs.declared.device.Device.{Device}
-use Rattle.avr_model.specs.declared.rows.Place.{Place}
+use Rattle.avr_model.specs.declared.rows.EnablePlace.{EnablePlace}
 use Rattle.avr_model.specs.Bits.{with_bit}
 use Rattle.avr_model.specs.Devices.{io_end, has_sph}
 use Rattle.avr_model.specs.Sreg.{flag}
 use Rattle.avr_model.specs.State.{State, SPL, SREG, is_sph, read}
 use Rattle.avr_model.specs.Step.{enables_taken}
-use Rattle.avr_model.specs.Vectors.{last_vector, enable_count, places, covers, is_bit, is_vector, is_core, is_enabled, held_of, has_enables, written_enables, io_bit, io_byte, kept_byte}
+use Rattle.avr_model.specs.Vectors.{last_vector, enable_count, enable_places, covers, is_bit, is_vector, is_core, is_enabled, held_of, has_enables, written_enables, io_bit, io_byte, kept_byte}
 use Rattle.vector_table.proofs.AllLaws.{enables_are_vectors, numbers_are_their_bits}
 use Rattle.bit_domain.specs.Tri.{Permits, tri_bit}
 use Rattle.bit_domain.proofs.AllLaws.{permits-tri_bit}
 use Rattle.abs_state.specs.declared.values.AbsByte.{AbsByte}
 use Rattle.abs_state.specs.declared.state.AbsState.{AbsState}
-use Rattle.mask_states.specs.declared.keys.NodeKey.{NodeKey}
-use Rattle.mask_states.specs.Place.{EnablesAre}
-use Rattle.mask_states.specs.Wakes.{without}
-use Rattle.mask_states.proofs.AllLaws.{enables_stay_among}
+use Rattle.node_keys.specs.declared.keys.NodeKey.{NodeKey}
+use Rattle.node_keys.specs.Place.{EnablesAre}
+use Rattle.node_keys.specs.Wakes.{without}
+use Rattle.node_keys.proofs.AllLaws.{enables_stay_among}
 use Rattle.local_rules.specs.Reads.{loosened, enable_read}
 use Rattle.local_rules.specs.Writes.{masks_written, written_at}
 use Rattle.local_laws.proofs.Machine.{io_value, free_bit, free_small}
@@ -70,12 +70,12 @@ loosened_permits zero bit small le = omega (arith, le)
 loosened_permits (suc zero) bit small le = tt
 loosened_permits (suc (suc n)) bit small le = absurd (omega (arith, small))
 
-pub bit_permits : (may : Bool) (enables masks k : ℕ) → k < 64 → EnablesAre may enables masks → Permits (enable_read may (bit_at masks k)) (bit_at enables k)
+pub bit_permits : (may : Bool) (enables masks k : ℕ) → k < 128 → EnablesAre may enables masks → Permits (enable_read may (bit_at masks k)) (bit_at enables k)
 bit_permits false enables masks k lt h = subst (λ x. Permits (tri_bit (bit_at x k)) (bit_at enables k)) h (permits-tri_bit (bit_at enables k) (bit_at-lt enables k))
 bit_permits true enables masks k lt h = loosened_permits (bit_at masks k) (bit_at enables k) (bit_at-lt masks k) (h k lt)
 
--- a vector's enable bit is one of 64
-pub vector_small : (device : Device) (v : ℕ) → is_vector device v ≡ true → v - 2 < 64
+-- a vector's enable bit is one of 128
+pub vector_small : (device : Device) (v : ℕ) → is_vector device v ≡ true → v - 2 < 128
 vector_small device v h =
     let le : v ≤ last_vector device = at_most_from_test v (last_vector device) (and_parts (nat_le 2 v) (nat_le v (last_vector device)) h).1 in
     omega (arith, le, devices_are_alike.most_vectors device)
@@ -87,16 +87,16 @@ abbrev pub IsIo : Device → ℕ → Type 0
 IsIo device a = (nat_lt a 0x20 ≡ false) × (((a == SPL) ≡ false) × ((is_sph device a ≡ false) × (((a == SREG) ≡ false) × (nat_le a (io_end device) ≡ true))))
 
 -- a place is in I/O, at no core address, and its mask is a byte
-abbrev IsInIo : Device → Place → Type 0
+abbrev IsInIo : Device → EnablePlace → Type 0
 IsInIo device p = (is_vector device p.vector ≡ true) × ((is_core device p.address ≡ false) × ((p.address ≤ io_end device) × (p.mask < 256)))
 
 -- no place of the list is at a core address, or behind I/O
-places_in : (device : Device) (ps : List Place) (a : ℕ) → All (IsInIo device) ps → list_any (λ (p : Place). p.address == a) ps ≡ true → (is_core device a ≡ false) × (a ≤ io_end device)
+places_in : (device : Device) (ps : List EnablePlace) (a : ℕ) → All (IsInIo device) ps → list_any (λ (p : EnablePlace). p.address == a) ps ≡ true → (is_core device a ≡ false) × (a ≤ io_end device)
 places_in device [] a all h = absurd (cc)
 places_in device (p ∷ ps) a all h = by (p.address == a) refl (places_in device ps a (All-tail (IsInIo device) p ps all)) h
   where
-    by : (b : Bool) → (p.address == a) ≡ b → (list_any (λ (q : Place). q.address == a) ps ≡ true → (is_core device a ≡ false) × (a ≤ io_end device))
-        → (b || list_any (λ (q : Place). q.address == a) ps) ≡ true → (is_core device a ≡ false) × (a ≤ io_end device)
+    by : (b : Bool) → (p.address == a) ≡ b → (list_any (λ (q : EnablePlace). q.address == a) ps ≡ true → (is_core device a ≡ false) × (a ≤ io_end device))
+        → (b || list_any (λ (q : EnablePlace). q.address == a) ps) ≡ true → (is_core device a ≡ false) × (a ≤ io_end device)
     by true e rest found =
         let is : p.address ≡ a = eqb-true p.address a e in
         let here = All-head (IsInIo device) p ps all in
@@ -118,7 +118,7 @@ outside_core device a h =
 pub held_in_io : (device : Device) (a : ℕ) → has_enables device a ≡ true → IsIo device a
 unfolding has_enables
 held_in_io device a h =
-    let here = places_in device (places device) a (places_are_apart.each device) h in
+    let here = places_in device (enable_places device) a (places_are_apart.each device) h in
     let outside = outside_core device a here.0 in
     let inside : nat_le a (io_end device) ≡ true = grind (arith, nat_tests, here.1) in
     (outside.0, (outside.1.0, (outside.1.1.0, (outside.1.1.1, inside))))
@@ -173,14 +173,14 @@ some_held device a b v e = by (has_enables device a) refl
     by false is = absurd (let none = sym (enables_are_vectors.no_held device a b is) ∙ e in cc)
 
 -- a held bit is one of eight
-held_small : (device : Device) (ps : List Place) (a b v : ℕ) → All (IsInIo device) ps
-    → option_map (λ (p : Place). p.vector) (find (λ (p : Place). covers a b p && is_bit p.enable) ps) ≡ Some v → b < 8
+held_small : (device : Device) (ps : List EnablePlace) (a b v : ℕ) → All (IsInIo device) ps
+    → option_map (λ (p : EnablePlace). p.vector) (find (λ (p : EnablePlace). covers a b p && is_bit p.enable) ps) ≡ Some v → b < 8
 held_small device [] a b v all e = absurd (cc)
 held_small device (p ∷ ps) a b v all e = by (covers a b p && is_bit p.enable) refl (held_small device ps a b v (All-tail (IsInIo device) p ps all)) e
   where
     by : (c : Bool) → (covers a b p && is_bit p.enable) ≡ c
-        → (option_map (λ (q : Place). q.vector) (find (λ (q : Place). covers a b q && is_bit q.enable) ps) ≡ Some v → b < 8)
-        → option_map (λ (q : Place). q.vector) (if c then Some p else find (λ (q : Place). covers a b q && is_bit q.enable) ps) ≡ Some v → b < 8
+        → (option_map (λ (q : EnablePlace). q.vector) (find (λ (q : EnablePlace). covers a b q && is_bit q.enable) ps) ≡ Some v → b < 8)
+        → option_map (λ (q : EnablePlace). q.vector) (if c then Some p else find (λ (q : EnablePlace). covers a b q && is_bit q.enable) ps) ≡ Some v → b < 8
     by true is rest found =
         let bit = (and_parts (p.address == a) (bit_at p.mask b == 1) (and_parts (covers a b p) (is_bit p.enable) is).0).1 in
         ⊎_elim (λ lt. lt)
@@ -190,7 +190,7 @@ held_small device (p ∷ ps) a b v all e = by (covers a b p && is_bit p.enable) 
 
 held_at : (device : Device) (a b v : ℕ) → held_of device a b ≡ Some v → b < 8
 unfolding held_of
-held_at device a b v e = held_small device (places device) a b v (places_are_apart.each device) e
+held_at device a b v e = held_small device (enable_places device) a b v (places_are_apart.each device) e
 
 -- an enable bit that reads 0 is clear
 zero_held : (still : Bool) (m : State) (a b v input : ℕ) → held_of m.device a b ≡ Some v → flag (read still m a input) b ≡ false → bit_at m.enables (v - 2) ≡ 0

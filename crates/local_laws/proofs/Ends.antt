@@ -17,14 +17,14 @@ use Rattle.avr_model.specs.Written.{written}
 use Rattle.avr_model.specs.State.{State}
 use Rattle.avr_model.specs.Effects.{effect_of, binary_effect, immediate_effect, unary_effect}
 use Rattle.avr_model.specs.Step.{with_registers}
-use Rattle.avr_model.specs.Devices.{Program}
+use Rattle.avr_model.specs.Devices.{Image}
 use Rattle.avr_decode.proofs.AllLaws.{registers_are_written}
 use Rattle.sp_domain.specs.Tags.{Origin}
 use Rattle.abs_state.specs.declared.state.AbsState.{AbsState}
 use Rattle.abs_state.specs.Laws.{HoldsAt}
 use Rattle.abs_state.specs.Ended.{is_one_of}
 use Rattle.abs_state.proofs.AllLaws.{writes_end_facts}
-use Rattle.mask_states.specs.declared.keys.NodeKey.{NodeKey}
+use Rattle.node_keys.specs.declared.keys.NodeKey.{NodeKey}
 use Rattle.abs_state.specs.FlagsSet.{sets_by_binary, sets_by_immediate, sets_by_unary, sets_flags, carries_by_binary, carries_by_immediate, carries_by_unary, sets_carry}
 use Rattle.local_rules.specs.Registers.{before}
 use Rattle.local_laws.proofs.Bare.{InBareFrame}
@@ -48,8 +48,8 @@ seven s n lt e same = let is : s ≡ 7 = grind (arith, nat_tests) in omega (arit
 abbrev KeepsFlags : ℕ → ℕ → Type 0
 KeepsFlags old new = (flag new 0 ≡ flag old 0) × (flag new 1 ≡ flag old 1) × (flag new 4 ≡ flag old 4)
 
-module _ (words : Program) (still : Bool) (m : State) (b1 b2 : ℕ) where
-  binary_carry : (op : BinaryOp) (d r : ℕ) → carries_by_binary op ≡ false → flag (binary_effect words m op d r).sreg 0 ≡ flag m.sreg 0
+module _ (image : Image) (still : Bool) (m : State) (b1 b2 : ℕ) where
+  binary_carry : (op : BinaryOp) (d r : ℕ) → carries_by_binary op ≡ false → flag (binary_effect image m op d r).sreg 0 ≡ flag m.sreg 0
   binary_carry binary.Cpc d r e = absurd (cc)
   binary_carry binary.Sbc d r e = absurd (cc)
   binary_carry binary.Add d r e = absurd (cc)
@@ -81,7 +81,7 @@ module _ (words : Program) (still : Bool) (m : State) (b1 b2 : ℕ) where
   unary_carry unary.Ror d e = absurd (cc)
   unary_carry unary.Dec d e = result_carry _ _ _ m.sreg
 
-  carry_kept : (instr : Instr) → sets_carry instr ≡ false → flag (effect_of words still m instr b1 b2).sreg 0 ≡ flag m.sreg 0
+  carry_kept : (instr : Instr) → sets_carry instr ≡ false → flag (effect_of image still m instr b1 b2).sreg 0 ≡ flag m.sreg 0
   carry_kept (i.Muls d r) e = absurd (cc)
   carry_kept (i.Mulsu d r) e = absurd (cc)
   carry_kept (i.Fmul d r) e = absurd (cc)
@@ -98,7 +98,7 @@ module _ (words : Program) (still : Bool) (m : State) (b1 b2 : ℕ) where
   carry_kept i.Reti e = with_bit_other m.sreg 7 true 0 (omega arith) (λ same. omega arith)
   carry_kept instr e = refl
 
-  binary_flags : (op : BinaryOp) (d r : ℕ) → sets_by_binary op ≡ false → KeepsFlags m.sreg (binary_effect words m op d r).sreg
+  binary_flags : (op : BinaryOp) (d r : ℕ) → sets_by_binary op ≡ false → KeepsFlags m.sreg (binary_effect image m op d r).sreg
   binary_flags binary.Cpc d r e = absurd (cc)
   binary_flags binary.Sbc d r e = absurd (cc)
   binary_flags binary.Add d r e = absurd (cc)
@@ -134,7 +134,7 @@ module _ (words : Program) (still : Bool) (m : State) (b1 b2 : ℕ) where
   bit_flags s on e =
       (with_bit_other m.sreg s on 0 (omega arith) (seven s 0 (omega arith) e), with_bit_other m.sreg s on 1 (omega arith) (seven s 1 (omega arith) e), with_bit_other m.sreg s on 4 (omega arith) (seven s 4 (omega arith) e))
 
-  flags_kept : (instr : Instr) → sets_flags instr ≡ false → KeepsFlags m.sreg (effect_of words still m instr b1 b2).sreg
+  flags_kept : (instr : Instr) → sets_flags instr ≡ false → KeepsFlags m.sreg (effect_of image still m instr b1 b2).sreg
   flags_kept (i.Muls d r) e = absurd (cc)
   flags_kept (i.Mulsu d r) e = absurd (cc)
   flags_kept (i.Fmul d r) e = absurd (cc)
@@ -159,14 +159,14 @@ not_among (n ∷ ns) r e h =
     let parts = or_parts (n == r) (is_one_of ns r) e in
     ⊎_elim (λ same. let hit : (n == r) ≡ true = eq-eqb n r (sym same) in absurd (let no = sym hit ∙ parts.0 in cc)) (λ more. not_among ns r parts.1 more) (first_or_further n r ns h)
 
-pub held : {may : Bool} (words : Program) (still : Bool) (m : State) (o : Origin) (k : NodeKey) (s : AbsState) (b1 b2 : ℕ) (instr : Instr) → AreWords words → b1 < 256 → b2 < 256 → IsInstrSized instr → InBareFrame may m o k s
-    → HoldsAt (before instr s).facts (with_registers m.registers (effect_of words still m instr b1 b2).registers) (effect_of words still m instr b1 b2).sreg
-held words still m o k s b1 b2 instr are small1 small2 sized at =
-    let e = effect_of words still m instr b1 b2 in
-    let fits = row_fits m at.machine words are still b1 b2 small1 small2 instr sized in
+pub held : {may : Bool} (image : Image) (still : Bool) (m : State) (o : Origin) (k : NodeKey) (s : AbsState) (b1 b2 : ℕ) (instr : Instr) → AreWords image → b1 < 256 → b2 < 256 → IsInstrSized instr → InBareFrame may m o k s
+    → HoldsAt (before instr s).facts (with_registers m.registers (effect_of image still m instr b1 b2).registers) (effect_of image still m instr b1 b2).sreg
+held image still m o k s b1 b2 instr are small1 small2 sized at =
+    let e = effect_of image still m instr b1 b2 in
+    let fits = row_fits m at.machine image are still b1 b2 small1 small2 instr sized in
     let bytes = with_stay e.registers m.registers fits.registers (record { count = at.machine.count_registers; each = at.machine.register_bytes }) in
     writes_end_facts.holds (is_one_of (written instr)) (sets_flags instr) (sets_carry instr) s.facts m.registers (with_registers m.registers e.registers) m.sreg e.sreg
     (record {
-      kept = λ r other. registers_are_written.others_stay words still m instr b1 b2 r (not_among (written instr) r other);
+      kept = λ r other. registers_are_written.others_stay image still m instr b1 b2 r (not_among (written instr) r other);
       bytes = λ r lt. byte_in_list (with_registers m.registers e.registers) r bytes.each;
-    }) (record { carry_kept = carry_kept words still m b1 b2 instr; others_kept = flags_kept words still m b1 b2 instr }) at.facts
+    }) (record { carry_kept = carry_kept image still m b1 b2 instr; others_kept = flags_kept image still m b1 b2 instr }) at.facts

@@ -19,20 +19,19 @@ use Rattle.avr_model.specs.Masks.{reads_masks}
 use Rattle.avr_model.specs.Text.{far, near}
 use Rattle.avr_model.specs.Sites.{is_scratch, base_register, pointer_register, instruction_at}
 use Rattle.avr_model.specs.Effects.{port}
-use Rattle.bit_domain.specs.declared.bytes.TriByte.{TriByte}
-use Rattle.bit_domain.specs.TriByte.{tri_at}
+use Rattle.bit_domain.specs.TriByte.{tri_at, byte_known}
 use Rattle.bit_domain.specs.Tri.{tri_not}
 use Rattle.bit_domain.specs.Logic.{byte_equal}
-use Rattle.bit_domain.specs.Numbers.{pointer_bit, targets_of}
+use Rattle.bit_domain.specs.Numbers.{PointerBits, pointer_bit, targets_of}
 use Rattle.bit_domain.proofs.AllLaws.{numbers_are_permitted}
 use Rattle.vector_table.specs.Entries.{AreEntries}
 use Rattle.abs_state.specs.declared.state.AbsState.{AbsState}
-use Rattle.mask_states.specs.declared.keys.NodeKey.{NodeKey}
-use Rattle.mask_states.specs.Keys.{offset_of}
-use Rattle.mask_states.specs.declared.keys.Kind.{Kind}
-use Rattle.mask_states.specs.declared.keys.Kind.TheVariants.{Root, Call, Vector}
-use Rattle.mask_states.specs.declared.keys.SpForm.{SpForm}
-use Rattle.mask_states.specs.declared.keys.SpForm.TheVariants.{Closed, Open}
+use Rattle.node_keys.specs.declared.keys.NodeKey.{NodeKey}
+use Rattle.node_keys.specs.Keys.{offset_of}
+use Rattle.node_keys.specs.declared.keys.Kind.{Kind}
+use Rattle.node_keys.specs.declared.keys.Kind.TheVariants.{Root, Call, Vector}
+use Rattle.node_keys.specs.declared.keys.SpForm.{SpForm}
+use Rattle.node_keys.specs.declared.keys.SpForm.TheVariants.{Closed, Open}
 use Rattle.local_rules.specs.declared.local.CallSite.{CallSite}
 use Rattle.local_rules.specs.declared.local.Exit.{Exit}
 use Rattle.local_rules.specs.Raw.{enters, fails, next, at_word, further, leaves_by, Raw, untracked_if, too_deep_if}
@@ -41,7 +40,7 @@ use Rattle.local_rules.specs.Registers.{before, bits, value}
 use Rattle.local_rules.specs.FrameLines.{binary_at}
 use Rattle.local_rules.specs.HighBytes.{view_by}
 use Rattle.local_rules.specs.Reads.{read_at, pointed, read_pointed}
-use Rattle.local_rules.specs.Flow.{reading_zero, flag_at, words_on, targets_by, targets_at, is_half_written, site, calling, indirect_call, relative_call, at_closed, returning, ret_exit, reti_exit, pushing, popping, making_room}
+use Rattle.local_rules.specs.Flow.{reading_zero, flag_at, words_on, targets_by, z_with, targets_at, is_half_written, site, calling, indirect_call, relative_call, at_closed, returning, ret_exit, reti_exit, pushing, popping, making_room}
 use Rattle.local_rules.specs.Local.{step_before, pointer_moved, row_of, row_at, row_by, paired_row, paired_binary, refining, storing, row_in, is_hung, fetched, picks, split_site, splitting, raw}
 use Rattle.local_laws.proofs.Members.{each_of, each_in_map, filter_passes}
 use Rattle.local_laws.specs.Laws.{LocalPartsFit}
@@ -56,15 +55,15 @@ use Rattle.pair_cuts.specs.Cuts.{equal_cut}
 
 -- ---- the targets of indirect calls are words
 
-targets_small : (device : Device) (line : Option (List ℕ)) (lo hi : TriByte) (targets : List ℕ) → ((z : ℕ) → Contains (words_on device lo hi) z → z < words_of device)
-    → targets_by device line lo hi ≡ Some targets → (z : ℕ) → Contains targets z → z < words_of device
-targets_small device None lo hi targets small e z h = by (nat_le (length (targets_of (limit_width device) lo hi)) 64) e
+targets_small : (device : Device) (line : Option (List ℕ)) (p : PointerBits) (targets : List ℕ) → ((z : ℕ) → Contains (words_on device p) z → z < words_of device)
+    → targets_by device line p ≡ Some targets → (z : ℕ) → Contains targets z → z < words_of device
+targets_small device None p targets small e z h = by (nat_le (length (targets_of (limit_width device) p)) 64) e
   where
-    by : (b : Bool) → (if b then Some (words_on device lo hi) else None) ≡ Some targets → z < words_of device
-    by true e = let is : words_on device lo hi ≡ targets = cc in small z (subst (λ (l : List ℕ). Contains l z) (sym is) h)
+    by : (b : Bool) → (if b then Some (words_on device p) else None) ≡ Some targets → z < words_of device
+    by true e = let is : words_on device p ≡ targets = cc in small z (subst (λ (l : List ℕ). Contains l z) (sym is) h)
     by false e = absurd (cc)
-targets_small device (Some listed) lo hi targets small e z h =
-    let all = words_on device lo hi in
+targets_small device (Some listed) p targets small e z h =
+    let all = words_on device p in
     let is : filter (lists all) listed ≡ targets = cc in
     let passes = filter_passes (lists all) listed z (subst (λ (l : List ℕ). Contains l z) (sym is) h) in
     small z (Contains-from_any {eq = λ (a b : ℕ). b == a} (λ a b is. grind (arith, nat_tests)) z all passes)
@@ -127,10 +126,11 @@ return_fits device A k x masks = at k.sp refl
 module _ (device : Device) (task : Task) (k : NodeKey) (s : AbsState) where
   all_words : (targets : List ℕ) → targets_at task.assumptions (site_at device k s) ≡ Some targets → AreTargetWords device task.assumptions targets
   all_words targets e =
-      let f = pointer_bit (bits s 30) (bits s 31) in
+      let p = z_with s (byte_known 0) in
+      let f = pointer_bit p in
       record {
-        small = targets_small device (jump_line task.assumptions k.pc) (bits s 30) (bits s 31) targets (λ z h. ((numbers_are_permitted.members f (width device) z).0 h).small) e;
-        ascending = λ entries. site_targets_ascend device task.assumptions k.pc (bits s 30) (bits s 31) targets entries (numbers_are_permitted.ascending f (width device)) e;
+        small = targets_small device (jump_line task.assumptions k.pc) p targets (λ z h. ((numbers_are_permitted.members f (width device) z).0 h).small) e;
+        ascending = λ entries. site_targets_ascend device task.assumptions k.pc p targets entries (numbers_are_permitted.ascending f (width device)) e;
       }
 
   row_fits : (scratch : Bool) (instr : Instr) → InstrFits instr → IsFit device task.assumptions k (row_of task scratch (site_at device k s) instr)

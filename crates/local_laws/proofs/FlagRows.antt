@@ -14,7 +14,7 @@ use Rattle.sp_domain.specs.Tags.{Origin, CarryHolds, LessHolds}
 use Rattle.abs_state.specs.declared.state.AbsState.{AbsState}
 use Rattle.abs_state.specs.Values.{untagged}
 use Rattle.abs_state.specs.Stands.{FlagsStand}
-use Rattle.mask_states.specs.declared.keys.NodeKey.{NodeKey}
+use Rattle.node_keys.specs.declared.keys.NodeKey.{NodeKey}
 use Rattle.local_rules.specs.Raw.{next, setting as node_setting}
 use Rattle.local_rules.specs.Registers.{bits, set as node_set, with_carry, interrupts_row, tri_of_bool, carry_tag_at, flag_row}
 use Rattle.local_laws.proofs.Bare.{InBareFrame}

@@ -1,5 +1,5 @@
 -- Branches, skips, jumps, calls and returns.
-use Rattle.std.proofs.Common.{◌≡◌, refl, sym, ◌∙◌, ap, ap₂, subst, ℕ, zero, suc, ◌+◌, ◌==◌, Bool, true, false, not, if◌then◌else◌, List, [], ◌∷◌, Option, Some, None, slice_index, slice_set, arith, Contains}
+use Rattle.std.proofs.Common.{◌≡◌, refl, sym, ◌∙◌, ap, ap₂, subst, ℕ, zero, suc, ◌+◌, ◌*◌, ◌==◌, Bool, true, false, not, if◌then◌else◌, List, [], ◌∷◌, Option, Some, None, slice_index, slice_set, arith, Contains}
 use Rattle.std.specs.Int.{from_bool}
 use Rattle.std.proofs.lemmas.Bool.Decides.{nat_tests}
 use Rattle.avr_model.specs.declared.assumption.Entry.{Entry}
@@ -15,7 +15,9 @@ use Rattle.avr_model.specs.Step.{unless_listed}
 use Rattle.bit_domain.specs.declared.bits.Tri.{Tri}
 use Rattle.bit_domain.specs.declared.bits.Tri.TheVariants.{Zero, One, Any}
 use Rattle.bit_domain.specs.Tri.{Permits, tri_not}
-use Rattle.bit_domain.specs.TriByte.{tri_at}
+use Rattle.bit_domain.specs.TriByte.{tri_at, byte_known}
+use Rattle.bit_domain.specs.Numbers.{PointerBits}
+use Rattle.bit_domain.proofs.AllLaws.{bytes_are_sets}
 use Rattle.sp_domain.specs.declared.tags.CarryTag.{CarryTag}
 use Rattle.sp_domain.specs.declared.tags.CarryTag.TheVariants as carry_tag
 use Rattle.sp_domain.specs.Tags.{Origin, LessHolds}
@@ -23,16 +25,16 @@ use Rattle.abs_state.specs.declared.values.AbsByte.{AbsByte}
 use Rattle.abs_state.specs.Formed.{CarryNamesRegister}
 use Rattle.abs_state.specs.Stands.{RegistersStand}
 use Rattle.abs_state.specs.declared.state.AbsState.{AbsState}
-use Rattle.mask_states.specs.declared.keys.NodeKey.{NodeKey}
-use Rattle.mask_states.specs.declared.keys.Kind.{Kind}
-use Rattle.mask_states.specs.declared.keys.Kind.TheVariants.{Root, Call, Vector}
-use Rattle.mask_states.specs.declared.keys.SpForm.{SpForm}
-use Rattle.mask_states.specs.declared.keys.SpForm.TheVariants.{Closed, Open}
+use Rattle.node_keys.specs.declared.keys.NodeKey.{NodeKey}
+use Rattle.node_keys.specs.declared.keys.Kind.{Kind}
+use Rattle.node_keys.specs.declared.keys.Kind.TheVariants.{Root, Call, Vector}
+use Rattle.node_keys.specs.declared.keys.SpForm.{SpForm}
+use Rattle.node_keys.specs.declared.keys.SpForm.TheVariants.{Closed, Open}
 use Rattle.local_rules.specs.declared.local.Exit.{Exit}
 use Rattle.local_rules.specs.declared.local.Node.{Node}
 use Rattle.local_rules.specs.Raw.{Raw, moves_to, all_of, untracked_if, at_word, off_table, going_to as node_going_to, further as node_further}
-use Rattle.local_rules.specs.Registers.{value, bits, set, carry_bit}
-use Rattle.local_rules.specs.Flow.{branch, branch_by as node_branch_by, skipping as node_skipping, flag_at, with_value, where_carry, going_where, carry_branch, flag_branch, words_on, targets_by, jumping, is_half_written, at_closed, calling as node_calling, indirect_call, site, returning as node_returning, ret_exit, reti_exit}
+use Rattle.local_rules.specs.Registers.{value, set, carry_bit}
+use Rattle.local_rules.specs.Flow.{branch, branch_by as node_branch_by, skipping as node_skipping, flag_at, with_value, where_carry, going_where, carry_branch, flag_branch, words_on, targets_by, z_with, jumping, is_half_written, at_closed, calling as node_calling, indirect_call, site, returning as node_returning, ret_exit, reti_exit}
 use Rattle.local_rules.specs.Cover.{stays, calls, leaves, IsReturn}
 use Rattle.local_laws.proofs.Bare.{InBareFrame}
 use Rattle.local_laws.proofs.Landing.{ArrivesWhere, FollowsWhere}
@@ -40,7 +42,7 @@ use Rattle.local_laws.proofs.Bits.{permits_flag, with_bit_same, with_bit_7_low}
 use Rattle.std.proofs.lemmas.List.Elements.{Contains-append_left, Contains-append_right}
 use Rattle.basics.specs.Items.{first_in}
 use Rattle.avr_model.proofs.AllLaws.{devices_are_alike}
-use Rattle.avr_model.specs.Devices.{Program, wrapped}
+use Rattle.avr_model.specs.Devices.{Image, wrapped}
 use Rattle.local_laws.proofs.Less.{part_stands}
 use Rattle.local_laws.proofs.Frame.{second, set_one, only, goes_to, turns_to, goes_cut}
 use Rattle.local_laws.proofs.Alu.{register_byte, register_bits}
@@ -208,30 +210,30 @@ module _ {may : Bool} (m : State) (o : Origin) (k : NodeKey) (s : AbsState) (at 
       (brbc_by n t)
 
   -- past the next instruction with one key, and to it with the other
-  pub skip_keys : (words : Program) (test : Bool) (t : Tri) (j l : NodeKey) → j.inst ≡ k.inst → l.inst ≡ k.inst
+  pub skip_keys : (image : Image) (test : Bool) (t : Tri) (j l : NodeKey) → j.inst ≡ k.inst → l.inst ≡ k.inst
       → ((pc pc' : ℕ) → wrapped m.device pc ≡ pc' → test ≡ true → ArrivesWhere may m o s.facts guarded (going_to m pc) (record { key = off_table j pc'; state = s }))
       → ((pc pc' : ℕ) → wrapped m.device pc ≡ pc' → test ≡ false → ArrivesWhere may m o s.facts guarded (going_to m pc) (record { key = off_table l pc'; state = s }))
       → Permits t (from_bool test)
-      → FollowsWhere may m o s.facts k guarded b1 b2 (skipping words m test)
-      (node_branch_by t (off_table j (node_further m.device k (1 + length_of (word_at words (k.pc + 1))))) (off_table l (node_further m.device k 1)) s)
-  skip_keys words test t j l same same' goes goes' can =
+      → FollowsWhere may m o s.facts k guarded b1 b2 (skipping image m test)
+      (node_branch_by t (off_table j (node_further m.device k (1 + length_of (word_at image (k.pc + 1))))) (off_table l (node_further m.device k 1)) s)
+  skip_keys image test t j l same same' goes goes' can =
       by_test test
-      (branch_keys t test j l (further m (1 + length_of (word_at words (m.pc + 1)))) (node_further m.device k (1 + length_of (word_at words (k.pc + 1)))) (further m 1) (node_further m.device k 1) same same'
-      (goes _ _ (devices_are_alike.twice m.device (m.pc + (1 + length_of (word_at words (m.pc + 1)))) ∙ ap (λ pc. wrapped m.device (pc + (1 + length_of (word_at words (pc + 1))))) at.place.pc))
+      (branch_keys t test j l (further m (1 + length_of (word_at image (m.pc + 1)))) (node_further m.device k (1 + length_of (word_at image (k.pc + 1)))) (further m 1) (node_further m.device k 1) same same'
+      (goes _ _ (devices_are_alike.twice m.device (m.pc + (1 + length_of (word_at image (m.pc + 1)))) ∙ ap (λ pc. wrapped m.device (pc + (1 + length_of (word_at image (pc + 1))))) at.place.pc))
       (goes' _ _ (goes_further 1)) can)
     where
       -- the test is inside the sum
       by_test : (b : Bool)
-          → FollowsWhere may m o s.facts k guarded b1 b2 (going_to m (if b then further m (1 + length_of (word_at words (m.pc + 1))) else further m 1))
-          (node_branch_by t (off_table j (node_further m.device k (1 + length_of (word_at words (k.pc + 1))))) (off_table l (node_further m.device k 1)) s)
-          → FollowsWhere may m o s.facts k guarded b1 b2 (skipping words m b)
-          (node_branch_by t (off_table j (node_further m.device k (1 + length_of (word_at words (k.pc + 1))))) (off_table l (node_further m.device k 1)) s)
+          → FollowsWhere may m o s.facts k guarded b1 b2 (going_to m (if b then further m (1 + length_of (word_at image (m.pc + 1))) else further m 1))
+          (node_branch_by t (off_table j (node_further m.device k (1 + length_of (word_at image (k.pc + 1))))) (off_table l (node_further m.device k 1)) s)
+          → FollowsWhere may m o s.facts k guarded b1 b2 (skipping image m b)
+          (node_branch_by t (off_table j (node_further m.device k (1 + length_of (word_at image (k.pc + 1))))) (off_table l (node_further m.device k 1)) s)
       by_test true h = h
       by_test false h = h
 
-  pub skip_covered : (words : Program) (test : Bool) (t : Tri) → Permits t (from_bool test) → FollowsWhere may m o s.facts k guarded b1 b2 (skipping words m test) (node_skipping words (site_at m.device k s) k k t)
-  skip_covered words test t can =
-      skip_keys words test t k k refl refl (λ pc pc' is e. turns_to m o k s at guarded pc pc' is) (λ pc pc' is e. turns_to m o k s at guarded pc pc' is) can
+  pub skip_covered : (image : Image) (test : Bool) (t : Tri) → Permits t (from_bool test) → FollowsWhere may m o s.facts k guarded b1 b2 (skipping image m test) (node_skipping image (site_at m.device k s) k k t)
+  skip_covered image test t can =
+      skip_keys image test t k k refl refl (λ pc pc' is e. turns_to m o k s at guarded pc pc' is) (λ pc pc' is e. turns_to m o k s at guarded pc pc' is) can
 
   -- ---- indirect transfers
 
@@ -239,26 +241,32 @@ module _ {may : Bool} (m : State) (o : Origin) (k : NodeKey) (s : AbsState) (at 
   abbrev target : ℕ
   target = wrapped m.device (pair m 30)
 
-  target_has : Contains (words_on m.device (bits s 30) (bits s 31)) target
-  target_has =
-      word_permitted m.device (bits s 30) (bits s 31) (register m 30) (register m 31) (register_byte m o k s at 30) (register_byte m o k s at 31)
-      (register_bits m o k s at 30) (register_bits m o k s at 31)
+  -- what the state permits
+  abbrev permitted : PointerBits
+  permitted = z_with s (byte_known 0)
 
-  jump_by : (line : Option (List ℕ)) (found : Option (List ℕ)) → targets_by m.device line (bits s 30) (bits s 31) ≡ found → unless_listed line target ≡ None
+  target_has : Contains (words_on m.device permitted) target
+  target_has =
+      let same : pair m 30 + 65536 * 0 ≡ pair m 30 = omega arith in
+      subst (λ (z : ℕ). Contains (words_on m.device permitted) (wrapped m.device z)) same
+      (word_permitted m.device permitted (register m 30) (register m 31) 0 (register_byte m o k s at 30) (register_byte m o k s at 31)
+      (register_bits m o k s at 30) (register_bits m o k s at 31) ((bytes_are_sets.known 0 0 (omega arith) (omega arith)).1 refl))
+
+  jump_by : (line : Option (List ℕ)) (found : Option (List ℕ)) → targets_by m.device line permitted ≡ found → unless_listed line target ≡ None
       → (jumping found k s).faults ≡ [] → FollowsWhere may m o s.facts k guarded b1 b2 (going_to m (pair m 30)) (jumping found k s)
   jump_by line None e unflagged none = absurd (cc)
   jump_by line (Some targets) e unflagged none =
       record {
         leads = λ held. stays (record { key = off_table k target; state = s })
-            (in_map (λ t. record { key = off_table k t; state = s }) target targets (targets_have m.device line (bits s 30) (bits s 31) targets target e target_has unflagged))
+            (in_map (λ t. record { key = off_table k t; state = s }) target targets (targets_have m.device line permitted targets target e target_has unflagged))
             refl ((turns_to m o k s at guarded (pair m 30) target refl).lands held);
       }
 
   pub ijmp_covered : (A : List Entry) → unless_listed (jump_line A m.pc) target ≡ None
-      → (jumping (targets_by m.device (jump_line A k.pc) (bits s 30) (bits s 31)) k s).faults ≡ []
-      → FollowsWhere may m o s.facts k guarded b1 b2 (going_to m (pair m 30)) (jumping (targets_by m.device (jump_line A k.pc) (bits s 30) (bits s 31)) k s)
+      → (jumping (targets_by m.device (jump_line A k.pc) permitted) k s).faults ≡ []
+      → FollowsWhere may m o s.facts k guarded b1 b2 (going_to m (pair m 30)) (jumping (targets_by m.device (jump_line A k.pc) permitted) k s)
   ijmp_covered A unflagged none =
-      jump_by (jump_line A k.pc) (targets_by m.device (jump_line A k.pc) (bits s 30) (bits s 31)) refl
+      jump_by (jump_line A k.pc) (targets_by m.device (jump_line A k.pc) permitted) refl
       (subst (λ pc. unless_listed (jump_line A pc) target ≡ None) at.place.pc unflagged) none
 
   -- ---- calls
@@ -282,19 +290,19 @@ module _ {may : Bool} (m : State) (o : Origin) (k : NodeKey) (s : AbsState) (at 
       unless_open k.sp k.pc _ (calling m target back) none
       (λ offset form free. record { leads = λ held. calls offset (site target' back') (in_map (λ t. site t back') target' targets has) form guards (call_is target target' back back' is is') })
 
-  icall_by : (line : Option (List ℕ)) (found : Option (List ℕ)) → guarded ≡ true → targets_by m.device line (bits s 30) (bits s 31) ≡ found
+  icall_by : (line : Option (List ℕ)) (found : Option (List ℕ)) → guarded ≡ true → targets_by m.device line permitted ≡ found
       → unless_listed line target ≡ None → (indirect_call m.device found k).faults ≡ []
       → FollowsWhere may m o s.facts k guarded b1 b2 (calling m (pair m 30) (further m 1)) (indirect_call m.device found k)
   icall_by line None guards e unflagged none = unless_open k.sp k.pc _ _ none (λ offset form wrong. absurd (cc))
   icall_by line (Some targets) guards e unflagged none =
       call_covered (pair m 30) target (further m 1) (node_further m.device k 1) targets guards refl (further_is 1)
-      (targets_have m.device line (bits s 30) (bits s 31) targets target e target_has unflagged) none
+      (targets_have m.device line permitted targets target e target_has unflagged) none
 
   pub icall_covered : (A : List Entry) → guarded ≡ true → unless_listed (jump_line A m.pc) target ≡ None
-      → (indirect_call m.device (targets_by m.device (jump_line A k.pc) (bits s 30) (bits s 31)) k).faults ≡ []
-      → FollowsWhere may m o s.facts k guarded b1 b2 (calling m (pair m 30) (further m 1)) (indirect_call m.device (targets_by m.device (jump_line A k.pc) (bits s 30) (bits s 31)) k)
+      → (indirect_call m.device (targets_by m.device (jump_line A k.pc) permitted) k).faults ≡ []
+      → FollowsWhere may m o s.facts k guarded b1 b2 (calling m (pair m 30) (further m 1)) (indirect_call m.device (targets_by m.device (jump_line A k.pc) permitted) k)
   icall_covered A guards unflagged none =
-      icall_by (jump_line A k.pc) (targets_by m.device (jump_line A k.pc) (bits s 30) (bits s 31)) guards refl
+      icall_by (jump_line A k.pc) (targets_by m.device (jump_line A k.pc) permitted) guards refl
       (subst (λ pc. unless_listed (jump_line A pc) target ≡ None) at.place.pc unflagged) none
 
   -- ---- returns

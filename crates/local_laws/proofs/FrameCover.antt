@@ -12,7 +12,7 @@ use Rattle.sp_domain.specs.declared.tags.CarryTag.TheVariants as carry_tag
 use Rattle.sp_domain.specs.Tags.{Origin, TagHolds, CarryHolds, high_moved}
 use Rattle.sp_domain.proofs.AllLaws.{sums_are_true}
 use Rattle.abs_state.specs.declared.state.AbsState.{AbsState}
-use Rattle.mask_states.specs.declared.keys.NodeKey.{NodeKey}
+use Rattle.node_keys.specs.declared.keys.NodeKey.{NodeKey}
 use Rattle.local_rules.specs.Registers.{value, bits, carry_bit, borrow_tag, going_with}
 use Rattle.local_rules.specs.HighBytes.{view_by, carry_number, seen_high}
 use Rattle.local_rules.specs.FrameLines.{is_second, followed, more_tag, sum_tag, high_more_tag, less_tag, tag_followed, number_added, framed_add, framed_adc, framed_sub, framed_step}

@@ -15,9 +15,9 @@ use Rattle.sp_domain.specs.declared.tags.CarryTag.TheVariants as carry
 use Rattle.sp_domain.specs.Tags.{high_moved}
 use Rattle.sp_domain.proofs.AllLaws.{tag_arithmetic_is_monotone}
 use Rattle.abs_state.specs.declared.state.AbsState.{AbsState}
-use Rattle.mask_states.specs.declared.keys.NodeKey.{NodeKey}
-use Rattle.mask_states.specs.declared.keys.Kind.{Kind}
-use Rattle.mask_states.specs.Keys.{offset_of}
+use Rattle.node_keys.specs.declared.keys.NodeKey.{NodeKey}
+use Rattle.node_keys.specs.declared.keys.Kind.{Kind}
+use Rattle.node_keys.specs.Keys.{offset_of}
 use Rattle.local_rules.specs.Registers.{value, bits, carry_bit, borrow_tag, going_with}
 use Rattle.local_rules.specs.HighBytes.{view_by, carry_number, seen_high}
 use Rattle.local_rules.specs.FrameLines.{followed, added, more_tag, sum_tag, high_more_tag, less_tag, tag_followed, number_added, framed_add, framed_adc, framed_sub, framed_step}

@@ -7,7 +7,7 @@ use Rattle.sp_domain.specs.declared.tags.CarryTag.TheVariants as carry
 use Rattle.sp_domain.specs.Tags.{HasByteNumbers, IsTagWithin, IsCarryWithin, high_of, high_moved, byte_more, byte_less, carry_of, high_more}
 use Rattle.sp_domain.proofs.AllLaws.{tag_arithmetic_is_monotone}
 use Rattle.abs_state.specs.Formed.{CarryNamesRegister, CarryIsUntagged}
-use Rattle.mask_states.specs.declared.keys.Kind.{Kind}
+use Rattle.node_keys.specs.declared.keys.Kind.{Kind}
 use Rattle.local_rules.specs.FrameLines.{more_tag, sum_tag, high_more_tag, less_tag}
 use Rattle.local_laws.proofs.MonotoneValues.{IsTagOf, IsSameWhere, none_of, if_tag_of}
 

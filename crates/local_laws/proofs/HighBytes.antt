@@ -11,8 +11,8 @@ use Rattle.sp_domain.specs.Tags.{Origin, TagHolds, is_same_tag}
 use Rattle.abs_state.specs.declared.values.AbsByte.{AbsByte}
 use Rattle.abs_state.specs.declared.state.AbsState.{AbsState}
 use Rattle.abs_state.specs.Stands.{ByteStands}
-use Rattle.mask_states.specs.declared.keys.NodeKey.{NodeKey}
-use Rattle.mask_states.specs.Keys.{offset_of}
+use Rattle.node_keys.specs.declared.keys.NodeKey.{NodeKey}
+use Rattle.node_keys.specs.Keys.{offset_of}
 use Rattle.local_rules.specs.HighBytes.{SpView, view_by, is_zero, beside, seen_high}
 use Rattle.local_rules.specs.Registers.{value}
 use Rattle.local_laws.proofs.Bare.{InBareFrame}

@@ -28,10 +28,10 @@ use Rattle.abs_state.specs.Values.{value_at, set_of, with_bits}
 use Rattle.abs_state.specs.Ended.{is_one_of, in_pair, intervals_ended, ended, hull_at, written_hull}
 use Rattle.abs_state.specs.Hulls.{AreInHulls, IsInHulls}
 use Rattle.abs_state.proofs.AllLaws.{writes_end_facts, ended_at}
-use Rattle.mask_states.specs.declared.keys.NodeKey.{NodeKey}
-use Rattle.mask_states.specs.declared.keys.High.{High}
-use Rattle.mask_states.specs.Splits.{splits}
-use Rattle.mask_states.specs.Wakes.{widened}
+use Rattle.node_keys.specs.declared.keys.NodeKey.{NodeKey}
+use Rattle.node_keys.specs.declared.keys.High.{High}
+use Rattle.node_keys.specs.Splits.{splits}
+use Rattle.node_keys.specs.Wakes.{widened}
 use Rattle.local_rules.specs.declared.local.Node.{Node}
 use Rattle.local_rules.specs.Raw.{Raw, nowhere, one, all_of, off_table}
 use Rattle.local_rules.specs.Registers.{value, carry_bit, forgetting}

@@ -35,8 +35,8 @@ use Rattle.pair_laws.proofs.AllLaws.{refined_is_ordered}
 use Rattle.pair_cuts.specs.Cuts.{flag_cut, bit_cut, equal_cut, pick_cut}
 use Rattle.pair_cut_laws.specs.Laws.{IsLeftOf}
 use Rattle.pair_cut_laws.proofs.AllLaws.{flags_are_cut, bits_are_cut, equals_are_cut}
-use Rattle.mask_states.specs.declared.keys.NodeKey.{NodeKey}
-use Rattle.mask_states.specs.Keys.{offset_of}
+use Rattle.node_keys.specs.declared.keys.NodeKey.{NodeKey}
+use Rattle.node_keys.specs.Keys.{offset_of}
 use Rattle.local_rules.specs.declared.local.NodeFault.TheVariants.{UnresolvedJump}
 use Rattle.local_rules.specs.Raw.{Raw, fails, all_of, at_word, next, further, untracked_if, too_deep_if}
 use Rattle.local_rules.specs.Registers.{value, before, forgetting, going_by, binary_after}

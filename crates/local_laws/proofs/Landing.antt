@@ -6,7 +6,7 @@ use Rattle.avr_model.specs.Step.{with_registers}
 use Rattle.sp_domain.specs.Tags.{Origin}
 use Rattle.pair_domain.specs.declared.facts.PairFacts.{PairFacts}
 use Rattle.abs_state.specs.Laws.{HoldsAt}
-use Rattle.mask_states.specs.declared.keys.NodeKey.{NodeKey}
+use Rattle.node_keys.specs.declared.keys.NodeKey.{NodeKey}
 use Rattle.local_rules.specs.declared.local.Node.{Node}
 use Rattle.local_rules.specs.Raw.{Raw}
 use Rattle.local_rules.specs.Cover as cover

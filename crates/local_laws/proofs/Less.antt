@@ -28,7 +28,7 @@ use Rattle.abs_state.specs.Stands.{ByteStands}
 use Rattle.abs_state.specs.Order.{IsStateWithin}
 use Rattle.abs_state.specs.Ended.{is_one_of, ended}
 use Rattle.abs_state.proofs.AllLaws.{states_are_ordered, values_say_less, writes_end_facts}
-use Rattle.mask_states.specs.declared.keys.NodeKey.{NodeKey}
+use Rattle.node_keys.specs.declared.keys.NodeKey.{NodeKey}
 use Rattle.local_rules.specs.Registers.{borrow_tag, less_than, less_alone, less_kept, forgotten, forgetting}
 use Rattle.local_rules.specs.FrameLines.{sum_tag}
 use Rattle.local_rules.specs.Flow.{part_of}

@@ -3,7 +3,7 @@ use Rattle.std.proofs.Common.{◌≡◌, refl, subst, ℕ, ◌+◌, ◌*◌, ◌
 use Rattle.std.specs.Prelude.{⊤}
 use Rattle.std.specs.Int.{bit_at}
 use Rattle.std.proofs.lemmas.Nat.Bits.{bit_at-lt}
-use Rattle.avr_model.specs.Devices.{Program, words_of}
+use Rattle.avr_model.specs.Devices.{Image, words_of}
 use Rattle.avr_model.specs.declared.device.Device.{Device}
 use Rattle.avr_model.specs.declared.instruction.Instr.{Instr}
 use Rattle.avr_model.specs.declared.instruction.Instr.TheVariants as i
@@ -100,12 +100,12 @@ decoded_fits : (w next : ℕ) (instr : Instr) → decoded w next ≡ Some instr 
 unfolding decoded
 decoded_fits w next instr e = rows_fit table w next instr (table_fits w next) e
 
-pub instruction_fits : (words : Program) (pc : ℕ) (instr : Instr) → instruction_at words pc ≡ Some instr → InstrFits instr
-instruction_fits words pc instr e = decoded_fits (word_at words pc) (word_at words (pc + 1)) instr (decoded_at words pc instr e)
+pub instruction_fits : (image : Image) (pc : ℕ) (instr : Instr) → instruction_at image pc ≡ Some instr → InstrFits instr
+instruction_fits image pc instr e = decoded_fits (word_at image pc) (word_at image (pc + 1)) instr (decoded_at image pc instr e)
 
-pub fetched_fits : (device : Device) (words : Program) (pc : ℕ) (instr : Instr) → fetched device words pc ≡ Some instr → InstrFits instr
-fetched_fits device words pc instr e = by (nat_lt pc (words_of device)) e
+pub fetched_fits : (device : Device) (image : Image) (pc : ℕ) (instr : Instr) → fetched device image pc ≡ Some instr → InstrFits instr
+fetched_fits device image pc instr e = by (nat_lt pc (words_of device)) e
   where
-    by : (inside : Bool) → (if inside then instruction_at words pc else None) ≡ Some instr → InstrFits instr
-    by true same = instruction_fits words pc instr same
+    by : (inside : Bool) → (if inside then instruction_at image pc else None) ≡ Some instr → InstrFits instr
+    by true same = instruction_fits image pc instr same
     by false same = absurd (cc)

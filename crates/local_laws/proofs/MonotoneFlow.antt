@@ -7,7 +7,7 @@ use Rattle.std.proofs.lemmas.List.{get_or_past}
 use Rattle.std.proofs.lemmas.Map.Views.{Contains-from_any}
 use Rattle.local_rules.specs.Cover.{IsKey}
 use Rattle.avr_model.proofs.AllLaws.{devices_are_alike}
-use Rattle.avr_model.specs.Devices.{Program, size_of, back_of, depth_of, limit_of, limit_width, width}
+use Rattle.avr_model.specs.Devices.{Image, size_of, back_of, depth_of, limit_of, limit_width, width}
 use Rattle.std.proofs.lemmas.List.{append-nil}
 use Rattle.avr_model.specs.declared.device.Device.{Device}
 use Rattle.avr_model.specs.declared.assumption.Entry.{Entry}
@@ -17,10 +17,10 @@ use Rattle.avr_model.specs.Assumptions.{jump_line, lists}
 use Rattle.avr_model.specs.Vectors.{enable_count, held_of}
 use Rattle.bit_domain.specs.declared.bits.Tri.{Tri}
 use Rattle.bit_domain.specs.declared.bits.Tri.TheVariants.{Zero, One, Any}
-use Rattle.bit_domain.specs.declared.bytes.TriByte.{TriByte}
+use Rattle.abs_alu.proofs.AllLaws.{same_within}
 use Rattle.bit_domain.specs.Tri.{IsTriWithin}
-use Rattle.bit_domain.specs.TriByte.{tri_at, IsWithin}
-use Rattle.bit_domain.specs.Numbers.{numbers_of, pointer_bit, targets_of, one_if_any, count_unknown}
+use Rattle.bit_domain.specs.TriByte.{tri_at, byte_known, IsWithin}
+use Rattle.bit_domain.specs.Numbers.{PointerBits, numbers_of, pointer_bit, targets_of, one_if_any, count_unknown}
 use Rattle.bit_domain.proofs.AllLaws.{numbers_are_permitted}
 use Rattle.sp_domain.specs.declared.tags.CarryTag.{CarryTag}
 use Rattle.sp_domain.specs.declared.tags.CarryTag.TheVariants as carry
@@ -33,21 +33,21 @@ use Rattle.abs_state.specs.declared.values.AbsByte.{AbsByte}
 use Rattle.abs_state.specs.declared.state.AbsState.{AbsState}
 use Rattle.abs_state.specs.Values.{value_at}
 use Rattle.abs_state.specs.Formed.{CarryNamesRegister}
-use Rattle.mask_states.specs.declared.keys.NodeKey.{NodeKey}
-use Rattle.mask_states.specs.declared.keys.InstKey.{InstKey}
-use Rattle.mask_states.specs.declared.keys.Kind.{Kind}
-use Rattle.mask_states.specs.declared.keys.Kind.TheVariants.{Root, Call, Vector}
-use Rattle.mask_states.specs.declared.keys.SpForm.{SpForm}
-use Rattle.mask_states.specs.declared.keys.SpForm.TheVariants.{Closed, Open}
-use Rattle.mask_states.specs.Keys.{offset_of}
-use Rattle.mask_states.specs.Wakes.{without}
+use Rattle.node_keys.specs.declared.keys.NodeKey.{NodeKey}
+use Rattle.node_keys.specs.declared.keys.InstKey.{InstKey}
+use Rattle.node_keys.specs.declared.keys.Kind.{Kind}
+use Rattle.node_keys.specs.declared.keys.Kind.TheVariants.{Root, Call, Vector}
+use Rattle.node_keys.specs.declared.keys.SpForm.{SpForm}
+use Rattle.node_keys.specs.declared.keys.SpForm.TheVariants.{Closed, Open}
+use Rattle.node_keys.specs.Keys.{offset_of}
+use Rattle.node_keys.specs.Wakes.{without}
 use Rattle.vector_table.proofs.AllLaws.{enables_are_vectors}
 use Rattle.local_rules.specs.declared.local.Exit.{Exit}
 use Rattle.local_rules.specs.declared.local.NodeFault.TheVariants.{UnresolvedJump, UntrackedSp, TooDeep}
 use Rattle.local_rules.specs.Raw.{Raw, moves_to, fails, enters, untracked_if, all_of, at_word, off_table, turning_to, further, next}
-use Rattle.local_rules.specs.Registers.{value, bits, set, carry_bit}
+use Rattle.local_rules.specs.Registers.{value, set, carry_bit}
 use Rattle.local_rules.specs.Reads.{value_of}
-use Rattle.local_rules.specs.Flow.{branch, branch_by, skipping, reading_zero, flag_at, part_of, with_value, where_carry, going_where, carry_branch, flag_branch, words_on, targets_by, targets_at, jumping, is_half_written, at_closed, pushed_slot, pushing, popping, making_room, site, calling, indirect_call, relative_call, returning}
+use Rattle.local_rules.specs.Flow.{branch, branch_by, skipping, reading_zero, flag_at, part_of, with_value, where_carry, going_where, carry_branch, flag_branch, words_on, targets_by, z_with, targets_at, jumping, is_half_written, at_closed, pushed_slot, pushing, popping, making_room, site, calling, indirect_call, relative_call, returning}
 use Rattle.local_laws.proofs.Members.{in_map, each_in_map, filter_more, filter_passes, not_empty, any_more}
 use Rattle.local_laws.proofs.MonotoneValues.{IsLess, IsSlotLess, AreSlotsLess, IsStateLess, free_less, any_bit_within, registers_set}
 use Rattle.local_laws.proofs.MonotoneRaw.{IsKeyPlace, LeadsLess, nodes_at, fails_less, untracked_less, if_leads, nowhere_less, above_first, above_rest, none_less, both_less, turning_less, several_less, one_less, choose, choose_more, choose_each, enters_less, leaves_less, further_small, off_table_key}
@@ -126,23 +126,27 @@ module _ (limit : ℕ) (xs ys : List ℕ) (more : (z : ℕ) → Contains xs z �
 pub width_small : (device : Device) (z : ℕ) → z < 2 ^ width device → z < limit_of device
 width_small device z lt = let most = devices_are_alike.in_limit device in omega arith
 
-module _ (device : Device) (a b a' b' : TriByte) (lo : IsWithin a a') (hi : IsWithin b b') where
-  word_bits : (n i : ℕ) → i < n → IsTriWithin (pointer_bit a b i) (pointer_bit a' b' i)
+module _ (device : Device) (p q : PointerBits) (low : IsWithin p.low q.low) (high : IsWithin p.high q.high) (bank : IsWithin p.bank q.bank) where
+  word_bits : (n i : ℕ) → i < n → IsTriWithin (pointer_bit p i) (pointer_bit q i)
   word_bits n i lt =
-      if_tri_within (nat_lt i 8) (tri_at a i) (tri_at a' i) (tri_at b (i - 8)) (tri_at b' (i - 8))
-      (λ e. any_bit_within a a' i lo) (λ e. any_bit_within b b' (i - 8) hi)
+      if_tri_within (nat_lt i 8) (tri_at p.low i) (tri_at q.low i) (if nat_lt i 16 then tri_at p.high (i - 8) else tri_at p.bank (i - 16))
+      (if nat_lt i 16 then tri_at q.high (i - 8) else tri_at q.bank (i - 16))
+      (λ e. any_bit_within p.low q.low i low)
+      (λ e.
+      if_tri_within (nat_lt i 16) (tri_at p.high (i - 8)) (tri_at q.high (i - 8)) (tri_at p.bank (i - 16)) (tri_at q.bank (i - 16))
+      (λ f. any_bit_within p.high q.high (i - 8) high) (λ f. any_bit_within p.bank q.bank (i - 16) bank))
 
-  words_more : (z : ℕ) → Contains (words_on device a b) z → Contains (words_on device a' b') z
-  words_more = numbers_more (pointer_bit a b) (pointer_bit a' b') (width device) (word_bits (width device))
+  words_more : (z : ℕ) → Contains (words_on device p) z → Contains (words_on device q) z
+  words_more = numbers_more (pointer_bit p) (pointer_bit q) (width device) (word_bits (width device))
 
-  words_small : (z : ℕ) → Contains (words_on device a' b') z → z < limit_of device
-  words_small z i = width_small device z ((numbers_are_permitted.members (pointer_bit a' b') (width device) z).0 i).small
+  words_small : (z : ℕ) → Contains (words_on device q) z → z < limit_of device
+  words_small z i = width_small device z ((numbers_are_permitted.members (pointer_bit q) (width device) z).0 i).small
 
-  pub words_targets : (line : Option (List ℕ)) → AreTargetsLess (limit_of device) (targets_by device line a b) (targets_by device line a' b')
+  pub words_targets : (line : Option (List ℕ)) → AreTargetsLess (limit_of device) (targets_by device line p) (targets_by device line q)
   words_targets None =
-      few_less (limit_of device) (words_on device a b) (words_on device a' b') words_more words_small (length (targets_of (limit_width device) a b)) (length (targets_of (limit_width device) a' b'))
-      (numbers_count (pointer_bit a b) (pointer_bit a' b') (limit_width device) (word_bits (limit_width device)))
-  words_targets (Some listed) = listed_less (limit_of device) (words_on device a b) (words_on device a' b') words_more words_small listed
+      few_less (limit_of device) (words_on device p) (words_on device q) words_more words_small (length (targets_of (limit_width device) p)) (length (targets_of (limit_width device) q))
+      (numbers_count (pointer_bit p) (pointer_bit q) (limit_width device) (word_bits (limit_width device)))
+  words_targets (Some listed) = listed_less (limit_of device) (words_on device p) (words_on device q) words_more words_small listed
 
 -- ---- slots that are pushed and popped
 
@@ -417,9 +421,9 @@ module _ (device : Device) (k : NodeKey) (at : IsKey device k) (s t : AbsState) 
   flag_less n set' clear p q lt lt' other =
       if_leads k.inst (n == 0) _ _ _ _ (carry_less (carry_bit s) (carry_bit t) set' clear (any_bit_within s.flags.bits t.flags.bits 0 (flag_bits device k at s t le)) lt lt') other
 
-  pub skipping_less : (words : Program) (j l : NodeKey) (x y : Tri) → IsPlace j → IsPlace l → IsTriWithin x y → LeadsLess device k.inst (skipping words (site_at device j s) j l x) (skipping words (site_at device j t) j l y)
-  skipping_less words j l x y first second within =
-      ways_less x y j l (further device j (1 + length_of (word_at words (j.pc + 1)))) (further device j 1) first second within (further_small device j (1 + length_of (word_at words (j.pc + 1)))) (further_small device j 1)
+  pub skipping_less : (image : Image) (j l : NodeKey) (x y : Tri) → IsPlace j → IsPlace l → IsTriWithin x y → LeadsLess device k.inst (skipping image (site_at device j s) j l x) (skipping image (site_at device j t) j l y)
+  skipping_less image j l x y first second within =
+      ways_less x y j l (further device j (1 + length_of (word_at image (j.pc + 1)))) (further device j 1) first second within (further_small device j (1 + length_of (word_at image (j.pc + 1)))) (further_small device j 1)
 
   pub flag_within : (n : ℕ) → IsTriWithin (flag_at k s n) (flag_at k t n)
   flag_within n =
@@ -443,7 +447,9 @@ module _ (device : Device) (k : NodeKey) (at : IsKey device k) (s t : AbsState) 
       subst (λ (z : Option (List ℕ)). LeadsLess device k.inst (indirect_call device z k) (indirect_call device (Some ys) k)) (sym xs.1.0) (sites_less k.inst k (further device k 1) xs.0 ys xs.1.1.0)
 
   targets : (A : List Entry) → AreTargetsLess (limit_of device) (targets_at A (site_at device k s)) (targets_at A (site_at device k t))
-  targets A = words_targets device (bits s 30) (bits s 31) (bits t 30) (bits t 31) (reg_bits device k at s t le 30) (reg_bits device k at s t le 31) (jump_line A k.pc)
+  targets A =
+      words_targets device (z_with s (byte_known 0)) (z_with t (byte_known 0)) (reg_bits device k at s t le 30) (reg_bits device k at s t le 31) (same_within (byte_known 0))
+      (jump_line A k.pc)
 
   pub jump_less : (A : List Entry) → LeadsLess device k.inst (jumping (targets_at A (site_at device k s)) k s) (jumping (targets_at A (site_at device k t)) k t)
   jump_less A = jumping_by (targets_at A (site_at device k s)) (targets_at A (site_at device k t)) (targets A)

@@ -10,10 +10,10 @@ use Rattle.sp_domain.specs.Tags.{HasByteNumbers, IsTagWithin, IsCarryWithin, is_
 use Rattle.abs_state.specs.declared.values.AbsByte.{AbsByte}
 use Rattle.abs_state.specs.declared.state.AbsState.{AbsState}
 use Rattle.abs_state.specs.Formed.{CarryIsUntagged}
-use Rattle.mask_states.specs.declared.keys.NodeKey.{NodeKey}
-use Rattle.mask_states.specs.declared.keys.Kind.{Kind}
-use Rattle.mask_states.specs.declared.keys.Kind.TheVariants.{Root}
-use Rattle.mask_states.specs.Keys.{offset_of}
+use Rattle.node_keys.specs.declared.keys.NodeKey.{NodeKey}
+use Rattle.node_keys.specs.declared.keys.Kind.{Kind}
+use Rattle.node_keys.specs.declared.keys.Kind.TheVariants.{Root}
+use Rattle.node_keys.specs.Keys.{offset_of}
 use Rattle.local_rules.specs.HighBytes.{SpView, view_by, low_number, carry_number, is_zero, is_high_of, beside, seen_high}
 use Rattle.local_rules.specs.Registers.{value, high_tag_of}
 use Rattle.local_laws.proofs.HighBytes.{zero_is, same_high}

@@ -12,9 +12,9 @@ use Rattle.bit_domain.specs.Tri.{IsTriWithin}
 use Rattle.abs_state.specs.declared.values.AbsByte.{AbsByte}
 use Rattle.abs_state.specs.declared.values.AbsFlags.{AbsFlags}
 use Rattle.abs_state.specs.declared.state.AbsState.{AbsState}
-use Rattle.mask_states.specs.declared.keys.NodeKey.{NodeKey}
-use Rattle.mask_states.specs.declared.keys.InstKey.{InstKey}
-use Rattle.mask_states.specs.Keys.{offset_of}
+use Rattle.node_keys.specs.declared.keys.NodeKey.{NodeKey}
+use Rattle.node_keys.specs.declared.keys.InstKey.{InstKey}
+use Rattle.node_keys.specs.Keys.{offset_of}
 use Rattle.local_rules.specs.declared.local.Node.{Node}
 use Rattle.local_rules.specs.declared.local.CallSite.{CallSite}
 use Rattle.local_rules.specs.declared.local.Exit.{Exit}

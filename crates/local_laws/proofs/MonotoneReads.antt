@@ -3,7 +3,7 @@ use Rattle.std.proofs.Common.{◌≡◌, refl, sym, ap, ◌∙◌, subst, subst�
 use Rattle.std.specs.Int.{from_bool}
 use Rattle.local_rules.specs.Cover.{IsKey}
 use Rattle.abs_alu.proofs.AllLaws.{same_within}
-use Rattle.avr_model.specs.Devices.{Program, words_of, io_end, ramend, device_of}
+use Rattle.avr_model.specs.Devices.{Image, words_of, io_end, ramend, device_of}
 use Rattle.avr_model.specs.declared.device.Device.{Device}
 use Rattle.avr_model.specs.Image.{byte_at}
 use Rattle.avr_model.specs.State.{SPL, SREG, is_sph, low, high}
@@ -24,12 +24,12 @@ use Rattle.abs_state.specs.Values.{untagged, unknown, known, valued, set_of}
 use Rattle.abs_state.specs.Formed.{ByteFits}
 use Rattle.abs_state.proofs.AllLaws.{bits_make_values, tag_met}
 use Rattle.abs_state.specs.Frames.{with_tag}
-use Rattle.mask_states.specs.declared.keys.NodeKey.{NodeKey}
-use Rattle.mask_states.specs.declared.keys.Kind.{Kind}
-use Rattle.mask_states.specs.declared.keys.Kind.TheVariants.{Root, Call, Vector}
-use Rattle.mask_states.specs.declared.keys.SpForm.{SpForm}
-use Rattle.mask_states.specs.declared.keys.SpForm.TheVariants.{Closed, Open}
-use Rattle.mask_states.specs.Keys.{offset_of}
+use Rattle.node_keys.specs.declared.keys.NodeKey.{NodeKey}
+use Rattle.node_keys.specs.declared.keys.Kind.{Kind}
+use Rattle.node_keys.specs.declared.keys.Kind.TheVariants.{Root, Call, Vector}
+use Rattle.node_keys.specs.declared.keys.SpForm.{SpForm}
+use Rattle.node_keys.specs.declared.keys.SpForm.TheVariants.{Closed, Open}
+use Rattle.node_keys.specs.Keys.{offset_of}
 use Rattle.local_rules.specs.declared.pointers.Pointed.{Pointed}
 use Rattle.local_rules.specs.HighBytes.{view_by}
 use Rattle.local_rules.specs.Registers.{value, bits, with_bits, high_tag_of}
@@ -158,30 +158,30 @@ under_any u v m e =
     let wide = ranges_hold.bits_within m.bits byte_any (below_any m.bits) in
     record { bits = below_any m.bits; low = omega (arith, wide.low, fit.low); high = omega (arith, wide.high, fit.high) }
 
-flash_tag : (words : Program) (f : Option ℕ) → (flash_value words f).tag ≡ tag.None
-flash_tag words None = refl
-flash_tag words (Some z) = by (nat_lt z (2 * words_of (device_of words)))
+flash_tag : (image : Image) (f : Option ℕ) → (flash_value image f).tag ≡ tag.None
+flash_tag image None = refl
+flash_tag image (Some z) = by (nat_lt z (2 * words_of (device_of image)))
   where
-    by : (b : Bool) → (if b then known (byte_at words.words z) else unknown).tag ≡ tag.None
+    by : (b : Bool) → (if b then known (byte_at image.words z) else unknown).tag ≡ tag.None
     by true = refl
     by false = refl
 
-flash_fits : (words : Program) (f : Option ℕ) → ByteFits (flash_value words f)
-flash_fits words None = bits_make_values.fits tag.None byte_any
-flash_fits words (Some z) = by (nat_lt z (2 * words_of (device_of words)))
+flash_fits : (image : Image) (f : Option ℕ) → ByteFits (flash_value image f)
+flash_fits image None = bits_make_values.fits tag.None byte_any
+flash_fits image (Some z) = by (nat_lt z (2 * words_of (device_of image)))
   where
-    by : (b : Bool) → ByteFits (if b then known (byte_at words.words z) else unknown)
-    by true = bits_make_values.fits tag.None (byte_known (byte_at words.words z))
+    by : (b : Bool) → ByteFits (if b then known (byte_at image.words z) else unknown)
+    by true = bits_make_values.fits tag.None (byte_known (byte_at image.words z))
     by false = bits_make_values.fits tag.None byte_any
 
 none_tag_of : (kind : Kind) (t : Tag) → t ≡ tag.None → IsTagOf kind t
 none_tag_of kind t e = subst (IsTagOf kind) (sym e) (none_of kind)
 
-pub flash_less : (kind : Kind) (words : Program) (f g : Option ℕ) → IsSameWhere f g → IsLess kind (flash_value words f) (flash_value words g)
-flash_less kind words f None h = below_unknown kind (flash_value words f) (none_tag_of kind _ (flash_tag words f)) (flash_fits words f)
-flash_less kind words f (Some z) h =
-    subst (λ (x : Option ℕ). IsLess kind (flash_value words x) (flash_value words (Some z))) (sym (h z refl))
-    (value_same kind (flash_value words (Some z)) (none_tag_of kind _ (flash_tag words (Some z))) (flash_fits words (Some z)))
+pub flash_less : (kind : Kind) (image : Image) (f g : Option ℕ) → IsSameWhere f g → IsLess kind (flash_value image f) (flash_value image g)
+flash_less kind image f None h = below_unknown kind (flash_value image f) (none_tag_of kind _ (flash_tag image f)) (flash_fits image f)
+flash_less kind image f (Some z) h =
+    subst (λ (x : Option ℕ). IsLess kind (flash_value image x) (flash_value image (Some z))) (sym (h z refl))
+    (value_same kind (flash_value image (Some z)) (none_tag_of kind _ (flash_tag image (Some z))) (flash_fits image (Some z)))
 
 module _ (device : Device) (k : NodeKey) (at : IsKey device k) (s t : AbsState) (le : IsStateLess k.inst.kind (offset_of k.sp) s t) where
   abbrev kind : Kind

@@ -25,9 +25,9 @@ use Rattle.bit_domain.specs.Logic.{byte_equal}
 use Rattle.abs_alu.proofs.AllLaws.{same_within}
 use Rattle.bit_domain.proofs.AllLaws.{bits_cover, writes_cover, logic_is_monotone}
 use Rattle.abs_state.specs.declared.state.AbsState.{AbsState}
-use Rattle.mask_states.specs.declared.keys.NodeKey.{NodeKey}
-use Rattle.mask_states.specs.declared.keys.Kind.{Kind}
-use Rattle.mask_states.specs.Keys.{offset_of}
+use Rattle.node_keys.specs.declared.keys.NodeKey.{NodeKey}
+use Rattle.node_keys.specs.declared.keys.Kind.{Kind}
+use Rattle.node_keys.specs.Keys.{offset_of}
 use Rattle.local_rules.specs.Raw.{Raw, at_word, next, further}
 use Rattle.local_rules.specs.HighBytes.{view_by}
 use Rattle.local_rules.specs.Registers.{value, bits, carry_bit, set, less_than, less_kept, or_nothing, pair_moved, going_by, binary_after}

@@ -3,7 +3,7 @@ use Rattle.std.proofs.Common.{◌≡◌, refl, sym, subst, ap, ◌∙◌, ℕ, �
 use Rattle.std.proofs.lemmas.Bool.Decides.{nat_tests}
 use Rattle.basics.specs.Booleans.{all_three}
 use Rattle.basics.specs.Items.{none_in}
-use Rattle.avr_model.specs.Devices.{Program, size_of, words_of, device_of}
+use Rattle.avr_model.specs.Devices.{Image, size_of, words_of, device_of}
 use Rattle.avr_model.specs.declared.device.Device.{Device}
 use Rattle.avr_model.specs.declared.instruction.Instr.{Instr}
 use Rattle.avr_model.specs.Sites.{instruction_at, is_scratch}
@@ -23,8 +23,8 @@ use Rattle.abs_state.specs.Cuts.{cut_known}
 use Rattle.pair_domain.specs.PairSets as pairs
 use Rattle.pair_cuts.specs.Cuts.{with_index, pick_cut}
 use Rattle.pair_cut_laws.proofs.AllLaws.{picks_are_cut}
-use Rattle.mask_states.specs.declared.keys.NodeKey.{NodeKey}
-use Rattle.mask_states.specs.Keys.{offset_of}
+use Rattle.node_keys.specs.declared.keys.NodeKey.{NodeKey}
+use Rattle.node_keys.specs.Keys.{offset_of}
 use Rattle.local_rules.specs.declared.local.NodeFault.TheVariants.{UnresolvedJump, Unsupported}
 use Rattle.local_rules.specs.Raw.{Raw, nowhere, fails, all_of}
 use Rattle.local_rules.specs.Registers.{value, before}
@@ -44,11 +44,11 @@ use Rattle.local_laws.proofs.Quiet.{Quiet}
 use Rattle.local_rules.specs.Site.{Task, site_at}
 
 -- an instruction of flash names registers
-pub fetched_has : (device : Device) (words : Program) (pc : ℕ) (instr : Instr) → fetched device words pc ≡ Some instr → HasRegisters instr
-fetched_has device words pc instr e = by (nat_lt pc (words_of device)) e
+pub fetched_has : (device : Device) (image : Image) (pc : ℕ) (instr : Instr) → fetched device image pc ≡ Some instr → HasRegisters instr
+fetched_has device image pc instr e = by (nat_lt pc (words_of device)) e
   where
-    by : (inside : Bool) → (if inside then instruction_at words pc else None) ≡ Some instr → HasRegisters instr
-    by true same = operands_fit.fit words pc instr same
+    by : (inside : Bool) → (if inside then instruction_at image pc else None) ≡ Some instr → HasRegisters instr
+    by true same = operands_fit.fit image pc instr same
     by false same = absurd (cc)
 
 module _ {followed : Bool} (task : Task) (k : NodeKey) (s t : AbsState) (a : IsNodeIn (device_of task.flash) followed k s) (b : IsNodeIn (device_of task.flash) followed k t) (within : IsStateWithin s t) where

@@ -32,10 +32,10 @@ use Rattle.abs_state.specs.Values.{value_at, with_bits, untagged, unknown, known
 use Rattle.abs_state.proofs.AllLaws.{bits_make_values, values_are_ordered}
 use Rattle.abs_state.specs.Order.{IsByteWithin, IsFlagsWithin, IsSlotWithin, IsStateWithin}
 use Rattle.abs_state.specs.Formed.{NamesRegister, CarryNamesRegister, SlotNamesRegister, ByteFits, SlotByteFits, CarryIsUntagged, SlotIsUntagged, IsFormed, IsUntagged, TagFits, SlotFits, TagsFit}
-use Rattle.mask_states.specs.declared.keys.NodeKey.{NodeKey}
-use Rattle.mask_states.specs.declared.keys.Kind.{Kind}
-use Rattle.mask_states.specs.declared.keys.Kind.TheVariants.{Root}
-use Rattle.mask_states.specs.Keys.{offset_of, PickFits}
+use Rattle.node_keys.specs.declared.keys.NodeKey.{NodeKey}
+use Rattle.node_keys.specs.declared.keys.Kind.{Kind}
+use Rattle.node_keys.specs.declared.keys.Kind.TheVariants.{Root}
+use Rattle.node_keys.specs.Keys.{offset_of, PickFits}
 use Rattle.avr_model.specs.declared.device.Device.{Device}
 use Rattle.avr_model.specs.Devices.{limit_of, depth_of}
 use Rattle.avr_model.specs.Vectors.{enable_count}

@@ -29,17 +29,17 @@ use Rattle.abs_state.specs.declared.values.AbsByte.{AbsByte}
 use Rattle.abs_state.specs.declared.state.AbsState.{AbsState}
 use Rattle.abs_state.proofs.AllLaws.{writes_end_facts}
 use Rattle.pair_domain.proofs.AllLaws.{known_is_ordered}
-use Rattle.mask_states.specs.declared.keys.NodeKey.{NodeKey}
-use Rattle.mask_states.specs.declared.keys.Kind.{Kind}
-use Rattle.mask_states.specs.declared.keys.Kind.TheVariants.{Root, Call, Vector}
-use Rattle.mask_states.specs.declared.keys.SpForm.{SpForm}
-use Rattle.mask_states.specs.declared.keys.SpForm.TheVariants.{Closed, Open}
-use Rattle.mask_states.specs.declared.keys.High.{High}
-use Rattle.mask_states.specs.declared.keys.High.TheVariants.{Known, Tag as Tagged}
-use Rattle.mask_states.specs.Keys.{offset_of}
-use Rattle.mask_states.specs.Splits.{splits, enable_tri}
-use Rattle.mask_states.specs.Wakes.{widened}
-use Rattle.mask_states.proofs.AllLaws.{splits_are_writes, enables_stay_among}
+use Rattle.node_keys.specs.declared.keys.NodeKey.{NodeKey}
+use Rattle.node_keys.specs.declared.keys.Kind.{Kind}
+use Rattle.node_keys.specs.declared.keys.Kind.TheVariants.{Root, Call, Vector}
+use Rattle.node_keys.specs.declared.keys.SpForm.{SpForm}
+use Rattle.node_keys.specs.declared.keys.SpForm.TheVariants.{Closed, Open}
+use Rattle.node_keys.specs.declared.keys.High.{High}
+use Rattle.node_keys.specs.declared.keys.High.TheVariants.{Known, Tag as Tagged}
+use Rattle.node_keys.specs.Keys.{offset_of}
+use Rattle.node_keys.specs.Splits.{splits, enable_tri}
+use Rattle.node_keys.specs.Wakes.{widened}
+use Rattle.node_keys.proofs.AllLaws.{splits_are_writes, enables_stay_among}
 use Rattle.local_rules.specs.declared.local.NodeFault.TheVariants.{UntrackedSp, TooDeep, UnknownPointer}
 use Rattle.local_rules.specs.Raw.{Raw, moves_to, one, fails}
 use Rattle.local_rules.specs.HighBytes.{view_by}

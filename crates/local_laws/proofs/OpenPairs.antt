@@ -3,7 +3,7 @@ use Rattle.std.proofs.Common.{◌≡◌, refl, subst, ℕ, zero, suc, ◌+◌, �
 use Rattle.std.specs.Prelude.{⊤}
 use Rattle.std.proofs.lemmas.List.Elements.{Contains-append_cases}
 use Rattle.basics.specs.Items.{none_in, first_in, further_in}
-use Rattle.avr_model.specs.Devices.{Program, size_of, back_of, wrapped, device_of}
+use Rattle.avr_model.specs.Devices.{Image, size_of, back_of, wrapped, device_of}
 use Rattle.avr_model.specs.Marks.{marks}
 use Rattle.avr_model.specs.declared.device.Device.{Device}
 use Rattle.avr_model.specs.declared.assumption.Entry.{Entry}
@@ -27,15 +27,15 @@ use Rattle.pair_rules.specs.Refined.{refined}
 use Rattle.pair_cuts.specs.Cuts.{flag_cut, bit_cut, equal_cut, pick_cut}
 use Rattle.abs_state.specs.declared.values.AbsByte.{AbsByte}
 use Rattle.abs_state.specs.declared.state.AbsState.{AbsState}
-use Rattle.mask_states.specs.declared.keys.NodeKey.{NodeKey}
-use Rattle.mask_states.specs.declared.keys.High.{High}
-use Rattle.mask_states.specs.declared.keys.Kind.{Kind}
-use Rattle.mask_states.specs.declared.keys.Kind.TheVariants.{Root, Call, Vector}
-use Rattle.mask_states.specs.declared.keys.SpForm.{SpForm}
-use Rattle.mask_states.specs.declared.keys.SpForm.TheVariants.{Closed, Open}
-use Rattle.mask_states.specs.Keys.{offset_of}
-use Rattle.mask_states.specs.Splits.{splits}
-use Rattle.mask_states.specs.Wakes.{widened}
+use Rattle.node_keys.specs.declared.keys.NodeKey.{NodeKey}
+use Rattle.node_keys.specs.declared.keys.High.{High}
+use Rattle.node_keys.specs.declared.keys.Kind.{Kind}
+use Rattle.node_keys.specs.declared.keys.Kind.TheVariants.{Root, Call, Vector}
+use Rattle.node_keys.specs.declared.keys.SpForm.{SpForm}
+use Rattle.node_keys.specs.declared.keys.SpForm.TheVariants.{Closed, Open}
+use Rattle.node_keys.specs.Keys.{offset_of}
+use Rattle.node_keys.specs.Splits.{splits}
+use Rattle.node_keys.specs.Wakes.{widened}
 use Rattle.local_rules.specs.declared.computed.Computed.{Computed}
 use Rattle.local_rules.specs.declared.local.Exit.{Exit}
 use Rattle.local_rules.specs.declared.local.Node.{Node}
@@ -175,16 +175,16 @@ module _ (n : ℕ) where
   stay_node k None h = stay_none
   stay_node k (Some s) h = each_of IsStaying (record { key = k; state = s }) [] h stay_none
 
-  stay_refined : (words : Program) (instr : Instr) (s : AbsState) (nodes : List Node) → ((to : Node) → Contains nodes to → IsStaying to)
-      → (to : Node) → Contains (refined_nodes words instr s nodes) to → IsStaying to
-  stay_refined words instr s [] h to j = stay_none to j
-  stay_refined words instr s (x ∷ xs) h to j =
-      ⊎_elim (stay_node x.key (refined (marks words) words instr s x.state) (h x (first_in x xs)) to)
-      (stay_refined words instr s xs (λ y i. h y (further_in x y xs i)) to)
-      (Contains-append_cases (node_where x.key (refined (marks words) words instr s x.state)) (refined_nodes words instr s xs) to j)
+  stay_refined : (image : Image) (instr : Instr) (s : AbsState) (nodes : List Node) → ((to : Node) → Contains nodes to → IsStaying to)
+      → (to : Node) → Contains (refined_nodes image instr s nodes) to → IsStaying to
+  stay_refined image instr s [] h to j = stay_none to j
+  stay_refined image instr s (x ∷ xs) h to j =
+      ⊎_elim (stay_node x.key (refined (marks image) image instr s x.state) (h x (first_in x xs)) to)
+      (stay_refined image instr s xs (λ y i. h y (further_in x y xs i)) to)
+      (Contains-append_cases (node_where x.key (refined (marks image) image instr s x.state)) (refined_nodes image instr s xs) to j)
 
-  stay_refining : (words : Program) (instr : Instr) (s : AbsState) (r : Raw) → AllStay r → AllStay (refining words instr s r)
-  stay_refining words instr s r h = stay_refined words instr s r.moves h
+  stay_refining : (image : Image) (instr : Instr) (s : AbsState) (r : Raw) → AllStay r → AllStay (refining image instr s r)
+  stay_refining image instr s r h = stay_refined image instr s r.moves h
 
 -- ---- stores
 

@@ -3,7 +3,7 @@ use Rattle.std.proofs.Common.{◌≡◌, refl, sym, subst, subst₂, ap, ℕ, Bo
 use Rattle.std.proofs.lemmas.List.Elements.{Contains-append_left, Contains-append_right}
 use Rattle.basics.specs.Items.{none_in, first_in, first_or_further}
 use Rattle.avr_model.specs.declared.device.Device.{Device}
-use Rattle.avr_model.specs.Devices.{Program, wrapped}
+use Rattle.avr_model.specs.Devices.{Image, wrapped}
 use Rattle.avr_model.specs.Marks.{marks}
 use Rattle.avr_model.specs.declared.effect.Effect.{Effect}
 use Rattle.avr_model.specs.declared.instruction.Instr.{Instr}
@@ -28,8 +28,8 @@ use Rattle.pair_rules.specs.Refined.{refined}
 use Rattle.pair_laws.specs.Laws.{registers_set, sreg_set, IsBefore, IsBehind}
 use Rattle.pair_laws.proofs.AllLaws.{refined_holds, refined_is_ordered}
 use Rattle.pair_cut_laws.specs.Laws.{StandsFor, IsLeftOf}
-use Rattle.mask_states.specs.declared.keys.NodeKey.{NodeKey}
-use Rattle.mask_states.specs.Keys.{offset_of}
+use Rattle.node_keys.specs.declared.keys.NodeKey.{NodeKey}
+use Rattle.node_keys.specs.Keys.{offset_of}
 use Rattle.local_rules.specs.declared.local.Node.{Node}
 use Rattle.local_rules.specs.Raw.{Raw, all_of, off_table}
 use Rattle.local_rules.specs.Flow.{going_where}
@@ -43,23 +43,23 @@ use Rattle.local_laws.proofs.PlainRows.{IsRefinedInstr}
 
 -- ---- refined nodes
 
-pub in_refined : (words : Program) (instr : Instr) (s : AbsState) (nodes : List Node) (to : Node) (u : AbsState) → Contains nodes to
-    → refined (marks words) words instr s to.state ≡ Some u → Contains (refined_nodes words instr s nodes) (record { key = to.key; state = u })
-in_refined words instr s [] to u i e = absurd (none_in to i)
-in_refined words instr s (n ∷ ns) to u i e =
+pub in_refined : (image : Image) (instr : Instr) (s : AbsState) (nodes : List Node) (to : Node) (u : AbsState) → Contains nodes to
+    → refined (marks image) image instr s to.state ≡ Some u → Contains (refined_nodes image instr s nodes) (record { key = to.key; state = u })
+in_refined image instr s [] to u i e = absurd (none_in to i)
+in_refined image instr s (n ∷ ns) to u i e =
     ⊎_elim
     (λ same.
-    let here : Contains (node_where to.key (refined (marks words) words instr s to.state)) (record { key = to.key; state = u }) =
+    let here : Contains (node_where to.key (refined (marks image) image instr s to.state)) (record { key = to.key; state = u }) =
     subst (λ (x : Option AbsState). Contains (node_where to.key x) (record { key = to.key; state = u })) (sym e) (first_in (record { key = to.key; state = u }) []) in
-    Contains-append_left (node_where n.key (refined (marks words) words instr s n.state)) (refined_nodes words instr s ns) (record { key = to.key; state = u })
-    (subst (λ (x : Node). Contains (node_where x.key (refined (marks words) words instr s x.state)) (record { key = to.key; state = u })) same here))
-    (λ rest. Contains-append_right (node_where n.key (refined (marks words) words instr s n.state)) (refined_nodes words instr s ns) (record { key = to.key; state = u }) (in_refined words instr s ns to u rest e))
+    Contains-append_left (node_where n.key (refined (marks image) image instr s n.state)) (refined_nodes image instr s ns) (record { key = to.key; state = u })
+    (subst (λ (x : Node). Contains (node_where x.key (refined (marks image) image instr s x.state)) (record { key = to.key; state = u })) same here))
+    (λ rest. Contains-append_right (node_where n.key (refined (marks image) image instr s n.state)) (refined_nodes image instr s ns) (record { key = to.key; state = u }) (in_refined image instr s ns to u rest e))
     (first_or_further n to ns i)
 
 -- ---- effects that store nothing
 
-module _ (words : Program) (still : Bool) (m : State) (b1 b2 : ℕ) where
-  binary_stores : (op : BinaryOp) (d r : ℕ) → (binary_effect words m op d r).stores ≡ []
+module _ (image : Image) (still : Bool) (m : State) (b1 b2 : ℕ) where
+  binary_stores : (op : BinaryOp) (d r : ℕ) → (binary_effect image m op d r).stores ≡ []
   binary_stores binary.Cpc d r = refl
   binary_stores binary.Sbc d r = refl
   binary_stores binary.Add d r = refl
@@ -91,7 +91,7 @@ module _ (words : Program) (still : Bool) (m : State) (b1 b2 : ℕ) where
   unary_stores unary.Ror d = refl
   unary_stores unary.Dec d = refl
 
-  no_stores : (instr : Instr) → IsRefinedInstr instr → (effect_of words still m instr b1 b2).stores ≡ []
+  no_stores : (instr : Instr) → IsRefinedInstr instr → (effect_of image still m instr b1 b2).stores ≡ []
   no_stores (i.Binary op d r) is = binary_stores op d r
   no_stores (i.Immediate op d n) is = immediate_stores op d n
   no_stores (i.Unary op d) is = unary_stores op d
@@ -105,10 +105,10 @@ module _ (words : Program) (still : Bool) (m : State) (b1 b2 : ℕ) where
 
 -- ---- a refined row
 
-module _ {may : Bool} (words : Program) (are : AreWords words) (m : State) (o : Origin) (k : NodeKey) (s : AbsState) (at : InBareFrame may m o k s) (b1 b2 : ℕ) (guarded : Bool)
+module _ {may : Bool} (image : Image) (are : AreWords image) (m : State) (o : Origin) (k : NodeKey) (s : AbsState) (at : InBareFrame may m o k s) (b1 b2 : ℕ) (guarded : Bool)
     (instr : Instr) (has : HasRegisters instr) where
   abbrev effect : Effect
-  effect = effect_of words may m instr b1 b2
+  effect = effect_of image may m instr b1 b2
 
   pub is_before : IsBefore o s m
   is_before = record {
@@ -123,23 +123,23 @@ module _ {may : Bool} (words : Program) (are : AreWords words) (m : State) (o : 
     abbrev Reached : List ℕ → ℕ → Type 0
     Reached registers sreg = (registers ≡ (after m guarded effect).registers) × (sreg ≡ (after m guarded effect).sreg)
 
-    reached : Reached (registers_set words may m instr b1 b2) (sreg_set words may m instr b1 b2)
+    reached : Reached (registers_set image may m instr b1 b2) (sreg_set image may m instr b1 b2)
     reached =
-        let none = no_stores words may m b1 b2 instr is in (
+        let none = no_stores image may m b1 b2 instr is in (
           sym (ap (registers_after (with_registers m.registers effect.registers)) none),
           sym (ap (sreg_after effect.sreg) none),
         )
 
     arrives_refined : (to : Node) (n : ℕ) → IsFormed to.state n → ArrivesAt may m o guarded effect to
-        → (u : AbsState) × (refined (marks words) words instr s to.state ≡ Some u) × ArrivesAt may m o guarded effect (record { key = to.key; state = u })
+        → (u : AbsState) × (refined (marks image) image instr s to.state ≡ Some u) × ArrivesAt may m o guarded effect (record { key = to.key; state = u })
     arrives_refined to n formed lands =
-        let behind : IsBehind o to.state (registers_set words may m instr b1 b2) (sreg_set words may m instr b1 b2) = record {
+        let behind : IsBehind o to.state (registers_set image may m instr b1 b2) (sreg_set image may m instr b1 b2) = record {
           registers = subst (RegistersStand o to.state.registers) (sym reached.0) lands.registers;
           facts = subst₂ (HoldsAt to.state.facts) (sym reached.0) (sym reached.1) lands.facts;
         } in
-        let found = refined_holds.holds (marks words) words may o m instr b1 b2 (offset_of k.sp) n s to.state are has at.node.formed formed is_before behind in
+        let found = refined_holds.holds (marks image) image may o m instr b1 b2 (offset_of k.sp) n s to.state are has at.node.formed formed is_before behind in
         let u = found.0 in
-        let like = refined_is_ordered.like (marks words) words instr s to.state u found.1 in (
+        let like = refined_is_ordered.like (marks image) image instr s to.state u found.1 in (
           u,
           found.1,
           record {
@@ -153,10 +153,10 @@ module _ {may : Bool} (words : Program) (are : AreWords words) (m : State) (o : 
           },
         )
 
-    pub refining_follows : (r : Raw) → ((to : Node) → Contains r.moves to → IsBare m.device to.key to.state) → Follows may m o k guarded b1 b2 effect r → Follows may m o k guarded b1 b2 effect (refining words instr s r)
+    pub refining_follows : (r : Raw) → ((to : Node) → Contains r.moves to → IsBare m.device to.key to.state) → Follows may m o k guarded b1 b2 effect r → Follows may m o k guarded b1 b2 effect (refining image instr s r)
     refining_follows r bares (stays to present inst lands) =
         let found = arrives_refined to (offset_of to.key.sp) (bares to present).formed lands in
-        stays (record { key = to.key; state = found.0 }) (in_refined words instr s r.moves to found.0 present found.1) inst found.2
+        stays (record { key = to.key; state = found.0 }) (in_refined image instr s r.moves to found.0 present found.1) inst found.2
     refining_follows r bares (calls offset site present closed guards is) = calls offset site present closed guards is
     refining_follows r bares (leaves x exit kind closed returns) = leaves x exit kind closed returns
 

@@ -2,7 +2,7 @@
 use Rattle.std.proofs.Common.{◌≡◌, refl, sym, subst, subst₂, ℕ, ◌+◌, ◌<◌, Bool, true, false, List, [], ◌∷◌, Option, Some, None, if◌then◌else◌, Contains, ⊎_elim, nat_lt, ltb-true}
 use Rattle.std.proofs.lemmas.List.Elements.{Contains-append_cases}
 use Rattle.basics.specs.Items.{none_in, first_in, further_in}
-use Rattle.avr_model.specs.Devices.{Program, wrapped, limit_of}
+use Rattle.avr_model.specs.Devices.{Image, wrapped, limit_of}
 use Rattle.avr_model.specs.Image.{word_at}
 use Rattle.avr_model.specs.Marks.{marks}
 use Rattle.avr_model.specs.Table.{length_of}
@@ -27,8 +27,8 @@ use Rattle.pair_rules.specs.Refined.{refined}
 use Rattle.pair_laws.proofs.AllLaws.{refined_is_ordered}
 use Rattle.pair_cuts.specs.Cuts.{flag_cut, bit_cut, equal_cut}
 use Rattle.pair_cut_laws.proofs.AllLaws.{flags_are_cut, bits_are_cut, equals_are_cut}
-use Rattle.mask_states.specs.declared.keys.NodeKey.{NodeKey}
-use Rattle.mask_states.specs.Keys.{offset_of}
+use Rattle.node_keys.specs.declared.keys.NodeKey.{NodeKey}
+use Rattle.node_keys.specs.Keys.{offset_of}
 use Rattle.local_rules.specs.declared.local.Node.{Node}
 use Rattle.local_rules.specs.Raw.{Raw, nowhere, all_of, off_table, next, further}
 use Rattle.local_rules.specs.Registers.{value, before}
@@ -55,41 +55,41 @@ use Rattle.local_rules.specs.Site.{Task, site_at}
 -- ---- refined nodes
 
 -- the plain node of a refined one
-pub record IsOf (words : Program) (instr : Instr) (s : AbsState) (nodes : List Node) (x : Node) : Type 0 where
+pub record IsOf (image : Image) (instr : Instr) (s : AbsState) (nodes : List Node) (x : Node) : Type 0 where
   pub to : Node
   pub member : Contains nodes to
   pub same : x.key ≡ to.key
-  pub left : refined (marks words) words instr s to.state ≡ Some x.state
+  pub left : refined (marks image) image instr s to.state ≡ Some x.state
 
-of_where : (words : Program) (instr : Instr) (s : AbsState) (nodes : List Node) (n : Node) → Contains nodes n → (left : Option AbsState) → refined (marks words) words instr s n.state ≡ left
-    → (x : Node) → Contains (node_where n.key left) x → IsOf words instr s nodes x
-of_where words instr s nodes n member None e x h = absurd (none_in x h)
-of_where words instr s nodes n member (Some u) e x h =
-    each_of (IsOf words instr s nodes) (record { key = n.key; state = u }) [] (record { to = n; member = member; same = refl; left = e }) (λ y j. absurd (none_in y j)) x h
+of_where : (image : Image) (instr : Instr) (s : AbsState) (nodes : List Node) (n : Node) → Contains nodes n → (left : Option AbsState) → refined (marks image) image instr s n.state ≡ left
+    → (x : Node) → Contains (node_where n.key left) x → IsOf image instr s nodes x
+of_where image instr s nodes n member None e x h = absurd (none_in x h)
+of_where image instr s nodes n member (Some u) e x h =
+    each_of (IsOf image instr s nodes) (record { key = n.key; state = u }) [] (record { to = n; member = member; same = refl; left = e }) (λ y j. absurd (none_in y j)) x h
 
-pub from_refined : (words : Program) (instr : Instr) (s : AbsState) (all nodes : List Node) → ((n : Node) → Contains nodes n → Contains all n) → (x : Node)
-    → Contains (refined_nodes words instr s nodes) x → IsOf words instr s all x
-from_refined words instr s all [] within x h = absurd (none_in x h)
-from_refined words instr s all (n ∷ ns) within x h =
-    ⊎_elim (of_where words instr s all n (within n (first_in n ns)) (refined (marks words) words instr s n.state) refl x)
-    (from_refined words instr s all ns (λ m j. within m (further_in n m ns j)) x)
-    (Contains-append_cases (node_where n.key (refined (marks words) words instr s n.state)) (refined_nodes words instr s ns) x h)
+pub from_refined : (image : Image) (instr : Instr) (s : AbsState) (all nodes : List Node) → ((n : Node) → Contains nodes n → Contains all n) → (x : Node)
+    → Contains (refined_nodes image instr s nodes) x → IsOf image instr s all x
+from_refined image instr s all [] within x h = absurd (none_in x h)
+from_refined image instr s all (n ∷ ns) within x h =
+    ⊎_elim (of_where image instr s all n (within n (first_in n ns)) (refined (marks image) image instr s n.state) refl x)
+    (from_refined image instr s all ns (λ m j. within m (further_in n m ns j)) x)
+    (Contains-append_cases (node_where n.key (refined (marks image) image instr s n.state)) (refined_nodes image instr s ns) x h)
 
 -- a refined state is one of a node
-pub refined_bare : {device : Device} (words : Program) (instr : Instr) (n : ℕ) (s : AbsState) (k : NodeKey) (t u : AbsState) → HasRegisters instr → IsFormed s n → IsBare device k t
-    → refined (marks words) words instr s t ≡ Some u → IsBare device k u
-refined_bare words instr n s k t u has formed h e =
-    let like = refined_is_ordered.like (marks words) words instr s t u e in
+pub refined_bare : {device : Device} (image : Image) (instr : Instr) (n : ℕ) (s : AbsState) (k : NodeKey) (t u : AbsState) → HasRegisters instr → IsFormed s n → IsBare device k t
+    → refined (marks image) image instr s t ≡ Some u → IsBare device k u
+refined_bare image instr n s k t u has formed h e =
+    let like = refined_is_ordered.like (marks image) image instr s t u e in
     record {
       word = h.word;
       small = h.small;
       masks = h.masks;
       fits = h.fits;
       pick = h.pick;
-      formed = refined_is_ordered.formed (marks words) words instr n (offset_of k.sp) s t u has formed h.formed e;
-      tags = refined_is_ordered.tags (marks words) words instr n (offset_of k.sp) s t u has formed h.formed h.tags e;
+      formed = refined_is_ordered.formed (marks image) image instr n (offset_of k.sp) s t u has formed h.formed e;
+      tags = refined_is_ordered.tags (marks image) image instr n (offset_of k.sp) s t u has formed h.formed h.tags e;
       carry_bytes = subst (λ f. HasByteNumbers f.carry) (sym like.flags) h.carry_bytes;
-      untagged = λ root. refined_is_ordered.untagged (marks words) words instr n (offset_of k.sp) s t u has formed h.formed (h.untagged root) e;
+      untagged = λ root. refined_is_ordered.untagged (marks image) image instr n (offset_of k.sp) s t u has formed h.formed (h.untagged root) e;
     }
 
 -- ---- where something may be left

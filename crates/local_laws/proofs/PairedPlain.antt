@@ -8,7 +8,7 @@ use Rattle.avr_model.specs.declared.instruction.Instr.TheVariants as i
 use Rattle.avr_model.specs.declared.instruction.BinaryOp.{BinaryOp}
 use Rattle.avr_model.specs.declared.instruction.BinaryOp.TheVariants as binary
 use Rattle.avr_model.specs.Assumptions.{is_frame}
-use Rattle.avr_model.specs.Devices.{Program}
+use Rattle.avr_model.specs.Devices.{Image}
 use Rattle.bit_domain.specs.declared.bits.Tri.{Tri}
 use Rattle.bit_domain.specs.declared.bits.Tri.TheVariants.{Zero}
 use Rattle.bit_domain.specs.TriByte.{tri_at, byte_constant}
@@ -22,7 +22,7 @@ use Rattle.abs_state.specs.Order.{IsByteWithin}
 use Rattle.pair_rules.specs.Fits.{HasRegisters, CoversFlash, CoversDoubled, CoversTold, IsPlain}
 use Rattle.pair_rules.specs.Values.{doubled_value, z_of}
 use Rattle.pair_laws.proofs.AllLaws.{values_are_covered}
-use Rattle.mask_states.specs.declared.keys.NodeKey.{NodeKey}
+use Rattle.node_keys.specs.declared.keys.NodeKey.{NodeKey}
 use Rattle.local_rules.specs.declared.computed.Computed.{Computed}
 use Rattle.local_rules.specs.declared.local.Node.{Node}
 use Rattle.local_rules.specs.Raw.{Raw, one}
@@ -41,10 +41,10 @@ only_one P k s h = each_of P (record { key = k; state = s }) [] h (λ n i. absur
 
 -- ---- a byte of flash
 
-flash_covers : (words : Program) (p : PairSet) (a b : Option ℕ) → byte_constant p.low.bits ≡ a → byte_constant p.high.bits ≡ b → CoversFlash words p (flash_value words (word_of a b))
-flash_covers words p None b lo hi = values_are_covered.unknown words p
-flash_covers words p (Some x) None lo hi = values_are_covered.unknown words p
-flash_covers words p (Some x) (Some y) lo hi = values_are_covered.constant words p x y lo hi
+flash_covers : (image : Image) (p : PairSet) (a b : Option ℕ) → byte_constant p.low.bits ≡ a → byte_constant p.high.bits ≡ b → CoversFlash image p (flash_value image (word_of a b))
+flash_covers image p None b lo hi = values_are_covered.unknown image p
+flash_covers image p (Some x) None lo hi = values_are_covered.unknown image p
+flash_covers image p (Some x) (Some y) lo hi = values_are_covered.constant image p x y lo hi
 
 -- ---- a register and itself
 

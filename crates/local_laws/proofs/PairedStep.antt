@@ -3,7 +3,7 @@ use Rattle.std.proofs.Common.{◌≡◌, refl, sym, subst, ap, ap₂, ◌∙◌,
 use Rattle.std.specs.Prelude.{⊤}
 use Rattle.avr_model.specs.Masks.{reads_masks}
 use Rattle.avr_model.proofs.AllLaws.{devices_are_alike}
-use Rattle.avr_model.specs.Devices.{Program, image, wrapped}
+use Rattle.avr_model.specs.Devices.{Image, image_of, wrapped}
 use Rattle.avr_model.specs.Image.{word_at}
 use Rattle.avr_model.specs.Marks.{marks}
 use Rattle.avr_model.specs.Table.{length_of}
@@ -33,8 +33,8 @@ use Rattle.pair_laws.proofs.AllLaws.{operands_fit, refined_holds, refined_is_ord
 use Rattle.pair_cuts.specs.Cuts.{flag_cut, bit_cut, equal_cut}
 use Rattle.pair_cut_laws.specs.Laws.{StandsFor, IsLeftOf}
 use Rattle.pair_cut_laws.proofs.AllLaws.{flags_are_cut, bits_are_cut, equals_are_cut}
-use Rattle.mask_states.specs.declared.keys.NodeKey.{NodeKey}
-use Rattle.mask_states.specs.Keys.{offset_of}
+use Rattle.node_keys.specs.declared.keys.NodeKey.{NodeKey}
+use Rattle.node_keys.specs.Keys.{offset_of}
 use Rattle.local_rules.specs.declared.local.Node.{Node}
 use Rattle.local_rules.specs.Raw.{Raw, all_of, next, further as node_further}
 use Rattle.local_rules.specs.Registers.{value, before}
@@ -73,7 +73,7 @@ IsStored (i.Cbi a b) = ⊤
 IsStored (i.Sbi a b) = ⊤
 IsStored _ = ⊥
 
-module _ (words : Program) (s : AbsState) (f : PairFacts) where
+module _ (image : Image) (s : AbsState) (f : PairFacts) where
   same_tags : (instr : Instr) → IsStored instr → (y : Option PairFacts) → tagged s.registers f instr y ≡ y
   same_tags instr is None = refl
   same_tags (i.Std b q r) is (Some g) = refl
@@ -86,7 +86,7 @@ module _ (words : Program) (s : AbsState) (f : PairFacts) where
   abbrev with_facts : AbsState → Option PairFacts → Option AbsState
   with_facts t x = Some (record t { facts = x })
 
-  store_refined : (instr : Instr) → IsStored instr → (t : AbsState) → refined_known (marks words) words instr s t (Some f) ≡ Some t
+  store_refined : (instr : Instr) → IsStored instr → (t : AbsState) → refined_known (marks image) image instr s t (Some f) ≡ Some t
   store_refined (i.Std b q r) is t = ap (with_facts t) (same_tags (i.Std b q r) tt t.facts)
   store_refined (i.Sts a r) is t = ap (with_facts t) (same_tags (i.Sts a r) tt t.facts)
   store_refined (i.Out a r) is t = ap (with_facts t) (same_tags (i.Out a r) tt t.facts)
@@ -94,13 +94,13 @@ module _ (words : Program) (s : AbsState) (f : PairFacts) where
   store_refined (i.Sbi a b) is t = ap (with_facts t) (same_tags (i.Sbi a b) tt t.facts)
   store_refined instr is t = absurd is
 
-  nodes_same : (instr : Instr) → IsStored instr → s.facts ≡ Some f → (nodes : List Node) → refined_nodes words instr s nodes ≡ nodes
+  nodes_same : (instr : Instr) → IsStored instr → s.facts ≡ Some f → (nodes : List Node) → refined_nodes image instr s nodes ≡ nodes
   nodes_same instr is e [] = refl
   nodes_same instr is e (n ∷ ns) =
-      let here : refined (marks words) words instr s n.state ≡ Some n.state = ap (refined_known (marks words) words instr s n.state) e ∙ store_refined instr is n.state in
+      let here : refined (marks image) image instr s n.state ≡ Some n.state = ap (refined_known (marks image) image instr s n.state) e ∙ store_refined instr is n.state in
       ap₂ (λ (x : Option AbsState) (xs : List Node). node_where n.key x ++ xs) here (nodes_same instr is e ns)
 
-  pub stored_same : (instr : Instr) → IsStored instr → s.facts ≡ Some f → (r : Raw) → refining words instr s r ≡ r
+  pub stored_same : (instr : Instr) → IsStored instr → s.facts ≡ Some f → (r : Raw) → refining image instr s r ≡ r
   stored_same instr is e r = ap (λ (nodes : List Node). record r { moves = nodes }) (nodes_same instr is e r.moves)
 
 -- ending facts does not change how a pointer moves
@@ -118,16 +118,16 @@ pub like_parts : (u s : AbsState) → u.flags ≡ s.flags → u.slots ≡ s.slot
 like_parts u s flags slots = ap₂ (λ f l. record u { flags = f; slots = l }) flags slots
 
 module _ (ws : List ℕ) (A : List Entry) (m : State) (o : Origin) (k : NodeKey) (s : AbsState) (at : InBareFrame (reads_masks m.device A) m o k s) (b1 b2 : ℕ) (small : b1 < 256)
-    (other : b2 < 256) (are : AreWords (image m.device ws)) (f : PairFacts) (followed : s.facts ≡ Some f) where
+    (other : b2 < 256) (are : AreWords (image_of m.device ws)) (f : PairFacts) (followed : s.facts ≡ Some f) where
   -- the words, on the machine's device
-  abbrev words : Program
-  words = image m.device ws
+  abbrev image : Image
+  image = image_of m.device ws
 
   abbrev task : Task
-  task = task_with words A
+  task = task_with image A
 
   abbrev scratch : Bool
-  scratch = is_scratch words m.pc
+  scratch = is_scratch image m.pc
 
   abbrev Covered : Instr → Raw → Type 0
   Covered instr r = CoversRow task m o k b1 b2 scratch instr r
@@ -164,13 +164,13 @@ module _ (ws : List ℕ) (A : List Entry) (m : State) (o : Origin) (k : NodeKey)
       (h.0, (h.1.0, (equals_are_cut.leaves d r b one two s h.0 (offset_of k.sp) at.node.formed h.1.0, h.1.1)))
 
   skip_is : (test : Bool) (r : Raw)
-      → Follows (reads_masks m.device A) m o k (not scratch) b1 b2 (going_to m (if test then further m (1 + length_of (word_at words (m.pc + 1))) else further m 1)) r
-      → Follows (reads_masks m.device A) m o k (not scratch) b1 b2 (skipping words m test) r
+      → Follows (reads_masks m.device A) m o k (not scratch) b1 b2 (going_to m (if test then further m (1 + length_of (word_at image (m.pc + 1))) else further m 1)) r
+      → Follows (reads_masks m.device A) m o k (not scratch) b1 b2 (skipping image m test) r
   skip_is true r h = h
   skip_is false r h = h
 
-  past_is : wrapped m.device (further m (1 + length_of (word_at words (m.pc + 1)))) ≡ node_further m.device k (1 + length_of (word_at words (k.pc + 1)))
-  past_is = devices_are_alike.twice m.device (m.pc + (1 + length_of (word_at words (m.pc + 1)))) ∙ ap (λ pc. wrapped m.device (pc + (1 + length_of (word_at words (pc + 1))))) at.place.pc
+  past_is : wrapped m.device (further m (1 + length_of (word_at image (m.pc + 1)))) ≡ node_further m.device k (1 + length_of (word_at image (k.pc + 1)))
+  past_is = devices_are_alike.twice m.device (m.pc + (1 + length_of (word_at image (m.pc + 1)))) ∙ ap (λ pc. wrapped m.device (pc + (1 + length_of (word_at image (pc + 1))))) at.place.pc
 
   next_is : wrapped m.device (further m 1) ≡ node_further m.device k 1
   next_is = goes_further m o k s at (not scratch) b1 b2 1
@@ -178,10 +178,10 @@ module _ (ws : List ℕ) (A : List Entry) (m : State) (o : Origin) (k : NodeKey)
   near_is : (t : ℕ) → wrapped m.device (near m.pc t) ≡ wrapped m.device (near k.pc t)
   near_is t = goes_near m o k s at (not scratch) b1 b2 t
 
-  skip_by : (cut : Bool → Option AbsState) (test : Bool) → Left cut test → Follows (reads_masks m.device A) m o k (not scratch) b1 b2 (skipping words m test) (cut_skip words (site_at m.device k s) (cut true) (cut false))
+  skip_by : (cut : Bool → Option AbsState) (test : Bool) → Left cut test → Follows (reads_masks m.device A) m o k (not scratch) b1 b2 (skipping image m test) (cut_skip image (site_at m.device k s) (cut true) (cut false))
   skip_by cut test h =
-      skip_is test (cut_skip words (site_at m.device k s) (cut true) (cut false))
-      (by_test cut test h (further m (1 + length_of (word_at words (m.pc + 1)))) (node_further m.device k (1 + length_of (word_at words (k.pc + 1)))) (further m 1) (node_further m.device k 1) past_is next_is)
+      skip_is test (cut_skip image (site_at m.device k s) (cut true) (cut false))
+      (by_test cut test h (further m (1 + length_of (word_at image (m.pc + 1)))) (node_further m.device k (1 + length_of (word_at image (k.pc + 1)))) (further m 1) (node_further m.device k 1) past_is next_is)
 
   negated : (cut : Bool → Option AbsState) (test : Bool) → Left cut test → Left (λ (b : Bool). cut (not b)) (not test)
   negated cut true h = h
@@ -251,29 +251,29 @@ module _ (ws : List ℕ) (A : List Entry) (m : State) (o : Origin) (k : NodeKey)
 
   -- ---- all rows
 
-  refined_covered : (instr : Instr) → instruction_at words m.pc ≡ Some instr → IsRefinedInstr instr → Covered instr (plain_row task scratch (site_at m.device k s) instr)
-      → Covered instr (refining words instr s (plain_row task scratch (site_at m.device k s) instr))
+  refined_covered : (instr : Instr) → instruction_at image m.pc ≡ Some instr → IsRefinedInstr instr → Covered instr (plain_row task scratch (site_at m.device k s) instr)
+      → Covered instr (refining image instr s (plain_row task scratch (site_at m.device k s) instr))
   refined_covered instr e is h clean unflagged =
       let there = forgetting_at m o k s (written instr) (sets_flags instr) (sets_carry instr) at in
       let le = node_less k (before instr s) (before instr s) there.node there.node (states_are_ordered.same (before instr s)) in
-      let leads = row_less m.device task k (bare_key k s at.node) (before instr s) (before instr s) le scratch instr (instruction_fits words m.pc instr e) clean in
-      refining_follows words are m o k s at b1 b2 (guarding scratch A k.pc instr) instr (operands_fit.fit words m.pc instr e) is (plain_row task scratch (site_at m.device k s) instr)
+      let leads = row_less m.device task k (bare_key k s at.node) (before instr s) (before instr s) le scratch instr (instruction_fits image m.pc instr e) clean in
+      refining_follows image are m o k s at b1 b2 (guarding scratch A k.pc instr) instr (operands_fit.fit image m.pc instr e) is (plain_row task scratch (site_at m.device k s) instr)
       (λ to member. (leads.moves to member).node) (h clean unflagged)
 
-  same_covered : (instr : Instr) → IsStored instr → Covered instr (plain_row task scratch (site_at m.device k s) instr) → Covered instr (refining words instr s (plain_row task scratch (site_at m.device k s) instr))
-  same_covered instr is h = subst (Covered instr) (sym (stored_same words s f instr is followed (plain_row task scratch (site_at m.device k s) instr))) h
+  same_covered : (instr : Instr) → IsStored instr → Covered instr (plain_row task scratch (site_at m.device k s) instr) → Covered instr (refining image instr s (plain_row task scratch (site_at m.device k s) instr))
+  same_covered instr is h = subst (Covered instr) (sym (stored_same image s f instr is followed (plain_row task scratch (site_at m.device k s) instr))) h
 
-  pub paired_covered : (instr : Instr) → instruction_at words m.pc ≡ Some instr → Covered instr (plain_row task scratch (site_at m.device k s) instr) → Covered instr (paired_row task scratch (site_at m.device k s) instr)
+  pub paired_covered : (instr : Instr) → instruction_at image m.pc ≡ Some instr → Covered instr (plain_row task scratch (site_at m.device k s) instr) → Covered instr (paired_row task scratch (site_at m.device k s) instr)
   paired_covered (i.Brbs n t) e h = branch_by n t (nat_lt n 7) refl _ h
   paired_covered (i.Brbc n t) e h = branch_not_by n t (nat_lt n 7) refl _ h
   paired_covered (i.Sbrc r b) e h = λ clean unflagged.
-      let fit = instruction_fits words m.pc (i.Sbrc r b) e in
+      let fit = instruction_fits image m.pc (i.Sbrc r b) e in
       skip_by (λ x. bit_cut r b (not x) s) (not (flag (register m r) b)) (negated (λ x. bit_cut r b x s) (flag (register m r) b) (bit_left r b fit.0 fit.1))
   paired_covered (i.Sbrs r b) e h = λ clean unflagged.
-      let fit = instruction_fits words m.pc (i.Sbrs r b) e in
+      let fit = instruction_fits image m.pc (i.Sbrs r b) e in
       skip_by (λ x. bit_cut r b x s) (flag (register m r) b) (bit_left r b fit.0 fit.1)
   paired_covered (i.Binary binary.Cpse d r) e h = λ clean unflagged.
-      let fit = operands_fit.fit words m.pc (i.Binary binary.Cpse d r) e in
+      let fit = operands_fit.fit image m.pc (i.Binary binary.Cpse d r) e in
       skip_by (λ x. equal_cut d r x s) (register m d == register m r) (equal_left d r fit.0 fit.1)
   paired_covered (i.Binary binary.Cpc d r) e h = refined_covered (i.Binary binary.Cpc d r) e tt h
   paired_covered (i.Binary binary.Sbc d r) e h = refined_covered (i.Binary binary.Sbc d r) e tt h

@@ -21,7 +21,7 @@ use Rattle.abs_state.specs.declared.values.AbsByte.{AbsByte}
 use Rattle.abs_state.specs.declared.state.AbsState.{AbsState}
 use Rattle.abs_state.specs.Laws.{HoldsAt}
 use Rattle.abs_state.specs.Stands.{ByteStands}
-use Rattle.mask_states.specs.declared.keys.NodeKey.{NodeKey}
+use Rattle.node_keys.specs.declared.keys.NodeKey.{NodeKey}
 use Rattle.local_rules.specs.Registers.{value}
 use Rattle.local_rules.specs.Permitted.{may_be, is_in_interval, permits_bytes, permits_number}
 use Rattle.local_laws.proofs.Bare.{InBareFrame}

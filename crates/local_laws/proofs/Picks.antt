@@ -8,7 +8,7 @@ use Rattle.basics.specs.Booleans.{all_three}
 use Rattle.basics.specs.Items.{none_in, first_in, first_or_further}
 use Rattle.basics.specs.Lists.{both_empty}
 use Rattle.abs_alu.proofs.AllLaws.{same_within}
-use Rattle.avr_model.specs.Devices.{Program, words_of, device_of, wrapped}
+use Rattle.avr_model.specs.Devices.{Image, words_of, device_of, wrapped}
 use Rattle.avr_model.specs.declared.device.Device.{Device}
 use Rattle.avr_model.specs.declared.assumption.Entry.{Entry}
 use Rattle.avr_model.specs.declared.effect.Effect.{Effect}
@@ -22,9 +22,9 @@ use Rattle.sp_domain.specs.Tags.{Origin}
 use Rattle.abs_state.specs.declared.state.AbsState.{AbsState}
 use Rattle.abs_state.specs.Stands.{ByteStands}
 use Rattle.abs_state.proofs.AllLaws.{states_are_ordered}
-use Rattle.mask_states.specs.declared.keys.NodeKey.{NodeKey}
-use Rattle.mask_states.specs.declared.keys.Kind.{Kind}
-use Rattle.mask_states.specs.Keys.{offset_of}
+use Rattle.node_keys.specs.declared.keys.NodeKey.{NodeKey}
+use Rattle.node_keys.specs.declared.keys.Kind.{Kind}
+use Rattle.node_keys.specs.Keys.{offset_of}
 use Rattle.local_rules.specs.Raw.{Raw, all_of}
 use Rattle.local_rules.specs.Registers.{value, before}
 use Rattle.local_rules.specs.Local.{row_of, row_at, fetched, below, picks, picking, paired_row, row_by, unlined, split_site}
@@ -50,11 +50,11 @@ pub unlined_some : (A : List Entry) (x : Option ℕ) (jump : ℕ) → unlined A 
 unlined_some A None jump e = absurd (cc)
 unlined_some A (Some y) jump e = (y, refl)
 
-pub site_adds : (words : Program) (a jump : ℕ) → table_site words a ≡ Some jump → is_some_that adds_low (instruction_at words a) ≡ true
+pub site_adds : (image : Image) (a jump : ℕ) → table_site image a ≡ Some jump → is_some_that adds_low (instruction_at image a) ≡ true
 unfolding table_site
-site_adds words a jump e = by (is_some_that adds_low (instruction_at words a)) (is_some_that adds_high (instruction_at words (a + 1))) e
+site_adds image a jump e = by (is_some_that adds_low (instruction_at image a)) (is_some_that adds_high (instruction_at image (a + 1))) e
   where
-    by : (low high : Bool) → (if low && high then ijmp_from words 16 (wrapped (device_of words) (a + 2)) else None) ≡ Some jump → low ≡ true
+    by : (low high : Bool) → (if low && high then ijmp_from image 16 (wrapped (device_of image) (a + 2)) else None) ≡ Some jump → low ≡ true
     by true high e = refl
     by false high e = absurd (cc)
 

@@ -30,11 +30,11 @@ use Rattle.abs_state.specs.declared.values.AbsByte.{AbsByte}
 use Rattle.abs_state.specs.declared.state.AbsState.{AbsState}
 use Rattle.abs_state.specs.Values.{value_at}
 use Rattle.abs_state.specs.Ended.{is_one_of}
-use Rattle.mask_states.specs.declared.keys.NodeKey.{NodeKey}
-use Rattle.mask_states.specs.declared.keys.Kind.{Kind}
-use Rattle.mask_states.specs.declared.keys.Kind.TheVariants.{Root, Call, Vector}
-use Rattle.mask_states.specs.declared.keys.SpForm.{SpForm}
-use Rattle.mask_states.specs.declared.keys.SpForm.TheVariants.{Closed, Open}
+use Rattle.node_keys.specs.declared.keys.NodeKey.{NodeKey}
+use Rattle.node_keys.specs.declared.keys.Kind.{Kind}
+use Rattle.node_keys.specs.declared.keys.Kind.TheVariants.{Root, Call, Vector}
+use Rattle.node_keys.specs.declared.keys.SpForm.{SpForm}
+use Rattle.node_keys.specs.declared.keys.SpForm.TheVariants.{Closed, Open}
 use Rattle.local_rules.specs.declared.computed.Computed.{Computed}
 use Rattle.local_rules.specs.declared.local.Node.{Node}
 use Rattle.local_rules.specs.declared.local.Exit.{Exit}

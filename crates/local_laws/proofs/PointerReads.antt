@@ -24,7 +24,7 @@ use Rattle.abs_state.specs.Values.{untagged, valued, set_of}
 use Rattle.abs_state.specs.Frames.{with_tag}
 use Rattle.abs_state.proofs.AllLaws.{bits_make_values, any_stands}
 use Rattle.abs_state.specs.Stands.{ByteStands, RegistersStand}
-use Rattle.mask_states.specs.declared.keys.NodeKey.{NodeKey}
+use Rattle.node_keys.specs.declared.keys.NodeKey.{NodeKey}
 use Rattle.local_rules.specs.declared.pointers.Pointed.{Pointed}
 use Rattle.local_rules.specs.HighBytes.{view_by, low_number}
 use Rattle.local_rules.specs.Registers.{value, bits, high_tag_of, down_by, pair_tags, pair_moved}

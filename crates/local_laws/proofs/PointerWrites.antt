@@ -24,11 +24,11 @@ use Rattle.pair_domain.specs.Rank.{KnownFits}
 use Rattle.abs_state.specs.declared.values.AbsByte.{AbsByte}
 use Rattle.abs_state.specs.declared.state.AbsState.{AbsState}
 use Rattle.abs_state.specs.Stands.{ByteStands, RegistersStand}
-use Rattle.mask_states.specs.declared.keys.NodeKey.{NodeKey}
-use Rattle.mask_states.specs.Keys.{offset_of}
-use Rattle.mask_states.specs.Place.{AreAmong, EnablesAre}
-use Rattle.mask_states.specs.Wakes.{may_enable_other, widened}
-use Rattle.mask_states.proofs.AllLaws.{enables_stay_among}
+use Rattle.node_keys.specs.declared.keys.NodeKey.{NodeKey}
+use Rattle.node_keys.specs.Keys.{offset_of}
+use Rattle.node_keys.specs.Place.{AreAmong, EnablesAre}
+use Rattle.node_keys.specs.Wakes.{may_enable_other, widened}
+use Rattle.node_keys.proofs.AllLaws.{enables_stay_among}
 use Rattle.local_rules.specs.declared.local.Node.{Node}
 use Rattle.local_rules.specs.HighBytes.{view_by}
 use Rattle.local_rules.specs.Raw.{Raw, at_word, one, all_of}

@@ -2,7 +2,7 @@
 use Rattle.std.proofs.Common.{◌≡◌, refl, sym, ◌∙◌, subst, ℕ, zero, suc, ◌+◌, ◌==◌, Bool, true, false, List, [], Option, Some, None, if◌then◌else◌, nat_lt, nat_le, Contains}
 use Rattle.std.specs.List.Sorted.{IsStrictlySortedBy}
 use Rattle.basics.specs.Items.{none_in}
-use Rattle.avr_model.specs.Devices.{Program, size_of, back_of}
+use Rattle.avr_model.specs.Devices.{Image, size_of, back_of}
 use Rattle.avr_model.specs.declared.device.Device.{Device}
 use Rattle.avr_model.specs.declared.assumption.Entry.{Entry}
 use Rattle.avr_model.specs.Assumptions.{is_fixed_site}
@@ -13,10 +13,10 @@ use Rattle.bit_domain.specs.TriByte.{tri_at}
 use Rattle.abs_state.specs.declared.values.AbsByte.{AbsByte}
 use Rattle.abs_state.specs.declared.state.AbsState.{AbsState}
 use Rattle.vector_table.specs.Entries.{AreEntries}
-use Rattle.mask_states.specs.declared.keys.NodeKey.{NodeKey}
-use Rattle.mask_states.specs.declared.keys.High.{High}
-use Rattle.mask_states.specs.declared.keys.SpForm.{SpForm}
-use Rattle.mask_states.specs.declared.keys.SpForm.TheVariants.{Closed, Open}
+use Rattle.node_keys.specs.declared.keys.NodeKey.{NodeKey}
+use Rattle.node_keys.specs.declared.keys.High.{High}
+use Rattle.node_keys.specs.declared.keys.SpForm.{SpForm}
+use Rattle.node_keys.specs.declared.keys.SpForm.TheVariants.{Closed, Open}
 use Rattle.local_rules.specs.declared.local.CallSite.{CallSite}
 use Rattle.local_rules.specs.Raw.{Raw, untracked_if, too_deep_if}
 use Rattle.local_rules.specs.Registers.{carry_bit, going_by, interrupts_row, flag_row}
@@ -27,7 +27,7 @@ use Rattle.local_rules.specs.Local.{loading}
 use Rattle.local_laws.specs.Laws.{LeadsToWords, AscendByEntry}
 use Rattle.local_rules.specs.Site.{Task, site_at}
 use Rattle.local_rules.specs.Writes.{write_at}
-use Rattle.mask_states.specs.Wakes.{widened}
+use Rattle.node_keys.specs.Wakes.{widened}
 use Rattle.local_rules.specs.Raw.{off_table}
 use Rattle.local_rules.specs.HighBytes.{view_by}
 use Rattle.local_rules.specs.Reads.{pointed}
@@ -77,7 +77,7 @@ carry_quiet k s Any set clear = (refl, refl)
 pub flag_branch_quiet : (n : ℕ) (k : NodeKey) (s : AbsState) (set clear : ℕ) (other : Raw) → Quiet other → Quiet (flag_branch n (record { key = k; state = s }) set clear other)
 flag_branch_quiet n k s set clear other h = if_quiet (n == 0) (carry_branch (carry_bit s) k s set clear) other (carry_quiet k s (carry_bit s) set clear) h
 
-pub skipping_quiet : (device : Device) (words : Program) (j k : NodeKey) (s : AbsState) (t : Tri) → Quiet (skipping words (site_at device j s) j k t)
+pub skipping_quiet : (device : Device) (words : Image) (j k : NodeKey) (s : AbsState) (t : Tri) → Quiet (skipping words (site_at device j s) j k t)
 skipping_quiet device words j k s t = ways_quiet j k s t _ _
 
 pub going_by_quiet : (device : Device) (k : NodeKey) (s : AbsState) (c : Option Computed) (r : Raw) → Quiet r → Quiet (going_by (site_at device k s) c r)

@@ -30,12 +30,12 @@ use Rattle.abs_state.specs.declared.state.AbsState.{AbsState}
 use Rattle.abs_state.specs.Values.{untagged, unknown, known, valued, set_of}
 use Rattle.abs_state.proofs.AllLaws.{bits_make_values, any_stands}
 use Rattle.abs_state.specs.Stands.{ByteStands, EntryHolds, SlotStands}
-use Rattle.mask_states.specs.declared.keys.NodeKey.{NodeKey}
-use Rattle.mask_states.specs.declared.keys.Kind.{Kind}
-use Rattle.mask_states.specs.declared.keys.Kind.TheVariants.{Root, Call, Vector}
-use Rattle.mask_states.specs.declared.keys.SpForm.{SpForm}
-use Rattle.mask_states.specs.declared.keys.SpForm.TheVariants.{Closed, Open}
-use Rattle.mask_states.specs.Place.{EnablesAre, SpIs}
+use Rattle.node_keys.specs.declared.keys.NodeKey.{NodeKey}
+use Rattle.node_keys.specs.declared.keys.Kind.{Kind}
+use Rattle.node_keys.specs.declared.keys.Kind.TheVariants.{Root, Call, Vector}
+use Rattle.node_keys.specs.declared.keys.SpForm.{SpForm}
+use Rattle.node_keys.specs.declared.keys.SpForm.TheVariants.{Closed, Open}
+use Rattle.node_keys.specs.Place.{EnablesAre, SpIs}
 use Rattle.local_rules.specs.Registers.{with_bits}
 use Rattle.local_rules.specs.Reads.{sp_low, sp_high, flags_tag, sreg_value, enable_read, io_tri, free_tri, io_bits, kept_bits, value_of, slot_read, read_at}
 use Rattle.local_laws.proofs.Bare.{InBareFrame}

@@ -20,10 +20,10 @@ use Rattle.abs_state.specs.declared.state.AbsState.{AbsState}
 use Rattle.abs_state.specs.Stands.{ByteStands, SlotStands, SlotsStand}
 use Rattle.abs_state.specs.Laws.{Keeps}
 use Rattle.abs_state.proofs.AllLaws.{slots_follow, any_stands}
-use Rattle.mask_states.specs.declared.keys.NodeKey.{NodeKey}
-use Rattle.mask_states.specs.declared.keys.SpForm.TheVariants.{Closed}
-use Rattle.mask_states.specs.Keys.{offset_of}
-use Rattle.mask_states.specs.Place.{SpIs}
+use Rattle.node_keys.specs.declared.keys.NodeKey.{NodeKey}
+use Rattle.node_keys.specs.declared.keys.SpForm.TheVariants.{Closed}
+use Rattle.node_keys.specs.Keys.{offset_of}
+use Rattle.node_keys.specs.Place.{SpIs}
 use Rattle.local_rules.specs.declared.local.NodeFault.TheVariants.{TooDeep}
 use Rattle.local_rules.specs.Raw.{Raw, fails, next, at_word, further as node_further}
 use Rattle.local_rules.specs.Registers.{value, set as node_set}

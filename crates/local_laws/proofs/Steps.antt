@@ -10,12 +10,12 @@ use Rattle.avr_model.specs.Sites.{instruction_at}
 use Rattle.avr_model.specs.Sreg.{flag}
 use Rattle.avr_model.specs.State.{State}
 use Rattle.avr_model.specs.Step.{Answer, Undefined, Overflow, Done, after, all_inside, live_write, protected_write, unlisted_transfer, refused_transfer, first_of, deep_call, moves_vectors, is_guarding, flag_by, flagged_or, is_refused, go}
-use Rattle.avr_model.specs.Devices.{Program, device_of}
+use Rattle.avr_model.specs.Devices.{Image, device_of}
 use Rattle.sp_domain.specs.Tags.{Origin}
 use Rattle.abs_state.specs.declared.state.AbsState.{AbsState}
 use Rattle.pair_domain.proofs.AllLaws.{known_is_ordered}
 use Rattle.abs_state.proofs.AllLaws.{values_say_less}
-use Rattle.mask_states.specs.declared.keys.NodeKey.{NodeKey}
+use Rattle.node_keys.specs.declared.keys.NodeKey.{NodeKey}
 use Rattle.local_rules.specs.declared.local.Node.{Node}
 use Rattle.local_rules.specs.declared.local.NodeFault.{NodeFault}
 use Rattle.local_rules.specs.declared.local.Local.{Local}
@@ -63,11 +63,11 @@ inside_if_let false None h e = h
 inside_if_let false (Some t) h e = absurd (cc)
 
 -- a transfer that isn't refused is listed
-listed_if_let : (words : Program) (A : List Entry) (m : State) (instr : Instr) (e : Effect) → refused_transfer words A m instr e ≡ None → unlisted_transfer A m.pc instr e ≡ None
+listed_if_let : (image : Image) (A : List Entry) (m : State) (instr : Instr) (e : Effect) → refused_transfer image A m instr e ≡ None → unlisted_transfer A m.pc instr e ≡ None
 unfolding refused_transfer
-listed_if_let words A m instr e h = by (unlisted_transfer A m.pc instr e) h
+listed_if_let image A m instr e h = by (unlisted_transfer A m.pc instr e) h
   where
-    by : (listed : Option ℕ) → first_of listed (deep_call words A m instr e) ≡ None → listed ≡ None
+    by : (listed : Option ℕ) → first_of listed (deep_call image A m instr e) ≡ None → listed ≡ None
     by None is = refl
     by (Some t) is = absurd (cc)
 

@@ -12,7 +12,7 @@ use Rattle.avr_model.specs.declared.effect.Write.{Write}
 use Rattle.avr_model.specs.declared.effect.Effect.{Effect}
 use Rattle.avr_model.specs.Bits.{number_of}
 use Rattle.avr_model.specs.Sreg.{flag}
-use Rattle.avr_model.specs.Vectors.{enable_count, is_core_by, has_enables, place_at, written_enable, written_enables}
+use Rattle.avr_model.specs.Vectors.{enable_count, is_core_by, has_enables, enable_place_at, written_enable, written_enables}
 use Rattle.avr_model.specs.State.{State, SPL, SPH, SREG, is_sph, low, high, i_flag}
 use Rattle.avr_model.specs.Effects.{set, delay_of_out}
 use Rattle.avr_model.specs.Step.{after, with_registers, registers_after, sreg_after}
@@ -38,12 +38,12 @@ use Rattle.abs_state.specs.Laws.{Keeps, HoldsAt}
 use Rattle.abs_state.specs.Ended.{is_one_of, ended, written_hull}
 use Rattle.abs_state.specs.Stands.{ByteStands, EntryHolds, FlagsStand, RegistersStand}
 use Rattle.abs_state.proofs.AllLaws.{bits_make_values, values_say_less, slots_follow, writes_end_facts}
-use Rattle.mask_states.specs.declared.keys.NodeKey.{NodeKey}
-use Rattle.mask_states.specs.declared.keys.High.{High}
-use Rattle.mask_states.specs.declared.keys.SpForm.TheVariants.{Closed, Open}
-use Rattle.mask_states.specs.Keys.{offset_of}
-use Rattle.mask_states.specs.Place.{EnablesAre, SpIs}
-use Rattle.mask_states.specs.Splits.{splits}
+use Rattle.node_keys.specs.declared.keys.NodeKey.{NodeKey}
+use Rattle.node_keys.specs.declared.keys.High.{High}
+use Rattle.node_keys.specs.declared.keys.SpForm.TheVariants.{Closed, Open}
+use Rattle.node_keys.specs.Keys.{offset_of}
+use Rattle.node_keys.specs.Place.{EnablesAre, SpIs}
+use Rattle.node_keys.specs.Splits.{splits}
 use Rattle.local_rules.specs.declared.local.Node.{Node}
 use Rattle.local_rules.specs.declared.local.NodeFault.TheVariants.{TooDeep}
 use Rattle.local_rules.specs.Raw.{Raw, at_word, one, fails}
@@ -94,7 +94,7 @@ by_bits n x f h same =
 pub enables_kept : (device : Device) (enables a byte : ℕ) → enables < 2 ^ enable_count device → has_enables device a ≡ false → written_enables device enables a byte ≡ enables
 unfolding written_enables
 enables_kept device enables a byte small h =
-    by_bits (enable_count device) enables (λ k. written_enable (place_at device (k + 2) a) byte (bit_at enables k)) small
+    by_bits (enable_count device) enables (λ k. written_enable (enable_place_at device (k + 2) a) byte (bit_at enables k)) small
     (λ j lt. sym (ap (λ p. written_enable p byte (bit_at enables j)) (enables_are_vectors.none device (j + 2) a h)))
 
 above_registers : (device : Device) (a : ℕ) → a < 0x20 → has_enables device a ≡ false

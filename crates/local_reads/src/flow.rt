@@ -9,7 +9,7 @@ ghost use Rattle.bit_domain.specs.declared.bits.Tri.TheVariants.{Any};
 ghost use Rattle.local_rules.specs.Registers as registers;
 ghost use Rattle.local_rules.specs.Raw as raw;
 ghost use Rattle.local_rules.specs.Reads as reads;
-ghost use Rattle.local_rules.specs.Flow.{words_on, reading_zero};
+ghost use Rattle.local_rules.specs.Flow.{words_on, z_with, reading_zero};
 
 use crate::reads::read_at;
 use abs_state::AbsState;
@@ -18,15 +18,15 @@ use avr_model::instruction::{Base, Bit, LowPort, Register, Six};
 use bit_domain::{Tri, TriByte};
 use local_rows::registers::{bits, pair};
 use local_rows::transfer::base_register;
-use mask_states::{NodeKey, without};
+use node_keys::{NodeKey, without};
 use vector_table::held_of;
 
 /// The word this many words further on, modulo the number of words.
-#[tactic(auto, using(avr_model::proofs::AllLaws::devices_are_alike))]
-pub fn further(device: Device, key: &NodeKey, words: u16) -> u16
+#[tactic(auto, using(crate::proofs::Permitted::of_32))]
+pub fn further(device: Device, key: &NodeKey, words: u16) -> u32
     ensures { result ≡ raw.further device key.now words }
 {
-    device.wrap(u32::from(key.pc) + u32::from(words))
+    device.wrap(key.pc.wrapping_add(u32::from(words)))
 }
 
 /// The data address of an I/O address.
@@ -70,24 +70,30 @@ pub fn register_bit(state: &AbsState, r: Register, bit: Bit) -> Tri
     bits(state, r).bit(bit.get() as u8)
 }
 
-// The high byte with all bits beyond a word address unknown.
-fn high_byte(device: Device, hi: TriByte) -> TriByte
-    ensures { (i : ℕ) → i < 8 → tri_at result i ≡ (if nat_lt (i + 8) (width device) then tri_at hi i else Any) }
+// The byte of a pointer above so many bits, with all bits beyond a word address unknown.
+fn opened(device: Device, byte: TriByte, below: u8) -> TriByte
+    ensures { (i : ℕ) → i < 8 → tri_at result i ≡ (if nat_lt (i + below) (width device) then tri_at byte i else Any) }
 {
-    let mut byte = hi;
-    for bit in device.width() - 8..8 {
-        byte = byte.with(bit, Tri::Any);
+    let mut opened = byte;
+    for bit in device.width().saturating_sub(below)..8 {
+        opened = opened.with(bit, Tri::Any);
     }
-    byte
+    opened
 }
 
-/// Whether an indirect transfer may go to this word.
-pub fn is_target(device: Device, state: &AbsState, word: u16) -> bool
-    ensures { result ≡ lists (words_on device (registers.bits state.now 30) (registers.bits state.now 31)) word }
+/// Whether an indirect transfer may go to this word, with this third byte above Z.
+pub fn is_target(device: Device, state: &AbsState, bank: TriByte, word: u32) -> bool
+    ensures { result ≡ lists (words_on device (z_with state.now bank)) word }
 {
     let (low, high) = pair(state, base_register(Base::Z));
-    if u32::from(word) >= device.words() {
+    if word >= device.words() {
         return false;
     }
-    low.bits.has((word % 256) as u8) && high_byte(device, high.bits).has((word / 256) as u8)
+    if !low.bits.has((word % 256) as u8) {
+        return false;
+    }
+    if !opened(device, high.bits, 8).has((word / 256 % 256) as u8) {
+        return false;
+    }
+    opened(device, bank, 16).has((word / 65_536) as u8)
 }

@@ -7,7 +7,7 @@ use crate::pointers::has;
 use abs_state::{AbsByte, AbsState};
 use avr_model::instruction::LowRegister;
 use local_rows::registers::pair;
-use pair_told::told::interval_of;
+use pair_rows::told::interval_of;
 
 /// Whether the byte is possible: the bits permit it, and it lies in the range.
 pub fn may_be(value: AbsByte, byte: u8) -> bool

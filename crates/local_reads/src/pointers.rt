@@ -16,7 +16,7 @@ use flash_image::Flash;
 use local_rows::high_bytes::pair_tags;
 use local_rows::registers::pair;
 use local_rules::{Pointed, SpView};
-use mask_states::NodeKey;
+use node_keys::NodeKey;
 use sp_domain::{Tag, frame};
 
 /// The change of a pointer before the access, modulo 65,536: `-P` subtracts one.

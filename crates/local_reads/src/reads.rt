@@ -14,7 +14,7 @@ use bit_domain::{Tri, TriByte};
 use local_rows::bits::tri_of;
 use local_rows::registers::value;
 use local_rows::status::sreg_value;
-use mask_states::{Kind, NodeKey};
+use node_keys::{Kind, NodeKey};
 use sp_domain::Slot;
 use vector_table::{Masks, enable_of, held_of, is_ivsel};
 

@@ -1,7 +1,7 @@
 //! Stores through a pointer that may enable a vector.
 
 ghost use Rattle.std.specs.Prelude.{◌≡◌};
-ghost use Rattle.mask_states.specs.Wakes.{may_enable_other};
+ghost use Rattle.node_keys.specs.Wakes.{may_enable_other};
 ghost use Rattle.local_reads.specs.Waking.{is_permitted, may_enable_reached};
 
 use crate::members::permits_number;
@@ -9,8 +9,8 @@ use abs_state::AbsState;
 use avr_model::device::Device;
 use avr_model::instruction::LowRegister;
 use bit_domain::TriByte;
-use mask_states::may_enable;
-use vector_table::{Assumptions, Place, is_barred};
+use node_keys::may_enable;
+use vector_table::{Assumptions, EnablePlace, is_barred};
 
 /// A byte that is stored through a pointer.
 #[derive(Clone, Copy)]
@@ -30,7 +30,7 @@ pub struct PointerByte<'a> {
 }
 
 // Whether the byte may go to the place, and enable its vector.
-fn may_enable_reached(byte: &PointerByte<'_>, place: &Place) -> bool
+fn may_enable_reached(byte: &PointerByte<'_>, place: &EnablePlace) -> bool
     ensures { result ≡ may_enable_reached (is_permitted byte.now) byte.now.bits place.now }
 {
     let number = place.address.wrapping_sub(byte.up);
@@ -41,7 +41,7 @@ fn may_enable_reached(byte: &PointerByte<'_>, place: &Place) -> bool
 pub fn may_enable_other(byte: &PointerByte<'_>) -> bool
     ensures { result ≡ may_enable_other byte.now.device byte.now.assumptions.now (is_permitted byte.now) byte.now.bits }
 {
-    for place in byte.device.places() {
+    for place in byte.device.enable_places() {
         if may_enable_reached(byte, place)
             && !is_barred(byte.device, byte.assumptions, place.vector)
         {

@@ -3,7 +3,7 @@
 ghost use Rattle.std.specs.Prelude.{◌≡◌};
 ghost use Rattle.local_rules.specs.FrameLines.{binary_at, immediate_at, unary_at};
 ghost use Rattle.local_rules.specs.Registers.{binary_after};
-ghost use Rattle.local_rows.specs.Sections.{IsRow};
+ghost use Rattle.local_rows.specs.Sections.{IsSectionRow};
 ghost use Rattle.local_rows.specs.Sections as sections;
 
 use crate::arithmetic::{
@@ -133,7 +133,7 @@ pub fn binary_at(
 /// instructions, and for loads.
 pub fn computed_by(view: SpView, line: bool, state: &AbsState, instr: &Instr) -> Option<Computed>
     ensures value { result ≡ sections.computed_by view line state.now instr.now }
-    ensures row { IsRow view line state.now instr.now result }
+    ensures row { IsSectionRow view line state.now instr.now result }
 {
     // one place for the result of all instructions: each further one would be cleared at each call
     let computed = match instr {

@@ -17,15 +17,15 @@ use Rattle.abs_state.specs.Laws.{Keeps, HoldsAt}
 use Rattle.abs_state.specs.Hulls.{IsInHulls}
 use Rattle.abs_state.specs.Formed.{IsFormed, IsUntagged}
 pub use Rattle.abs_state.specs.Formed.{TagFits, SlotFits, TagsFit}
-use Rattle.mask_states.specs.declared.keys.NodeKey.{NodeKey}
-use Rattle.mask_states.specs.declared.keys.Kind.{Kind}
-use Rattle.mask_states.specs.declared.keys.Kind.TheVariants.{Root, Call, Vector}
-use Rattle.mask_states.specs.declared.keys.High.{High}
-use Rattle.mask_states.specs.declared.keys.High.TheVariants.{Known, Tag}
-use Rattle.mask_states.specs.declared.keys.SpForm.{SpForm}
-use Rattle.mask_states.specs.declared.keys.SpForm.TheVariants.{Closed, Open}
-use Rattle.mask_states.specs.Keys.{offset_of, PickFits}
-use Rattle.mask_states.specs.Place.{EnablesAre, AtNode}
+use Rattle.node_keys.specs.declared.keys.NodeKey.{NodeKey}
+use Rattle.node_keys.specs.declared.keys.Kind.{Kind}
+use Rattle.node_keys.specs.declared.keys.Kind.TheVariants.{Root, Call, Vector}
+use Rattle.node_keys.specs.declared.keys.High.{High}
+use Rattle.node_keys.specs.declared.keys.High.TheVariants.{Known, Tag}
+use Rattle.node_keys.specs.declared.keys.SpForm.{SpForm}
+use Rattle.node_keys.specs.declared.keys.SpForm.TheVariants.{Closed, Open}
+use Rattle.node_keys.specs.Keys.{offset_of, PickFits}
+use Rattle.node_keys.specs.Place.{EnablesAre, AtNode}
 use Rattle.local_rules.specs.Site.{Task, masks_by}
 use Rattle.local_rules.specs.declared.local.Node.{Node}
 use Rattle.local_rules.specs.declared.local.Local.{Local}

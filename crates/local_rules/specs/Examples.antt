@@ -3,10 +3,10 @@ use Rattle.std.specs.Prelude.{ℕ, ◌≡◌, Bool, true, false, List, [], ◌�
 use Rattle.avr_model.specs.declared.assumption.Entry.TheVariants.{Jump}
 use Rattle.avr_model.specs.Assumptions.{jump_line, is_frame}
 use Rattle.avr_model.specs.Bits.{any_below, all_below}
-use Rattle.avr_model.specs.Devices.{device_row, Program, M328, image, M48}
+use Rattle.avr_model.specs.Devices.{device_row, Image, M328, image_of, M48}
 use Rattle.avr_model.specs.Sites.{is_scratch, table_site, ijmp_from}
 use Rattle.avr_model.specs.Table.{length_of, decoded}
-use Rattle.avr_model.specs.Vectors.{places, place_at}
+use Rattle.avr_model.specs.Vectors.{enable_places, enable_place_at}
 use Rattle.bit_domain.specs.Packed.{packed}
 use Rattle.bit_domain.specs.TriByte.{byte_known, byte_any, permits_below}
 use Rattle.bit_domain.specs.Numbers.{numbers_of}
@@ -18,12 +18,12 @@ use Rattle.sp_domain.specs.declared.slots.Slot.TheVariants.{Free}
 use Rattle.abs_state.specs.declared.state.AbsState.{AbsState}
 use Rattle.abs_state.specs.Values.{root, value_at, unknown, known}
 use Rattle.abs_state.specs.Frames.{entered}
-use Rattle.mask_states.specs.declared.keys.NodeKey.{NodeKey}
-use Rattle.mask_states.specs.declared.keys.Kind.TheVariants.{Root, Call}
-use Rattle.mask_states.specs.declared.keys.SpForm.{SpForm}
-use Rattle.mask_states.specs.declared.keys.SpForm.TheVariants.{Closed, Open}
-use Rattle.mask_states.specs.declared.keys.High.TheVariants.{Tag as Tagged}
-use Rattle.mask_states.specs.Splits.{common_tri, enable_tri}
+use Rattle.node_keys.specs.declared.keys.NodeKey.{NodeKey}
+use Rattle.node_keys.specs.declared.keys.Kind.TheVariants.{Root, Call}
+use Rattle.node_keys.specs.declared.keys.SpForm.{SpForm}
+use Rattle.node_keys.specs.declared.keys.SpForm.TheVariants.{Closed, Open}
+use Rattle.node_keys.specs.declared.keys.High.TheVariants.{Tag as Tagged}
+use Rattle.node_keys.specs.Splits.{common_tri, enable_tri}
 use Rattle.local_rules.specs.declared.local.NodeFault.{NodeFault}
 use Rattle.local_rules.specs.declared.local.NodeFault.TheVariants.{UnresolvedJump, UntrackedSp, Unsupported, TooDeep}
 use Rattle.local_rules.specs.Raw.{Raw}
@@ -34,8 +34,8 @@ use Rattle.local_rules.specs.Site.{task_with}
 use Rattle.local_rules.specs.Local.{below, raw}
 
 -- a firmware of one or two words, followed by erased words
-abbrev firmware : ℕ → ℕ → Program
-firmware w0 w1 = image M328 (w0 ∷ w1 ∷ replicate 16382 0xFFFF)
+abbrev firmware : ℕ → ℕ → Image
+firmware w0 w1 = image_of M328 (w0 ∷ w1 ∷ replicate 16382 0xFFFF)
 
 -- a node at word 0 of the root's frame, or of a call's
 abbrev in_root : SpForm → NodeKey
@@ -119,7 +119,7 @@ abbrev enables : Raw → List ℕ
 enables r = map (λ n. n.key.masks) r.moves
 
 splits_enables : enables (raw (task_with (firmware 0x9300 0x006E) []) (in_root (Closed 0)) root) ≡ 0 ∷ 8192 ∷ 16384 ∷ 24576 ∷ 32768 ∷ 40960 ∷ 49152 ∷ 57344 ∷ []
-unfolding raw table_site ijmp_from is_scratch any_below all_below decoded device_row written_at numbers_of enable_tri place_at places common_tri packed
+unfolding raw table_site ijmp_from is_scratch any_below all_below decoded device_row written_at numbers_of enable_tri enable_place_at enable_places common_tri packed
 splits_enables = refl
 
 -- `eor r0, r0` sets Z whatever r0 holds, and `brbc 1` then has one successor
@@ -220,8 +220,8 @@ keeps_range = refl
 
 -- ---- on the ATmega48PA, which has 2,048 words of flash, 512 bytes of SRAM and no `jmp`
 
-abbrev small : ℕ → ℕ → Program
-small w0 w1 = image M48 (w0 ∷ w1 ∷ replicate 2046 0xFFFF)
+abbrev small : ℕ → ℕ → Image
+small w0 w1 = image_of M48 (w0 ∷ w1 ∷ replicate 2046 0xFFFF)
 
 -- `rjmp .-2` at word 0 goes to the last word
 leads_round : ways (raw (task_with (small 0xCFFE 0xFFFF) []) (in_root (Closed 0)) root) ≡ (2047, Closed 0) ∷ []
@@ -271,8 +271,8 @@ leads_within = refl
 
 -- ---- jump tables: subi r30, sbci r31 and ijmp
 
-abbrev jump_table : Program
-jump_table = image M328 (0x5FE9 ∷ 0x4FFF ∷ 0x9409 ∷ replicate 16381 0xFFFF)
+abbrev jump_table : Image
+jump_table = image_of M328 (0x5FE9 ∷ 0x4FFF ∷ 0x9409 ∷ replicate 16381 0xFFFF)
 
 -- r30 is at most this byte
 abbrev indexed : ℕ → AbsState

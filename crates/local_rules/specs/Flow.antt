@@ -2,7 +2,7 @@
 use Rattle.std.specs.Prelude.{ℕ, zero, suc, ◌+◌, ◌-◌, ◌==◌, Bool, true, false, nat_lt, nat_le, min, max, if◌then◌else◌, List, [], ◌∷◌, ◌++◌, map, filter, take, length, replicate, Option, Some, None}
 use Rattle.avr_model.specs.declared.device.Device.{Device}
 use Rattle.avr_model.specs.declared.assumption.Entry.{Entry}
-use Rattle.avr_model.specs.Devices.{Program, size_of, width, limit_width, back_of}
+use Rattle.avr_model.specs.Devices.{Image, size_of, width, limit_width, back_of}
 use Rattle.avr_model.specs.Image.{word_at}
 use Rattle.avr_model.specs.Table.{length_of}
 use Rattle.avr_model.specs.Assumptions.{jump_line, lists}
@@ -11,8 +11,8 @@ use Rattle.bit_domain.specs.declared.bits.Tri.{Tri}
 use Rattle.bit_domain.specs.declared.bits.Tri.TheVariants.{Zero, One, Any}
 use Rattle.bit_domain.specs.declared.bytes.TriByte.{TriByte}
 use Rattle.bit_domain.specs.Tri.{tri_not}
-use Rattle.bit_domain.specs.TriByte.{tri_at}
-use Rattle.bit_domain.specs.Numbers.{numbers_of, pointer_bit, targets_of}
+use Rattle.bit_domain.specs.TriByte.{tri_at, byte_known}
+use Rattle.bit_domain.specs.Numbers.{PointerBits, numbers_of, pointer_bit, targets_of}
 use Rattle.sp_domain.specs.declared.tags.CarryTag.{CarryTag}
 use Rattle.sp_domain.specs.declared.tags.CarryTag.TheVariants as carry
 use Rattle.sp_domain.specs.declared.slots.Slot.{Slot}
@@ -20,12 +20,12 @@ use Rattle.sp_domain.specs.declared.slots.Slot.TheVariants.{Free, Guarded}
 use Rattle.sp_domain.specs.Slots.{slot_at}
 use Rattle.abs_state.specs.declared.values.AbsByte.{AbsByte}
 use Rattle.abs_state.specs.declared.state.AbsState.{AbsState}
-use Rattle.mask_states.specs.declared.keys.NodeKey.{NodeKey}
-use Rattle.mask_states.specs.declared.keys.Kind.{Kind}
-use Rattle.mask_states.specs.declared.keys.Kind.TheVariants.{Root, Call, Vector}
-use Rattle.mask_states.specs.declared.keys.SpForm.{SpForm}
-use Rattle.mask_states.specs.declared.keys.SpForm.TheVariants.{Closed, Open}
-use Rattle.mask_states.specs.Wakes.{without}
+use Rattle.node_keys.specs.declared.keys.NodeKey.{NodeKey}
+use Rattle.node_keys.specs.declared.keys.Kind.{Kind}
+use Rattle.node_keys.specs.declared.keys.Kind.TheVariants.{Root, Call, Vector}
+use Rattle.node_keys.specs.declared.keys.SpForm.{SpForm}
+use Rattle.node_keys.specs.declared.keys.SpForm.TheVariants.{Closed, Open}
+use Rattle.node_keys.specs.Wakes.{without}
 use Rattle.local_rules.specs.Site.{Site}
 use Rattle.local_rules.specs.declared.local.Node.{Node}
 use Rattle.local_rules.specs.declared.local.CallSite.{CallSite}
@@ -47,16 +47,16 @@ abbrev pub branch : Tri → NodeKey → AbsState → ℕ → ℕ → Raw
 branch t k s taken other = branch_by t (off_table k taken) (off_table k other) s
 
 -- the word past the next instruction, which has one or two words
-abbrev pub past : Program → Site → ℕ
-past words at = further at.device at.key (1 + length_of (word_at words (at.key.pc + 1)))
+abbrev pub past : Image → Site → ℕ
+past image at = further at.device at.key (1 + length_of (word_at image (at.key.pc + 1)))
 
 -- past the next instruction with one key, and to it with the other
-abbrev pub skipping : Program → Site → NodeKey → NodeKey → Tri → Raw
-skipping words at k l t = branch_by t (off_table k (past words at)) (off_table l (further at.device at.key 1)) at.state
+abbrev pub skipping : Image → Site → NodeKey → NodeKey → Tri → Raw
+skipping image at k l t = branch_by t (off_table k (past image at)) (off_table l (further at.device at.key 1)) at.state
 
 -- skips with the same key if the condition holds
-abbrev pub skip_if : Program → Site → Tri → Raw
-skip_if words at t = skipping words at at.key at.key t
+abbrev pub skip_if : Image → Site → Tri → Raw
+skip_if image at t = skipping image at at.key at.key t
 
 -- The key after this bit of an address reads 0. If reads give it as a vector's enable bit and `may`, the vector is removed.
 abbrev pub reading_zero : Device → Bool → NodeKey → ℕ → ℕ → NodeKey
@@ -110,16 +110,21 @@ flag_turn false n m taken other = flag_branch n m other taken (branch (tri_not (
 -- ---- where an indirect transfer leads
 
 -- the words of permitted targets, modulo the number of words, ascending
-abbrev pub words_on : Device → TriByte → TriByte → List ℕ
-words_on device lo hi = numbers_of (pointer_bit lo hi) (width device)
+abbrev pub words_on : Device → PointerBits → List ℕ
+words_on device p = numbers_of (pointer_bit p) (width device)
 
 -- the listed words that the bits permit; without a line all permitted ones, if the targets below the limit of texts are few
-abbrev pub targets_by : Device → Option (List ℕ) → TriByte → TriByte → Option (List ℕ)
-targets_by device None lo hi = if nat_le (length (targets_of (limit_width device) lo hi)) 64 then Some (words_on device lo hi) else None
-targets_by device (Some listed) lo hi = Some (filter (lists (words_on device lo hi)) listed)
+abbrev pub targets_by : Device → Option (List ℕ) → PointerBits → Option (List ℕ)
+targets_by device None p = if nat_le (length (targets_of (limit_width device) p)) 64 then Some (words_on device p) else None
+targets_by device (Some listed) p = Some (filter (lists (words_on device p)) listed)
 
+-- Z with this third byte
+abbrev pub z_with : AbsState → TriByte → PointerBits
+z_with s bank = record { low = bits s 30; high = bits s 31; bank = bank }
+
+-- `ijmp` and `icall` go to words below 65,536
 abbrev pub targets_at : List Entry → Site → Option (List ℕ)
-targets_at A at = targets_by at.device (jump_line A at.key.pc) (bits at.state 30) (bits at.state 31)
+targets_at A at = targets_by at.device (jump_line A at.key.pc) (z_with at.state (byte_known 0))
 
 abbrev pub jumping : Option (List ℕ) → NodeKey → AbsState → Raw
 jumping None k s = fails (UnresolvedJump k.pc)

@@ -9,8 +9,8 @@ use Rattle.sp_domain.specs.declared.tags.CarryTag.{CarryTag}
 use Rattle.sp_domain.specs.declared.tags.CarryTag.TheVariants as carry
 use Rattle.sp_domain.specs.Tags.{is_same_tag}
 use Rattle.abs_state.specs.declared.values.AbsByte.{AbsByte}
-use Rattle.mask_states.specs.declared.keys.NodeKey.{NodeKey}
-use Rattle.mask_states.specs.Keys.{offset_of}
+use Rattle.node_keys.specs.declared.keys.NodeKey.{NodeKey}
+use Rattle.node_keys.specs.Keys.{offset_of}
 use Rattle.local_rules.specs.Site.{Site}
 use Rattle.local_rules.specs.declared.views.SpView.{SpView as View}
 

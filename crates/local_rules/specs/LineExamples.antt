@@ -4,9 +4,9 @@ use Rattle.avr_model.specs.declared.assumption.Entry.{Entry}
 use Rattle.avr_model.specs.declared.assumption.Entry.TheVariants.{Prove, Free, Never, Frame, Scratch}
 use Rattle.avr_model.specs.Assumptions.{store_line, is_proved, is_freed, is_never, is_frame, has_scratch, is_fixed_site, has_masks}
 use Rattle.avr_model.specs.Masks.{reads_masks, admits_enables}
-use Rattle.avr_model.specs.Vectors.{is_enabled, has_place, places}
+use Rattle.avr_model.specs.Vectors.{is_enabled, has_enable_place, enable_places}
 use Rattle.avr_model.specs.Bits.{any_below, all_below}
-use Rattle.avr_model.specs.Devices.{device_row, M328, image}
+use Rattle.avr_model.specs.Devices.{device_row, M328, image_of}
 use Rattle.avr_model.specs.Sites.{is_scratch, is_fixed, path_behind, is_loaded_behind, table_site, ijmp_from}
 use Rattle.avr_model.specs.Table.{length_of, decoded}
 use Rattle.bit_domain.specs.Packed.{packed}
@@ -22,11 +22,11 @@ use Rattle.abs_state.specs.declared.values.AbsByte.{AbsByte}
 use Rattle.abs_state.specs.declared.state.AbsState.{AbsState}
 use Rattle.abs_state.specs.Values.{root, value_at, known}
 use Rattle.abs_state.specs.Frames.{entered}
-use Rattle.mask_states.specs.declared.keys.NodeKey.{NodeKey}
-use Rattle.mask_states.specs.declared.keys.Kind.TheVariants.{Call}
-use Rattle.mask_states.specs.declared.keys.SpForm.{SpForm}
-use Rattle.mask_states.specs.declared.keys.SpForm.TheVariants.{Closed, Open}
-use Rattle.mask_states.specs.declared.keys.High.TheVariants.{Tag as Tagged}
+use Rattle.node_keys.specs.declared.keys.NodeKey.{NodeKey}
+use Rattle.node_keys.specs.declared.keys.Kind.TheVariants.{Call}
+use Rattle.node_keys.specs.declared.keys.SpForm.{SpForm}
+use Rattle.node_keys.specs.declared.keys.SpForm.TheVariants.{Closed, Open}
+use Rattle.node_keys.specs.declared.keys.High.TheVariants.{Tag as Tagged}
 use Rattle.local_rules.specs.declared.local.NodeFault.{NodeFault}
 use Rattle.local_rules.specs.declared.local.NodeFault.TheVariants.{UntrackedSp, UnknownPointer}
 use Rattle.local_rules.specs.Raw.{Raw}
@@ -52,10 +52,10 @@ state_of lo hi n c = record {
 
 -- the successors of one word there, with and without the line
 abbrev lined : ℕ → AbsState → Raw
-lined word s = raw (task_with (image M328 (word ∷ replicate 16383 0xFFFF)) (Frame 0 ∷ [])) (in_call (Closed 2)) s
+lined word s = raw (task_with (image_of M328 (word ∷ replicate 16383 0xFFFF)) (Frame 0 ∷ [])) (in_call (Closed 2)) s
 
 abbrev plain : ℕ → AbsState → Raw
-plain word s = raw (task_with (image M328 (word ∷ replicate 16383 0xFFFF)) (Frame 1 ∷ [])) (in_call (Closed 2)) s
+plain word s = raw (task_with (image_of M328 (word ∷ replicate 16383 0xFFFF)) (Frame 1 ∷ [])) (in_call (Closed 2)) s
 
 -- the tag of a register, and that of C
 abbrev says : ℕ → Raw → List (Tag × CarryTag)
@@ -151,7 +151,7 @@ steps_low = refl
 -- ---- `free` lines: `ldi r26, 0`, `ldi r27, 1` and `st X, r0`, at the store, where X isn't known
 
 abbrev storing : List Entry → Raw
-storing A = raw (task_with (image M328 (0xE0A0 ∷ 0xE0B1 ∷ 0x920C ∷ replicate 16381 0xFFFF)) A) (record (in_call (Closed 0)) { pc = 2 }) (entered root)
+storing A = raw (task_with (image_of M328 (0xE0A0 ∷ 0xE0B1 ∷ 0x920C ∷ replicate 16381 0xFFFF)) A) (record (in_call (Closed 0)) { pc = 2 }) (entered root)
 
 abbrev leads : Raw → List ℕ × List NodeFault
 leads r = (map (λ n. n.key.pc) r.moves, r.faults)
@@ -176,23 +176,23 @@ is_proved_too = refl
 -- ---- `never` lines: while the pair is open, with TIMER0 COMPA's and OVF's vectors enabled at words 28 and 32
 
 abbrev waiting : List Entry → List NodeFault
-waiting A = (raw (task_with (image M328 (0x0000 ∷ replicate 16383 0xFFFF)) A) (record (in_call (Open 0 (Tagged 2))) { i = true; masks = 40960 }) root).faults
+waiting A = (raw (task_with (image_of M328 (0x0000 ∷ replicate 16383 0xFFFF)) A) (record (in_call (Open 0 (Tagged 2))) { i = true; masks = 40960 }) root).faults
 
 may_be_entered : waiting [] ≡ UntrackedSp 0 ∷ []
-unfolding raw table_site ijmp_from is_scratch may_come is_enabled has_place places is_never any_below all_below decoded device_row
+unfolding raw table_site ijmp_from is_scratch may_come is_enabled has_enable_place enable_places is_never any_below all_below decoded device_row
 may_be_entered = refl
 
 one_may_be_entered : waiting (Never 28 ∷ []) ≡ UntrackedSp 0 ∷ []
-unfolding raw table_site ijmp_from is_scratch may_come is_enabled has_place places is_never any_below all_below decoded device_row
+unfolding raw table_site ijmp_from is_scratch may_come is_enabled has_enable_place enable_places is_never any_below all_below decoded device_row
 one_may_be_entered = refl
 
 none_may_be_entered : waiting (Never 28 ∷ Never 32 ∷ []) ≡ []
-unfolding raw table_site ijmp_from is_scratch may_come is_enabled has_place places is_never any_below all_below decoded device_row
+unfolding raw table_site ijmp_from is_scratch may_come is_enabled has_enable_place enable_places is_never any_below all_below decoded device_row
 none_may_be_entered = refl
 
 -- these are numbers of vectors, not their words
 others_are_never_entered : waiting (Never 15 ∷ Never 17 ∷ []) ≡ UntrackedSp 0 ∷ []
-unfolding raw table_site ijmp_from is_scratch may_come is_enabled has_place places is_never any_below all_below decoded device_row
+unfolding raw table_site ijmp_from is_scratch may_come is_enabled has_enable_place enable_places is_never any_below all_below decoded device_row
 others_are_never_entered = refl
 
 -- ---- `scratch` lines
@@ -203,7 +203,7 @@ pushed r = map (λ n. slot_at n.state.slots 2) r.moves
 
 -- `push r0` at word 0
 abbrev pushes : List Entry → AbsState → Raw
-pushes A s = raw (task_with (image M328 (0x920F ∷ replicate 16383 0xFFFF)) A) (in_call (Closed 2)) s
+pushes A s = raw (task_with (image_of M328 (0x920F ∷ replicate 16383 0xFFFF)) A) (in_call (Closed 2)) s
 
 keeps_nothing : pushed (pushes (Scratch 0 ∷ []) large) ≡ Unguarded ∷ []
 unfolding raw table_site ijmp_from is_scratch any_below all_below decoded device_row has_scratch

@@ -13,7 +13,7 @@ use Rattle.avr_model.specs.declared.instruction.UnaryOp.{UnaryOp}
 use Rattle.avr_model.specs.declared.instruction.Pointer.{Pointer}
 use Rattle.avr_model.specs.declared.instruction.Pointer.TheVariants as pointer
 use Rattle.avr_model.specs.declared.operation.Mul.TheVariants as product
-use Rattle.avr_model.specs.Devices.{Program, words_of, size_of, wrapped, device_of}
+use Rattle.avr_model.specs.Devices.{Image, words_of, size_of, wrapped, device_of}
 use Rattle.avr_model.specs.Marks.{marks}
 use Rattle.avr_model.specs.Text.{far, near}
 use Rattle.avr_model.specs.Assumptions.{jump_line, is_never, is_frame, has_scratch}
@@ -31,11 +31,11 @@ use Rattle.abs_state.specs.declared.state.AbsState.{AbsState}
 use Rattle.pair_domain.specs.declared.facts.PairFacts.{PairFacts}
 use Rattle.abs_state.specs.Values.{untagged, unknown}
 use Rattle.abs_state.specs.Order.{state_join}
-use Rattle.mask_states.specs.declared.keys.NodeKey.{NodeKey}
-use Rattle.mask_states.specs.declared.keys.SpForm.{SpForm}
-use Rattle.mask_states.specs.declared.keys.SpForm.TheVariants.{Closed, Open}
-use Rattle.mask_states.specs.Keys.{offset_of}
-use Rattle.mask_states.specs.Order.{node_cmp}
+use Rattle.node_keys.specs.declared.keys.NodeKey.{NodeKey}
+use Rattle.node_keys.specs.declared.keys.SpForm.{SpForm}
+use Rattle.node_keys.specs.declared.keys.SpForm.TheVariants.{Closed, Open}
+use Rattle.node_keys.specs.Keys.{offset_of}
+use Rattle.node_keys.specs.Order.{node_cmp}
 use Rattle.local_rules.specs.Site.{Task, Site, site_at}
 use Rattle.local_rules.specs.declared.local.Local.{Local}
 use Rattle.local_rules.specs.declared.local.Node.{Node}
@@ -63,8 +63,8 @@ abbrev pub unary_row : Bool → Site → UnaryOp → ℕ → Raw
 unary_row line at op d = going_with at (unary_at line at.state op d)
 
 -- `cpse` skips if the registers are equal
-abbrev pub equal_skip : Program → Site → ℕ → ℕ → Raw
-equal_skip words at d r = skip_if words at (byte_equal (bits at.state d) (bits at.state r))
+abbrev pub equal_skip : Image → Site → ℕ → ℕ → Raw
+equal_skip image at d r = skip_if image at (byte_equal (bits at.state d) (bits at.state r))
 
 abbrev pub binary_row : Task → Site → BinaryOp → ℕ → ℕ → Raw
 binary_row task at op d r = going_by at (binary_at (view_of at) (is_frame task.assumptions at.key.pc) at.state op d r) (equal_skip task.flash at d r)
@@ -108,8 +108,8 @@ abbrev pub read_row : List Entry → Site → ℕ → ℕ → ℕ → Raw
 read_row A at n d a = going_to at.key (record at.state { registers = set at.state d (reading A at a) }) (further at.device at.key n)
 
 -- `lpm` with the registers as given
-abbrev pub lpm_row : Program → Site → List AbsByte → ℕ → Raw
-lpm_row words at registers d = loading at registers d (Some (flash_value words (pair_constant at.state 30)))
+abbrev pub lpm_row : Image → Site → List AbsByte → ℕ → Raw
+lpm_row image at registers d = loading at registers d (Some (flash_value image (pair_constant at.state 30)))
 
 -- loads from the address of a pointer; other registers are as given
 abbrev pub pointer_load : List Entry → Site → List AbsByte → ℕ → Pointed → Raw
@@ -220,19 +220,19 @@ abbrev pub cut_branch : ℕ → NodeKey → AbsState → ℕ → ℕ → Raw
 cut_branch n k s set clear = all_of (going_where k (flag_cut n false s) clear ∷ going_where k (flag_cut n true s) set ∷ [])
 
 -- past the next instruction with one state, and to it with the other
-abbrev pub cut_skip : Program → Site → Option AbsState → Option AbsState → Raw
-cut_skip words at skips stays = all_of (going_where at.key stays (further at.device at.key 1) ∷ going_where at.key skips (past words at) ∷ [])
+abbrev pub cut_skip : Image → Site → Option AbsState → Option AbsState → Raw
+cut_skip image at skips stays = all_of (going_where at.key stays (further at.device at.key 1) ∷ going_where at.key skips (past image at) ∷ [])
 
 abbrev pub node_where : NodeKey → Option AbsState → List Node
 node_where k None = []
 node_where k (Some s) = record { key = k; state = s } ∷ []
 
 -- the successors by the plain rules, refined by the transfer function of pairs; none if nothing is left
-abbrev pub refined_nodes : Program → Instr → AbsState → List Node → List Node
-refined_nodes words instr s nodes = flat_map (λ (n : Node). node_where n.key (refined (marks words) words instr s n.state)) nodes
+abbrev pub refined_nodes : Image → Instr → AbsState → List Node → List Node
+refined_nodes image instr s nodes = flat_map (λ (n : Node). node_where n.key (refined (marks image) image instr s n.state)) nodes
 
-abbrev pub refining : Program → Instr → AbsState → Raw → Raw
-refining words instr s r = record r { moves = refined_nodes words instr s r.moves }
+abbrev pub refining : Image → Instr → AbsState → Raw → Raw
+refining image instr s r = record r { moves = refined_nodes image instr s r.moves }
 
 -- The pointer moves first, and its pair is refined. Then the byte is stored, possibly to a register of the pointer.
 abbrev pub storing : Task → Site → Pointer → ℕ → Option AbsState → Raw
@@ -288,8 +288,8 @@ is_hung device A k (Closed offset) = false
 is_hung device A k (Open offset h) = k.i && not k.delay && may_come device A k.masks
 
 -- the instruction of a node; none behind the device's flash
-abbrev pub fetched : Device → Program → ℕ → Option Instr
-fetched device words pc = if nat_lt pc (words_of device) then instruction_at words pc else None
+abbrev pub fetched : Device → Image → ℕ → Option Instr
+fetched device image pc = if nat_lt pc (words_of device) then instruction_at image pc else None
 
 -- ---- jump tables
 

@@ -2,7 +2,7 @@
 use Rattle.std.specs.Prelude.{ℕ, ◌+◌, ◌*◌, ◌-◌, ◌==◌, ◌&&◌, Bool, true, false, nat_lt, nat_le, if◌then◌else◌, length, Option, Some, None}
 use Rattle.std.specs.Int.{bit_at, from_bool}
 use Rattle.avr_model.specs.declared.device.Device.{Device}
-use Rattle.avr_model.specs.Devices.{Program, words_of, io_end, ramend, device_of}
+use Rattle.avr_model.specs.Devices.{Image, words_of, io_end, ramend, device_of}
 use Rattle.avr_model.specs.Image.{byte_at}
 use Rattle.avr_model.specs.Vectors.{enable_of, held_of, is_ivsel}
 use Rattle.avr_model.specs.State.{SPL, SREG, is_sph, low, high, plus16, minus16}
@@ -22,11 +22,11 @@ use Rattle.abs_state.specs.declared.values.AbsByte.{AbsByte}
 use Rattle.abs_state.specs.declared.state.AbsState.{AbsState}
 use Rattle.abs_state.specs.Values.{untagged, unknown, known, set_of, valued}
 use Rattle.abs_state.specs.Frames.{with_tag}
-use Rattle.mask_states.specs.declared.keys.NodeKey.{NodeKey}
-use Rattle.mask_states.specs.declared.keys.Kind.{Kind}
-use Rattle.mask_states.specs.declared.keys.Kind.TheVariants.{Root, Call, Vector}
-use Rattle.mask_states.specs.declared.keys.SpForm.{SpForm}
-use Rattle.mask_states.specs.declared.keys.SpForm.TheVariants.{Closed, Open}
+use Rattle.node_keys.specs.declared.keys.NodeKey.{NodeKey}
+use Rattle.node_keys.specs.declared.keys.Kind.{Kind}
+use Rattle.node_keys.specs.declared.keys.Kind.TheVariants.{Root, Call, Vector}
+use Rattle.node_keys.specs.declared.keys.SpForm.{SpForm}
+use Rattle.node_keys.specs.declared.keys.SpForm.TheVariants.{Closed, Open}
 -- the address that a pointer gives: a number, base - k, or both
 use Rattle.local_rules.specs.declared.pointers.Pointed.{Pointed}
 use Rattle.local_rules.specs.HighBytes.{SpView}
@@ -163,6 +163,6 @@ abbrev pub read_pointed : Device → Bool → NodeKey → AbsState → Pointed �
 read_pointed device may k s p = read_frame device may k s p.constant p.frame
 
 -- the byte of flash at a known address, on the image's device
-abbrev pub flash_value : Program → Option ℕ → AbsByte
-flash_value words None = unknown
-flash_value words (Some z) = if nat_lt z (2 * words_of (device_of words)) then known (byte_at words.words z) else unknown
+abbrev pub flash_value : Image → Option ℕ → AbsByte
+flash_value image None = unknown
+flash_value image (Some z) = if nat_lt z (2 * words_of (device_of image)) then known (byte_at image.words z) else unknown

@@ -5,11 +5,11 @@ use Rattle.avr_model.specs.declared.assumption.Entry.{Entry}
 use Rattle.avr_model.specs.declared.assumption.Entry.TheVariants.{Never}
 use Rattle.avr_model.specs.Assumptions.{has_masks, is_never}
 use Rattle.avr_model.specs.Bits.{any_below, all_below, number_of}
-use Rattle.avr_model.specs.Devices.{device_row, Program, image}
+use Rattle.avr_model.specs.Devices.{device_row, Image, image_of}
 use Rattle.avr_model.specs.Masks.{reads_masks}
 use Rattle.avr_model.specs.Sites.{is_scratch, table_site, ijmp_from}
 use Rattle.avr_model.specs.Table.{length_of, decoded}
-use Rattle.avr_model.specs.Vectors.{places, place_at, held_of, enable_of, is_ivsel, is_enabled, has_place}
+use Rattle.avr_model.specs.Vectors.{enable_places, enable_place_at, held_of, enable_of, is_ivsel, is_enabled, has_enable_place}
 use Rattle.bit_domain.specs.declared.bits.Tri.{Tri}
 use Rattle.bit_domain.specs.declared.bits.Tri.TheVariants.{Zero, Any}
 use Rattle.bit_domain.specs.Numbers.{numbers_of}
@@ -17,13 +17,13 @@ use Rattle.bit_domain.specs.Packed.{packed}
 use Rattle.bit_domain.specs.TriByte.{tri_at}
 use Rattle.abs_state.specs.declared.state.AbsState.{AbsState}
 use Rattle.abs_state.specs.Values.{root, value_at, known}
-use Rattle.mask_states.specs.declared.keys.NodeKey.{NodeKey}
-use Rattle.mask_states.specs.declared.keys.Kind.{Kind}
-use Rattle.mask_states.specs.declared.keys.Kind.TheVariants.{Root, Call}
-use Rattle.mask_states.specs.declared.keys.SpForm.{SpForm}
-use Rattle.mask_states.specs.declared.keys.SpForm.TheVariants.{Closed, Open}
-use Rattle.mask_states.specs.declared.keys.High.TheVariants.{Tag as Tagged}
-use Rattle.mask_states.specs.Splits.{common_tri, enable_tri}
+use Rattle.node_keys.specs.declared.keys.NodeKey.{NodeKey}
+use Rattle.node_keys.specs.declared.keys.Kind.{Kind}
+use Rattle.node_keys.specs.declared.keys.Kind.TheVariants.{Root, Call}
+use Rattle.node_keys.specs.declared.keys.SpForm.{SpForm}
+use Rattle.node_keys.specs.declared.keys.SpForm.TheVariants.{Closed, Open}
+use Rattle.node_keys.specs.declared.keys.High.TheVariants.{Tag as Tagged}
+use Rattle.node_keys.specs.Splits.{common_tri, enable_tri}
 use Rattle.local_rules.specs.declared.local.NodeFault.{NodeFault}
 use Rattle.local_rules.specs.declared.local.NodeFault.TheVariants.{UntrackedSp}
 use Rattle.local_rules.specs.Raw.{Raw}
@@ -34,26 +34,26 @@ use Rattle.local_rules.specs.Local.{may_come, raw}
 
 -- SRAM begins at 0x60, and two bits of one address enable vector 3
 abbrev tiny461 : Device
-tiny461 = record { place = 64 }
+tiny461 = record { index = 64 }
 
 -- six bits of an address enable vector 2
 abbrev pwm81 : Device
-pwm81 = record { place = 11 }
+pwm81 = record { index = 11 }
 
 -- vector 12 stays enabled
 abbrev usb82 : Device
-usb82 = record { place = 17 }
+usb82 = record { index = 17 }
 
 -- no known bit enables vector 26
 abbrev tiny828 : Device
-tiny828 = record { place = 66 }
+tiny828 = record { index = 66 }
 
 -- firmware of one or two words, followed by erased words
-abbrev small : ℕ → ℕ → Program
-small w0 w1 = image tiny461 (w0 ∷ w1 ∷ replicate 2046 0xFFFF)
+abbrev small : ℕ → ℕ → Image
+small w0 w1 = image_of tiny461 (w0 ∷ w1 ∷ replicate 2046 0xFFFF)
 
-abbrev middle : Device → ℕ → ℕ → Program
-middle device w0 w1 = image device (w0 ∷ w1 ∷ replicate 4094 0xFFFF)
+abbrev middle : Device → ℕ → ℕ → Image
+middle device w0 w1 = image_of device (w0 ∷ w1 ∷ replicate 4094 0xFFFF)
 
 -- a node at word 0, with these vectors that may be enabled
 abbrev at_0 : Kind → ℕ → SpForm → NodeKey
@@ -81,7 +81,7 @@ bits_read r =
     r.moves
 
 reads_held : bits_read (raw (task_with (small 0x9100 0x005B) []) (at_0 Root 1 (Closed 0)) root) ≡ (Zero, Any, Any, Any) ∷ []
-unfolding raw table_site ijmp_from is_scratch any_below all_below decoded device_row read_at held_of is_ivsel places packed reads_masks has_masks length_of
+unfolding raw table_site ijmp_from is_scratch any_below all_below decoded device_row read_at held_of is_ivsel enable_places packed reads_masks has_masks length_of
 reads_held = refl
 
 abbrev enables : Raw → List ℕ
@@ -89,16 +89,16 @@ enables r = map (λ n. n.key.masks) r.moves
 
 -- `sts 0x005B, r16` of an unknown byte: vectors 2, 3 and 14
 splits_places : enables (raw (task_with (small 0x9300 0x005B) []) (at_0 Root 0 (Closed 0)) root) ≡ 0 ∷ 1 ∷ 2 ∷ 3 ∷ 4096 ∷ 4097 ∷ 4098 ∷ 4099 ∷ []
-unfolding raw table_site ijmp_from is_scratch any_below all_below decoded device_row written_at numbers_of enable_tri place_at places common_tri packed length_of
+unfolding raw table_site ijmp_from is_scratch any_below all_below decoded device_row written_at numbers_of enable_tri enable_place_at enable_places common_tri packed length_of
 splits_places = refl
 
 -- `sbi 0x13, 2` enables vector 2; `cbi 0x13, 2` leaves it, since the other bits of its place enable it too
 one_bit_enables : enables (raw (task_with (middle pwm81 0x9A9A 0xFFFF) []) (at_0 Root 0 (Closed 0)) root) ≡ 1 ∷ []
-unfolding raw table_site ijmp_from is_scratch any_below all_below decoded device_row read_at written_at enable_of numbers_of enable_tri place_at places common_tri packed
+unfolding raw table_site ijmp_from is_scratch any_below all_below decoded device_row read_at written_at enable_of numbers_of enable_tri enable_place_at enable_places common_tri packed
 one_bit_enables = refl
 
 others_enable : enables (raw (task_with (middle pwm81 0x989A 0xFFFF) []) (at_0 Root 1 (Closed 0)) root) ≡ 1 ∷ []
-unfolding raw table_site ijmp_from is_scratch any_below all_below decoded device_row read_at written_at enable_of numbers_of enable_tri place_at places common_tri packed
+unfolding raw table_site ijmp_from is_scratch any_below all_below decoded device_row read_at written_at enable_of numbers_of enable_tri enable_place_at enable_places common_tri packed
 others_enable = refl
 
 -- `sts 0x00E2, r1` of 0 leaves vector 12 enabled, and of 1 enables it
@@ -106,11 +106,11 @@ abbrev holding : ℕ → AbsState
 holding n = record root { registers = slice_set root.registers 1 (known n) }
 
 stays_enabled : enables (raw (task_with (middle usb82 0x9210 0x00E2) []) (at_0 Root 1024 (Closed 0)) (holding 0)) ≡ 1024 ∷ []
-unfolding raw table_site ijmp_from is_scratch any_below all_below decoded device_row written_at numbers_of enable_tri place_at places common_tri packed length_of
+unfolding raw table_site ijmp_from is_scratch any_below all_below decoded device_row written_at numbers_of enable_tri enable_place_at enable_places common_tri packed length_of
 stays_enabled = refl
 
 becomes_enabled : enables (raw (task_with (middle usb82 0x9210 0x00E2) []) (at_0 Root 0 (Closed 0)) (holding 1)) ≡ 1024 ∷ []
-unfolding raw table_site ijmp_from is_scratch any_below all_below decoded device_row written_at numbers_of enable_tri place_at places common_tri packed length_of
+unfolding raw table_site ijmp_from is_scratch any_below all_below decoded device_row written_at numbers_of enable_tri enable_place_at enable_places common_tri packed length_of
 becomes_enabled = refl
 
 -- while the stack pointer is half written, vector 26 may come, whatever is enabled
@@ -118,13 +118,13 @@ abbrev waiting : Device → List Entry → List NodeFault
 waiting device A = (raw (task_with (middle device 0x0000 0xFFFF) A) (record (at_0 Call 0 (Open 0 (Tagged 2))) { i = true }) root).faults
 
 may_come_always : waiting tiny828 [] ≡ UntrackedSp 0 ∷ []
-unfolding raw table_site ijmp_from is_scratch may_come is_enabled has_place places is_never any_below all_below decoded device_row number_of
+unfolding raw table_site ijmp_from is_scratch may_come is_enabled has_enable_place enable_places is_never any_below all_below decoded device_row number_of
 may_come_always = refl
 
 is_never_entered : waiting tiny828 (Never 25 ∷ []) ≡ []
-unfolding raw table_site ijmp_from is_scratch may_come is_enabled has_place places is_never any_below all_below decoded device_row number_of
+unfolding raw table_site ijmp_from is_scratch may_come is_enabled has_enable_place enable_places is_never any_below all_below decoded device_row number_of
 is_never_entered = refl
 
 none_may_come : waiting usb82 [] ≡ []
-unfolding raw table_site ijmp_from is_scratch may_come is_enabled has_place places is_never any_below all_below decoded device_row number_of
+unfolding raw table_site ijmp_from is_scratch may_come is_enabled has_enable_place enable_places is_never any_below all_below decoded device_row number_of
 none_may_come = refl

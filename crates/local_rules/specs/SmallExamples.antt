@@ -3,11 +3,11 @@ use Rattle.std.specs.Prelude.{ℕ, ◌-◌, ◌≡◌, false, List, [], ◌∷�
 use Rattle.avr_model.specs.declared.device.Device.{Device}
 use Rattle.avr_model.specs.Assumptions.{is_frame}
 use Rattle.avr_model.specs.Bits.{any_below, all_below}
-use Rattle.avr_model.specs.Devices.{device_row, Program, image}
+use Rattle.avr_model.specs.Devices.{device_row, Image, image_of}
 use Rattle.avr_model.specs.Masks.{reads_masks}
 use Rattle.avr_model.specs.Sites.{is_scratch, table_site, ijmp_from}
 use Rattle.avr_model.specs.Table.{decoded}
-use Rattle.avr_model.specs.Vectors.{places, held_of, enable_of, place_at, is_ivsel}
+use Rattle.avr_model.specs.Vectors.{enable_places, held_of, enable_of, enable_place_at, is_ivsel}
 use Rattle.bit_domain.specs.Packed.{packed}
 use Rattle.bit_domain.specs.Numbers.{numbers_of}
 use Rattle.bit_domain.specs.TriByte.{byte_any}
@@ -19,11 +19,11 @@ use Rattle.abs_state.specs.declared.values.AbsByte.{AbsByte}
 use Rattle.abs_state.specs.declared.state.AbsState.{AbsState}
 use Rattle.abs_state.specs.Values.{root, value_at, unknown, known}
 use Rattle.abs_state.specs.Frames.{entered}
-use Rattle.mask_states.specs.declared.keys.NodeKey.{NodeKey}
-use Rattle.mask_states.specs.declared.keys.Kind.TheVariants.{Root, Call}
-use Rattle.mask_states.specs.declared.keys.SpForm.{SpForm}
-use Rattle.mask_states.specs.declared.keys.SpForm.TheVariants.{Closed}
-use Rattle.mask_states.specs.Splits.{common_tri, enable_tri}
+use Rattle.node_keys.specs.declared.keys.NodeKey.{NodeKey}
+use Rattle.node_keys.specs.declared.keys.Kind.TheVariants.{Root, Call}
+use Rattle.node_keys.specs.declared.keys.SpForm.{SpForm}
+use Rattle.node_keys.specs.declared.keys.SpForm.TheVariants.{Closed}
+use Rattle.node_keys.specs.Splits.{common_tri, enable_tri}
 use Rattle.local_rules.specs.declared.local.NodeFault.{NodeFault}
 use Rattle.local_rules.specs.declared.local.NodeFault.TheVariants.{UntrackedSp}
 use Rattle.local_rules.specs.Raw.{Raw}
@@ -35,10 +35,10 @@ use Rattle.local_rules.specs.Local.{raw}
 
 -- flash of 1,024 words, SRAM of 128 bytes from 0x60 on
 abbrev small : Device
-small = record { place = 85 }
+small = record { index = 85 }
 
-abbrev firmware : ℕ → ℕ → Program
-firmware w0 w1 = image small (w0 ∷ w1 ∷ replicate 1022 0xFFFF)
+abbrev firmware : ℕ → ℕ → Image
+firmware w0 w1 = image_of small (w0 ∷ w1 ∷ replicate 1022 0xFFFF)
 
 abbrev in_root : ℕ → NodeKey
 in_root offset = record { inst = record { kind = Root; entry = 0; masks = 0; i = false }; pc = 0; masks = 0; i = false; delay = false; sp = Closed offset; pick = None }
@@ -121,11 +121,11 @@ sets_root = refl
 
 -- `out 0x3e, r29` writes no stack pointer, and `in r29, 0x3e` reads none
 writes_other : ways (raw (task_with (firmware 0xBFDE 0xFFFF) []) (in_call 6) (with_frame 6 6 (known 0))) ≡ (1, Closed 6) ∷ []
-unfolding raw table_site ijmp_from is_scratch any_below all_below decoded device_row written_at places place_at enable_of numbers_of enable_tri common_tri packed reads_masks
+unfolding raw table_site ijmp_from is_scratch any_below all_below decoded device_row written_at enable_places enable_place_at enable_of numbers_of enable_tri common_tri packed reads_masks
 writes_other = refl
 
 reads_other : values 29 (raw (task_with (firmware 0xB7DE 0xFFFF) []) (in_call 6) (with_frame 6 6 (known 0))) ≡ unknown ∷ []
-unfolding raw table_site ijmp_from is_scratch any_below all_below decoded device_row read_at places held_of is_ivsel packed reads_masks
+unfolding raw table_site ijmp_from is_scratch any_below all_below decoded device_row read_at enable_places held_of is_ivsel packed reads_masks
 reads_other = refl
 
 -- `rcall .+0` before `in r28, 0x3d` makes room for a return address of two bytes

@@ -16,16 +16,16 @@ use Rattle.sp_domain.specs.Slots.{resized}
 use Rattle.abs_state.specs.declared.values.AbsByte.{AbsByte}
 use Rattle.abs_state.specs.declared.values.AbsFlags.{AbsFlags}
 use Rattle.abs_state.specs.declared.state.AbsState.{AbsState}
-use Rattle.mask_states.specs.declared.keys.NodeKey.{NodeKey}
-use Rattle.mask_states.specs.declared.keys.Kind.{Kind}
-use Rattle.mask_states.specs.declared.keys.Kind.TheVariants.{Root, Call, Vector}
-use Rattle.mask_states.specs.declared.keys.SpForm.{SpForm}
-use Rattle.mask_states.specs.declared.keys.SpForm.TheVariants.{Closed, Open}
-use Rattle.mask_states.specs.declared.keys.High.{High}
-use Rattle.mask_states.specs.declared.keys.High.TheVariants.{Known, Tag as Tagged}
-use Rattle.mask_states.specs.Keys.{offset_of}
-use Rattle.mask_states.specs.Splits.{splits}
-use Rattle.mask_states.specs.Wakes.{may_enable_other, widened}
+use Rattle.node_keys.specs.declared.keys.NodeKey.{NodeKey}
+use Rattle.node_keys.specs.declared.keys.Kind.{Kind}
+use Rattle.node_keys.specs.declared.keys.Kind.TheVariants.{Root, Call, Vector}
+use Rattle.node_keys.specs.declared.keys.SpForm.{SpForm}
+use Rattle.node_keys.specs.declared.keys.SpForm.TheVariants.{Closed, Open}
+use Rattle.node_keys.specs.declared.keys.High.{High}
+use Rattle.node_keys.specs.declared.keys.High.TheVariants.{Known, Tag as Tagged}
+use Rattle.node_keys.specs.Keys.{offset_of}
+use Rattle.node_keys.specs.Splits.{splits}
+use Rattle.node_keys.specs.Wakes.{may_enable_other, widened}
 use Rattle.local_rules.specs.Permitted.{permits_number}
 use Rattle.local_rules.specs.declared.local.Node.{Node}
 use Rattle.local_rules.specs.declared.local.NodeFault.TheVariants.{UntrackedSp, TooDeep, UnknownPointer}
@@ -62,7 +62,7 @@ abbrev pub root_offset : Device → ℕ → Option ℕ → Option ℕ
 root_offset device h None = None
 root_offset device h (Some l) = if nat_le (256 * h + l) (ramend device) then Some (ramend device - (256 * h + l)) else None
 
--- the offset of base - k, if the low byte agrees; a k from 0x8000 up would be above the base
+-- the offset of base - k, if the low byte agrees; from a k of 0x8000 up, base - k is no address of SRAM
 abbrev pub tagged_offset : ℕ → Tag → Option ℕ
 tagged_offset k (tag.SpLo j) = if (j == k % 256) && nat_lt k 0x8000 then Some k else None
 tagged_offset k _ = None

@@ -4,7 +4,7 @@ ghost use Rattle.std.specs.Prelude.{◌≡◌};
 ghost use Rattle.local_rules.specs.HighBytes.{view_by};
 
 use avr_model::device::Device;
-use mask_states::NodeKey;
+use node_keys::NodeKey;
 
 /// The stack pointer where an instruction executes.
 #[derive(Clone, Copy)]

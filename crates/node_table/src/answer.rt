@@ -2,7 +2,7 @@
 
 use abs_state::{AbsByte, AbsState};
 use local_rules::local::{Local, Node};
-use mask_states::{High, NodeKey, SpForm};
+use node_keys::{High, NodeKey, SpForm};
 use sp_domain::{CarryTag, Slot, Tag};
 use std::io;
 

@@ -6,8 +6,8 @@ mod answer;
 mod row;
 
 use abs_step::local;
+use assumption_files::{MOST_ENTRIES, entry_of};
 use avr_model::device::Device;
-use indirect_targets::{MOST_ENTRIES, entry_of};
 use row::Row;
 use std::{fs, io};
 use vector_table::Assumptions;
@@ -15,7 +15,7 @@ use vector_table::Assumptions;
 // Prints the successors of a row's node.
 fn show(rt: &HostRuntime, row: &Row, lines: &Assumptions) -> io::Result<()> {
     let (key, state) = (&row.key, &row.state);
-    if u32::from(key.pc) >= row.device.limit() || state.slots.len() != key.offset() {
+    if key.pc >= row.device.limit() || state.slots.len() != key.offset() {
         return println!(rt; "  no node");
     }
     let Some(flash) = row.flash(rt.alloc())? else {

@@ -8,7 +8,7 @@ use avr_model::device::Device;
 use avr_model::naming::device_named;
 use bit_domain::TriByte;
 use flash_image::Flash;
-use mask_states::{High, InstKey, Kind, NodeKey, SpForm};
+use node_keys::{High, InstKey, Kind, NodeKey, SpForm};
 use pair_domain::Facts;
 use sp_domain::{CarryTag, Slot, Slots, Tag};
 use std::alloc::{AllocError, Global};
@@ -32,6 +32,11 @@ fn number(text: &str) -> Option<u16> {
     u16::from_str_radix(text, 16).ok()
 }
 
+// A word address, in hexadecimal.
+fn word(text: &str) -> Option<u32> {
+    u32::from_str_radix(text, 16).ok()
+}
+
 fn decimal(text: &str) -> Option<u16> {
     u16::from_str_radix(text, 10).ok()
 }
@@ -45,7 +50,7 @@ fn kind(text: &str) -> Option<Kind> {
         return Some(Kind::Call);
     }
     let vector = decimal(text.strip_prefix('v')?)?;
-    if vector <= 64 {
+    if vector <= 77 {
         Some(Kind::Vector(vector as u8))
     } else {
         None
@@ -165,13 +170,13 @@ impl Row {
         } else if name == "entry" {
             self.state.flags.entry = true;
         } else if name == "pc" {
-            self.key.pc = number(text)?;
+            self.key.pc = word(text)?;
         } else if name == "behind" {
             let (third, fourth) = text.split_once(',').unwrap_or((text, "FFFF"));
             self.words[2] = number(third)?;
             self.words[3] = number(fourth)?;
         } else if name == "masks" {
-            self.key.masks = Masks::from_bits(u64::from_str_radix(text, 16).ok()?);
+            self.key.masks = Masks::from_bits(u128::from_str_radix(text, 16).ok()?);
         } else if name == "device" {
             self.device = device_named(text.as_bytes())?;
         } else if name == "pick" {
@@ -201,7 +206,7 @@ impl Row {
     fn address(&self, words: u8) -> u32
         ensures { result + 2 ≤ 2 * limit_of self.now.device }
     {
-        2 * u32::from(self.device.wrap(u32::from(self.key.pc) + u32::from(words)))
+        2 * self.device.wrap(self.key.pc.wrapping_add(u32::from(words)))
     }
 
     /// The device's flash with the four words at the node, modulo the number of its words, and erased words elsewhere.

@@ -5,7 +5,7 @@ use Rattle.std.proofs.lemmas.Bool.Decides.{nat_tests}
 use Rattle.std.proofs.lemmas.Option.{same_Some, none-some}
 use Rattle.avr_model.specs.Bits.{all_below}
 use Rattle.avr_model.specs.Image.{byte_at}
-use Rattle.avr_model.specs.Devices.{Program}
+use Rattle.avr_model.specs.Devices.{Image}
 use Rattle.bit_domain.specs.Ranges.{ByteSet, SetHas}
 use Rattle.bit_domain.specs.TriByte.{has, byte_any, byte_constant, byte_known}
 use Rattle.bit_domain.proofs.AllLaws.{tests_tell_members, ranges_hold, bytes_are_sets}
@@ -115,28 +115,28 @@ count_more (suc n) permits permits' more = by (count_more n permits permits' (λ
     by rest false true e e' = omega (arith, rest)
     by rest false false e e' = rest
 
-in_flash_less : (words : Program) (permits permits' : ℕ → Bool) (z : ℕ) → (permits z ≡ true → permits' z ≡ true) → (not (permits' z) || is_flash words z) ≡ true
-    → (not (permits z) || is_flash words z) ≡ true
-in_flash_less words permits permits' z more e = by (permits z) (permits' z) (is_flash words z) refl refl e
+in_flash_less : (image : Image) (permits permits' : ℕ → Bool) (z : ℕ) → (permits z ≡ true → permits' z ≡ true) → (not (permits' z) || is_flash image z) ≡ true
+    → (not (permits z) || is_flash image z) ≡ true
+in_flash_less image permits permits' z more e = by (permits z) (permits' z) (is_flash image z) refl refl e
   where
     by : (b b' flash : Bool) → permits z ≡ b → permits' z ≡ b' → (not b' || flash) ≡ true → (not b || flash) ≡ true
     by false b' flash eb eb' h = refl
     by true false flash eb eb' h = absurd (false≢true (sym eb' ∙ more eb))
     by true true flash eb eb' h = h
 
-pub few_less : (words : Program) (permits permits' : ℕ → Bool) → IsMore permits permits' → few_in_flash words permits' ≡ true → few_in_flash words permits ≡ true
-few_less words permits permits' more e =
-    let parts = and_parts (nat_le (count_below permits' 65536) 64) (all_below 65536 (λ z. not (permits' z) || is_flash words z)) e in
+pub few_less : (image : Image) (permits permits' : ℕ → Bool) → IsMore permits permits' → few_in_flash image permits' ≡ true → few_in_flash image permits ≡ true
+few_less image permits permits' more e =
+    let parts = and_parts (nat_le (count_below permits' 65536) 64) (all_below 65536 (λ z. not (permits' z) || is_flash image z)) e in
     let most = was_le (count_below permits' 65536) 64 parts.0 in
-    and_both (nat_le (count_below permits 65536) 64) (all_below 65536 (λ z. not (permits z) || is_flash words z))
+    and_both (nat_le (count_below permits 65536) 64) (all_below 65536 (λ z. not (permits z) || is_flash image z))
     (is_le (count_below permits 65536) 64 (omega (arith, count_more 65536 permits permits' more)))
-    (all_if 65536 (λ z. not (permits z) || is_flash words z)
-    (λ z lt. in_flash_less words permits permits' z (more z lt) (each_of 65536 z (λ k. not (permits' k) || is_flash words k) parts.1 lt)))
+    (all_if 65536 (λ z. not (permits z) || is_flash image z)
+    (λ z lt. in_flash_less image permits permits' z (more z lt) (each_of 65536 z (λ k. not (permits' k) || is_flash image k) parts.1 lt)))
 
-pub is_in_flash : (words : Program) (permits : ℕ → Bool) (z : ℕ) → few_in_flash words permits ≡ true → z < 65536 → permits z ≡ true → is_flash words z ≡ true
-is_in_flash words permits z e lt may =
-    let parts = and_parts (nat_le (count_below permits 65536) 64) (all_below 65536 (λ k. not (permits k) || is_flash words k)) e in
-    by (permits z) (is_flash words z) may (each_of 65536 z (λ k. not (permits k) || is_flash words k) parts.1 lt)
+pub is_in_flash : (image : Image) (permits : ℕ → Bool) (z : ℕ) → few_in_flash image permits ≡ true → z < 65536 → permits z ≡ true → is_flash image z ≡ true
+is_in_flash image permits z e lt may =
+    let parts = and_parts (nat_le (count_below permits 65536) 64) (all_below 65536 (λ k. not (permits k) || is_flash image k)) e in
+    by (permits z) (is_flash image z) may (each_of 65536 z (λ k. not (permits k) || is_flash image k) parts.1 lt)
   where
     by : (b flash : Bool) → b ≡ true → (not b || flash) ≡ true → flash ≡ true
     by true flash eb h = h
@@ -249,46 +249,46 @@ pub known_stands : (o : Origin) (b : ℕ) → b < 256 → ByteStands o (known b)
 known_stands o b small = bits_make_values.stands o tag.None (byte_known b) b small tt ((bytes_are_sets.known b b small small).1 refl)
 
 -- the byte at the number that the pair holds
-pub joined_stands : (o : Origin) (words : Program) (permits : ℕ → Bool) (z : ℕ) → z < 65536 → permits z ≡ true → byte_at words.words z < 256
-    → (v : AbsByte) × ((flash_joined words permits ≡ Some v) × ByteStands o v (byte_at words.words z))
-joined_stands o words permits z lt may small =
-    let h = joined_has permits (flash_known words) 65536 z lt may in
-    (h.0, (h.1.0, values_say_less.byte o (flash_known words z) h.0 (byte_at words.words z) h.1.1 (known_stands o (byte_at words.words z) small)))
+pub joined_stands : (o : Origin) (image : Image) (permits : ℕ → Bool) (z : ℕ) → z < 65536 → permits z ≡ true → byte_at image.words z < 256
+    → (v : AbsByte) × ((flash_joined image permits ≡ Some v) × ByteStands o v (byte_at image.words z))
+joined_stands o image permits z lt may small =
+    let h = joined_has permits (flash_known image) 65536 z lt may in
+    (h.0, (h.1.0, values_say_less.byte o (flash_known image z) h.0 (byte_at image.words z) h.1.1 (known_stands o (byte_at image.words z) small)))
 
-pub flash_fits : (words : Program) (permits : ℕ → Bool) (v : AbsByte) → flash_joined words permits ≡ Some v → ByteFits v
-flash_fits words permits v e =
-    joined_is ByteFits permits (flash_known words) 65536 (λ z. bits_make_values.fits tag.None (byte_known (byte_at words.words z))) bits_make_values.joins_fit v e
+pub flash_fits : (image : Image) (permits : ℕ → Bool) (v : AbsByte) → flash_joined image permits ≡ Some v → ByteFits v
+flash_fits image permits v e =
+    joined_is ByteFits permits (flash_known image) 65536 (λ z. bits_make_values.fits tag.None (byte_known (byte_at image.words z))) bits_make_values.joins_fit v e
 
-pub flash_untagged : (words : Program) (permits : ℕ → Bool) (v : AbsByte) → flash_joined words permits ≡ Some v → v.tag ≡ tag.None
-flash_untagged words permits v e =
-    joined_is (λ w. w.tag ≡ tag.None) permits (flash_known words) 65536 (λ z. refl) (λ v w a b. ap₂ tag_join a b) v e
+pub flash_untagged : (image : Image) (permits : ℕ → Bool) (v : AbsByte) → flash_joined image permits ≡ Some v → v.tag ≡ tag.None
+flash_untagged image permits v e =
+    joined_is (λ w. w.tag ≡ tag.None) permits (flash_known image) 65536 (λ z. refl) (λ v w a b. ap₂ tag_join a b) v e
 
 -- the join is below each value that is above all permitted bytes
-pub flash_covered : (words : Program) (p : PairSet) (w : AbsByte) → CoversFlash words p w → few_in_flash words (pair_permits p) ≡ true
-    → (v : AbsByte) → flash_joined words (pair_permits p) ≡ Some v → IsByteWithin v w
-flash_covered words p w covers few v e =
-    joined_under (pair_permits p) (flash_known words) w 65536 (λ z lt may.
-    let inside = is_in_flash words (pair_permits p) z few lt may in
-    let at : flash_at words z ≡ flash_known words z = ap (λ (b : Bool). if b then flash_known words z else unknown) inside in
+pub flash_covered : (image : Image) (p : PairSet) (w : AbsByte) → CoversFlash image p w → few_in_flash image (pair_permits p) ≡ true
+    → (v : AbsByte) → flash_joined image (pair_permits p) ≡ Some v → IsByteWithin v w
+flash_covered image p w covers few v e =
+    joined_under (pair_permits p) (flash_known image) w 65536 (λ z lt may.
+    let inside = is_in_flash image (pair_permits p) z few lt may in
+    let at : flash_at image z ≡ flash_known image z = ap (λ (b : Bool). if b then flash_known image z else unknown) inside in
     subst (λ (u : AbsByte). IsByteWithin u w) at (covers z lt may)) v e
 
 -- ---- values that are above what is read
 
-any_above : (words : Program) (z : ℕ) → IsByteWithin (flash_at words z) unknown
-any_above words z = by (is_flash words z)
+any_above : (image : Image) (z : ℕ) → IsByteWithin (flash_at image z) unknown
+any_above image z = by (is_flash image z)
   where
-    by : (b : Bool) → IsByteWithin (if b then flash_known words z else unknown) unknown
-    by true = bits_make_values.within tag.None tag.None (byte_known (byte_at words.words z)) byte_any tt (λ x small h. any_has x)
+    by : (b : Bool) → IsByteWithin (if b then flash_known image z else unknown) unknown
+    by true = bits_make_values.within tag.None tag.None (byte_known (byte_at image.words z)) byte_any tt (λ x small h. any_has x)
     by false = values_are_ordered.same unknown
 
-pub unknown_covers : (words : Program) (p : PairSet) → CoversFlash words p unknown
-unknown_covers words p z lt may = any_above words z
+pub unknown_covers : (image : Image) (p : PairSet) → CoversFlash image p unknown
+unknown_covers image p z lt may = any_above image z
 
-pub constant_covers : (words : Program) (p : PairSet) (x y : ℕ) → byte_constant p.low.bits ≡ Some x → byte_constant p.high.bits ≡ Some y
-    → CoversFlash words p (flash_at words (x + 256 * y))
-constant_covers words p x y ex ey z lt may =
+pub constant_covers : (image : Image) (p : PairSet) (x y : ℕ) → byte_constant p.low.bits ≡ Some x → byte_constant p.high.bits ≡ Some y
+    → CoversFlash image p (flash_at image (x + 256 * y))
+constant_covers image p x y ex ey z lt may =
     let h = pair_permitted p z lt may in
     let low = constant_member p.low.bits x (z % 256) (omega arith) ex h.low.bits in
     let high = constant_member p.high.bits y (z / 256) (omega arith) ey h.high.bits in
     let same : z ≡ x + 256 * y = omega arith in
-    subst (λ (k : ℕ). IsByteWithin (flash_at words z) (flash_at words k)) same (values_are_ordered.same (flash_at words z))
+    subst (λ (k : ℕ). IsByteWithin (flash_at image z) (flash_at image k)) same (values_are_ordered.same (flash_at image z))

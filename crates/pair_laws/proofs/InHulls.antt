@@ -8,7 +8,7 @@ use Rattle.avr_model.specs.declared.instruction.Instr.TheVariants as i
 use Rattle.avr_model.specs.declared.instruction.BinaryOp.{BinaryOp}
 use Rattle.avr_model.specs.declared.instruction.BinaryOp.TheVariants as binary
 use Rattle.avr_model.specs.Written.{set_by_binary, written}
-use Rattle.avr_model.specs.Devices.{Program}
+use Rattle.avr_model.specs.Devices.{Image}
 use Rattle.pair_domain.specs.declared.intervals.Interval.{Interval}
 use Rattle.pair_domain.specs.declared.facts.PairFacts.{PairFacts}
 use Rattle.pair_domain.specs.Intervals.{whole, IsIntervalWithin, interval_meet, hull}
@@ -107,19 +107,19 @@ module _ (s t a : AbsState) (r : ℕ) where
   joined_kept d rs None kept e = absurd (cc)
   joined_kept d rs (Some v) kept e = subst IsKept (same_Some (with_value t d v) a e) (set_kept t d v rs r kept)
 
-  flash_kept : (words : Program) (d : ℕ) (permits : ℕ → Bool) (rs : List ℕ) → is_one_of (d ∷ rs) r ≡ false → flash_read words t d permits ≡ Some a → IsKept a
-  flash_kept words d permits rs kept e = by (few_in_flash words permits) e
+  flash_kept : (image : Image) (d : ℕ) (permits : ℕ → Bool) (rs : List ℕ) → is_one_of (d ∷ rs) r ≡ false → flash_read image t d permits ≡ Some a → IsKept a
+  flash_kept image d permits rs kept e = by (few_in_flash image permits) e
     where
-      by : (few : Bool) → (if few then with_joined t d (flash_joined words permits) else Some t) ≡ Some a → IsKept a
-      by true is = joined_kept d rs (flash_joined words permits) kept is
+      by : (few : Bool) → (if few then with_joined t d (flash_joined image permits) else Some t) ≡ Some a → IsKept a
+      by true is = joined_kept d rs (flash_joined image permits) kept is
       by false is = subst IsKept (same_Some t a is) refl
 
-  pub retold_kept : (words : Program) (f : PairFacts) (instr : Instr) → retold words s f instr t ≡ Some a → is_one_of (written instr) r ≡ false → IsKept a
-  retold_kept words f (i.Binary op d q) e kept = binary_kept op d q kept e
-  retold_kept words f (i.LpmZ d) e kept = flash_kept words d _ [] kept e
-  retold_kept words f (i.LpmZPlus d) e kept = flash_kept words d _ (30 ∷ 31 ∷ []) kept e
-  retold_kept words f i.Lpm e kept = flash_kept words 0 _ [] kept e
-  retold_kept words f _ e kept = subst IsKept (same_Some t a e) refl
+  pub retold_kept : (image : Image) (f : PairFacts) (instr : Instr) → retold image s f instr t ≡ Some a → is_one_of (written instr) r ≡ false → IsKept a
+  retold_kept image f (i.Binary op d q) e kept = binary_kept op d q kept e
+  retold_kept image f (i.LpmZ d) e kept = flash_kept image d _ [] kept e
+  retold_kept image f (i.LpmZPlus d) e kept = flash_kept image d _ (30 ∷ 31 ∷ []) kept e
+  retold_kept image f i.Lpm e kept = flash_kept image 0 _ [] kept e
+  retold_kept image f _ e kept = subst IsKept (same_Some t a e) refl
 
 -- ---- pairs that have their hulls
 

@@ -6,7 +6,7 @@ use Rattle.std.proofs.lemmas.Nat.Bits.{bit_at-lt}
 use Prim.Native.String.{String}
 use Rattle.avr_model.specs.declared.instruction.Instr.{Instr}
 use Rattle.avr_model.specs.declared.device.Device.{Device}
-use Rattle.avr_model.specs.Devices.{Program, device_of}
+use Rattle.avr_model.specs.Devices.{Image, device_of}
 use Rattle.avr_model.specs.Image.{word_at}
 use Rattle.avr_model.specs.Sites.{is_lacking, on_device, instruction_at}
 use Rattle.avr_model.specs.Pattern.{places, letter}
@@ -333,6 +333,6 @@ there : (w next : ℕ) (instr : Instr) → decoded w next ≡ Some instr → Has
 unfolding decoded
 there w next instr e = there_in table w next instr all_there e
 
-pub registers_there : (words : Program) (pc : ℕ) (instr : Instr) → instruction_at words pc ≡ Some instr → HasRegisters instr
-registers_there words pc instr e =
-    there (word_at words pc) (word_at words (pc + 1)) instr (on_device_is (device_of words) (decoded (word_at words pc) (word_at words (pc + 1))) instr e)
+pub registers_there : (image : Image) (pc : ℕ) (instr : Instr) → instruction_at image pc ≡ Some instr → HasRegisters instr
+registers_there image pc instr e =
+    there (word_at image pc) (word_at image (pc + 1)) instr (on_device_is (device_of image) (decoded (word_at image pc) (word_at image (pc + 1))) instr e)

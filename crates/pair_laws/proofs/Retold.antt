@@ -18,7 +18,7 @@ use Rattle.avr_model.specs.Sums.{sum_of}
 use Rattle.avr_model.specs.State.{State, pair}
 use Rattle.avr_model.specs.Effects.{flash_read as byte_read, binary_effect}
 use Rattle.avr_model.specs.Step.{with_registers}
-use Rattle.avr_model.specs.Devices.{Program}
+use Rattle.avr_model.specs.Devices.{Image}
 use Rattle.bit_domain.specs.declared.bits.Tri.{Tri}
 use Rattle.bit_domain.specs.declared.bits.Tri.TheVariants.{Zero}
 use Rattle.bit_domain.specs.declared.bytes.TriByte.{TriByte}
@@ -124,12 +124,12 @@ pub data IsRetold (t u : AbsState) : Type 0 where
   same : u ≡ t → IsRetold t u
   sets : (d : ℕ) (v : AbsByte) → u ≡ with_value t d v → ByteFits v → v.tag ≡ tag.None → IsRetold t u
 
-joined_was : (words : Program) (t u : AbsState) (d : ℕ) (permits : ℕ → Bool) (o : Option AbsByte) → flash_joined words permits ≡ o → with_joined t d o ≡ Some u → IsRetold t u
+joined_was : (words : Image) (t u : AbsState) (d : ℕ) (permits : ℕ → Bool) (o : Option AbsByte) → flash_joined words permits ≡ o → with_joined t d o ≡ Some u → IsRetold t u
 joined_was words t u d permits None is e = absurd (cc)
 joined_was words t u d permits (Some v) is e =
     sets d v (sym (same_Some (with_value t d v) u e)) (flash_fits words permits v is) (flash_untagged words permits v is)
 
-flash_was : (words : Program) (t u : AbsState) (d : ℕ) (permits : ℕ → Bool) → flash_read words t d permits ≡ Some u → IsRetold t u
+flash_was : (words : Image) (t u : AbsState) (d : ℕ) (permits : ℕ → Bool) → flash_read words t d permits ≡ Some u → IsRetold t u
 flash_was words t u d permits e = by (few_in_flash words permits) e
   where
     by : (few : Bool) → (if few then with_joined t d (flash_joined words permits) else Some t) ≡ Some u → IsRetold t u
@@ -158,7 +158,7 @@ binary_was s t u op d r e = by (d == r) (sym (same_Some (if d == r then doubled_
     by true is = subst (IsRetold t) (sym is) (doubled_was s t op d)
     by false is = same is
 
-pub retold_was : (words : Program) (s : AbsState) (f : PairFacts) (instr : Instr) (t u : AbsState) → retold words s f instr t ≡ Some u → IsRetold t u
+pub retold_was : (words : Image) (s : AbsState) (f : PairFacts) (instr : Instr) (t u : AbsState) → retold words s f instr t ≡ Some u → IsRetold t u
 retold_was words s f (i.Binary op d r) t u e = binary_was s t u op d r e
 retold_was words s f (i.LpmZ d) t u e = flash_was words t u d (pair_permits (z_of s f)) e
 retold_was words s f (i.LpmZPlus d) t u e = flash_was words t u d (pair_permits (z_of s f)) e
@@ -167,13 +167,13 @@ retold_was words s f _ t u e = same (sym (same_Some t u e))
 
 -- ---- it says more than the plain rules
 
-joined_under : (words : Program) (t u : AbsState) (d : ℕ) (p : PairSet) → CoversFlash words p (value_at t.registers d) → few_in_flash words (pair_permits p) ≡ true
+joined_under : (words : Image) (t u : AbsState) (d : ℕ) (p : PairSet) → CoversFlash words p (value_at t.registers d) → few_in_flash words (pair_permits p) ≡ true
     → (o : Option AbsByte) → flash_joined words (pair_permits p) ≡ o → with_joined t d o ≡ Some u → IsStateWithin u t
 joined_under words t u d p covers few None is e = absurd (cc)
 joined_under words t u d p covers few (Some v) is e =
     subst (λ (w : AbsState). IsStateWithin w t) (same_Some (with_value t d v) u e) (value_less t d v (flash_covered words p (value_at t.registers d) covers few v is))
 
-flash_under : (words : Program) (t u : AbsState) (d : ℕ) (p : PairSet) → CoversFlash words p (value_at t.registers d) → flash_read words t d (pair_permits p) ≡ Some u → IsStateWithin u t
+flash_under : (words : Image) (t u : AbsState) (d : ℕ) (p : PairSet) → CoversFlash words p (value_at t.registers d) → flash_read words t d (pair_permits p) ≡ Some u → IsStateWithin u t
 flash_under words t u d p covers e = by (few_in_flash words (pair_permits p)) refl e
   where
     by : (few : Bool) → few_in_flash words (pair_permits p) ≡ few → (if few then with_joined t d (flash_joined words (pair_permits p)) else Some t) ≡ Some u → IsStateWithin u t
@@ -202,7 +202,7 @@ binary_under s t u op d r covers e = by (d == r) refl (sym (same_Some (if d == r
     by true few_is is = subst (λ (w : AbsState). IsStateWithin w t) (sym is) (doubled_under s t op d (covers (eqb-true d r few_is)))
     by false many is = subst (λ (w : AbsState). IsStateWithin w t) (sym is) (states_are_ordered.same t)
 
-pub retold_under : (words : Program) (s : AbsState) (f : PairFacts) (instr : Instr) (t u : AbsState) → CoversTold words s instr t → retold words s f instr t ≡ Some u → IsStateWithin u t
+pub retold_under : (words : Image) (s : AbsState) (f : PairFacts) (instr : Instr) (t u : AbsState) → CoversTold words s instr t → retold words s f instr t ≡ Some u → IsStateWithin u t
 retold_under words s f (i.Binary op d r) t u covers e = binary_under s t u op d r covers e
 retold_under words s f (i.LpmZ d) t u covers e = flash_under words t u d (z_of s f) (covers f) e
 retold_under words s f (i.LpmZPlus d) t u covers e = flash_under words t u d (z_of s f) (covers f) e
@@ -225,7 +225,7 @@ z_within s s' f f' le facts =
 abbrev IsMoreThan : AbsState → Option AbsState → Type 0
 IsMoreThan u o = (u' : AbsState) × (o ≡ Some u') × IsStateWithin u u'
 
-module _ (words : Program) (t t' u : AbsState) (d : ℕ) (count : length t.registers ≡ length t'.registers) (le : IsStateWithin t t') (p p' : PairSet) (more : IsPairWithin p p')
+module _ (words : Image) (t t' u : AbsState) (d : ℕ) (count : length t.registers ≡ length t'.registers) (le : IsStateWithin t t') (p p' : PairSet) (more : IsPairWithin p p')
     (covers : CoversFlash words p' (value_at t'.registers d)) where
   -- few numbers are permitted of both
   both_few : (o : Option AbsByte) → flash_joined words (pair_permits p) ≡ o → with_joined t d o ≡ Some u → IsMoreThan u (with_joined t' d (flash_joined words (pair_permits p')))
@@ -296,7 +296,7 @@ module _ (s s' t t' : AbsState) (count : length t.registers ≡ length t'.regist
   plain_more : (u : AbsState) → Some t ≡ Some u → IsMoreThan u (Some t')
   plain_more u e = (t', refl, subst (λ (w : AbsState). IsStateWithin w t') (same_Some t u e) le)
 
-  pub retold_more : (words : Program) (f f' : PairFacts) (instr : Instr) (u : AbsState) → HasRegisters instr → AreFactsWithin f f' → CoversTold words s' instr t'
+  pub retold_more : (words : Image) (f f' : PairFacts) (instr : Instr) (u : AbsState) → HasRegisters instr → AreFactsWithin f f' → CoversTold words s' instr t'
       → retold words s f instr t ≡ Some u → (u' : AbsState) × (retold words s' f' instr t' ≡ Some u') × IsStateWithin u u'
   retold_more words f f' (i.Binary op d r) u fit facts covers e = binary_more u op d r fit.0 e
   retold_more words f f' (i.LpmZ d) u fit facts covers e = flash_more words t t' u d count le (z_of s f) (z_of s' f') (z_within s s' f f' within facts) (covers f') e
@@ -330,7 +330,7 @@ byte_small words z all = here (z % 2 == 0)
 abbrev StandsRetold : Origin → AbsState → Option AbsState → List ℕ → Type 0
 StandsRetold o t left registers = (u : AbsState) × (left ≡ Some u) × RegistersStand o u.registers registers × (u.facts ≡ t.facts)
 
-module _ (o : Origin) (m : State) (s t : AbsState) (n : ℕ) (at : IsBefore o s m) (words : Program) (are : All (λ w. w < 65536) words.words) (f : PairFacts)
+module _ (o : Origin) (m : State) (s t : AbsState) (n : ℕ) (at : IsBefore o s m) (words : Image) (are : All (λ w. w < 65536) words.words) (f : PairFacts)
     (h : HoldsAt (Some f) m.registers m.sreg) (registers : List ℕ) (stand : RegistersStand o t.registers registers) where
   plain_stands : StandsRetold o t (Some t) registers
   plain_stands = (t, refl, stand, refl)
@@ -382,7 +382,7 @@ module _ (o : Origin) (m : State) (s t : AbsState) (n : ℕ) (at : IsBefore o s 
       carry_small true = omega arith
       carry_small false = omega arith
 
-module _ (o : Origin) (m : State) (s t : AbsState) (n : ℕ) (at : IsBefore o s m) (words : Program) (are : All (λ w. w < 65536) words.words) (f : PairFacts)
+module _ (o : Origin) (m : State) (s t : AbsState) (n : ℕ) (at : IsBefore o s m) (words : Image) (are : All (λ w. w < 65536) words.words) (f : PairFacts)
     (h : HoldsAt (Some f) m.registers m.sreg) (still : Bool) (b1 b2 : ℕ) where
   set_at : (d x : ℕ) → d < 32 → slice_index (slice_set m.registers d x) d ≡ x
   set_at d x lt = set_there m.registers d x (omega (arith, lt, at.count))

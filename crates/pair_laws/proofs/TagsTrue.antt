@@ -21,7 +21,7 @@ use Rattle.avr_model.specs.Wide.{wide_of, flags_of_wide}
 use Rattle.avr_model.specs.State.{State, register, pair}
 use Rattle.avr_model.specs.Effects.{carry, binary_effect, immediate_effect, unary_effect}
 use Rattle.avr_model.specs.Step.{with_registers}
-use Rattle.avr_model.specs.Devices.{Program}
+use Rattle.avr_model.specs.Devices.{Image}
 use Rattle.abs_alu.proofs.AllLaws.{below_two}
 use Rattle.sp_domain.specs.Tags.{Origin}
 use Rattle.pair_domain.specs.declared.tags.SumTag.TheVariants as sum
@@ -220,12 +220,12 @@ high_compared registers bytes (compare.Byte x y) d r s fit h = by (is_odd d && (
 -- ---- by the instruction
 
 module _ (o : Origin) (m : State) (s : AbsState) (n : ℕ) (at : IsBefore o s m) (formed : IsFormed s n) (f : PairFacts) (fits : FactsFit f)
-    (h : HoldsAt (Some f) m.registers m.sreg) (words : Program) where
+    (h : HoldsAt (Some f) m.registers m.sreg) (image : Image) where
   inside : (d : ℕ) → d < 32 → d < length m.registers
   inside d lt = omega (arith, lt, at.count)
 
   binary_sum : (op : BinaryOp) (d r : ℕ) → d < 32 → r < 32
-      → SumHolds (with_registers m.registers (binary_effect words m op d r).registers) (sum_of_binary s.registers f op d r) (flag (binary_effect words m op d r).sreg 0)
+      → SumHolds (with_registers m.registers (binary_effect image m op d r).registers) (sum_of_binary s.registers f op d r) (flag (binary_effect image m op d r).sreg 0)
   binary_sum binary.Cpc d r lt other = tt
   binary_sum binary.Sbc d r lt other = tt
   binary_sum binary.Add d r lt other =
@@ -251,8 +251,8 @@ module _ (o : Origin) (m : State) (s : AbsState) (n : ℕ) (at : IsBefore o s m)
   immediate_sum immediate.Ldi d k lt byte = tt
 
   binary_compare : (op : BinaryOp) (d r : ℕ)
-      → CompareHolds (with_registers m.registers (binary_effect words m op d r).registers) (compare_of_binary f op d r) (flag (binary_effect words m op d r).sreg 0)
-      (flag (binary_effect words m op d r).sreg 1) (flag (binary_effect words m op d r).sreg 4)
+      → CompareHolds (with_registers m.registers (binary_effect image m op d r).registers) (compare_of_binary f op d r) (flag (binary_effect image m op d r).sreg 0)
+      (flag (binary_effect image m op d r).sreg 1) (flag (binary_effect image m op d r).sreg 4)
   binary_compare binary.Cpc d r = high_compared m.registers at.bytes f.compare d r m.sreg fits.compare h.compare
   binary_compare binary.Sbc d r = tt
   binary_compare binary.Add d r = tt
@@ -277,7 +277,7 @@ module _ (o : Origin) (m : State) (s : AbsState) (n : ℕ) (at : IsBefore o s m)
   immediate_compare immediate.Ldi d k byte = tt
 
   binary_zero : (op : BinaryOp) (d r : ℕ) → d < 32
-      → ZeroHolds (with_registers m.registers (binary_effect words m op d r).registers) (zero_of_binary f op d) (flag (binary_effect words m op d r).sreg 1)
+      → ZeroHolds (with_registers m.registers (binary_effect image m op d r).registers) (zero_of_binary f op d) (flag (binary_effect image m op d r).sreg 1)
   binary_zero binary.Cpc d r lt = tt
   binary_zero binary.Sbc d r lt = kept_zero m.registers at.count f.zero d (slice_index m.registers r) m.sreg (flag m.sreg 0) lt h.zero
   binary_zero binary.Add d r lt = zero_there m.registers d _ _ (inside d lt) (sum_zero (register m d) (register m r) false m.sreg)
@@ -316,19 +316,19 @@ module _ (o : Origin) (m : State) (s : AbsState) (n : ℕ) (at : IsBefore o s m)
   wide_zero d w z lt is = is ∙ ap (λ (x : ℕ). x == 0) (sym (set_word m.registers at.count d w lt))
 
   module _ (still : Bool) (b1 b2 : ℕ) where
-    sum_true : (instr : Instr) → HasRegisters instr → SumHolds (registers_set words still m instr b1 b2) (sum_of s.registers f instr) (flag (sreg_set words still m instr b1 b2) 0)
+    sum_true : (instr : Instr) → HasRegisters instr → SumHolds (registers_set image still m instr b1 b2) (sum_of s.registers f instr) (flag (sreg_set image still m instr b1 b2) 0)
     sum_true (i.Binary op d r) fit = binary_sum op d r fit.0 fit.1
     sum_true (i.Immediate op d k) fit = immediate_sum op d k fit.0 fit.1
     sum_true _ fit = tt
 
     compare_true : (instr : Instr) → HasRegisters instr
-        → CompareHolds (registers_set words still m instr b1 b2) (compare_of f instr) (flag (sreg_set words still m instr b1 b2) 0) (flag (sreg_set words still m instr b1 b2) 1)
-        (flag (sreg_set words still m instr b1 b2) 4)
+        → CompareHolds (registers_set image still m instr b1 b2) (compare_of f instr) (flag (sreg_set image still m instr b1 b2) 0) (flag (sreg_set image still m instr b1 b2) 1)
+        (flag (sreg_set image still m instr b1 b2) 4)
     compare_true (i.Binary op d r) fit = binary_compare op d r
     compare_true (i.Immediate op d k) fit = immediate_compare op d k fit.1
     compare_true _ fit = tt
 
-    zero_true : (instr : Instr) → HasRegisters instr → ZeroHolds (registers_set words still m instr b1 b2) (zero_of f instr) (flag (sreg_set words still m instr b1 b2) 1)
+    zero_true : (instr : Instr) → HasRegisters instr → ZeroHolds (registers_set image still m instr b1 b2) (zero_of f instr) (flag (sreg_set image still m instr b1 b2) 1)
     zero_true (i.Binary op d r) fit = binary_zero op d r fit.0
     zero_true (i.Immediate op d k) fit = immediate_zero op d k fit.0
     zero_true (i.Unary op d) fit = unary_zero op d fit
@@ -336,8 +336,8 @@ module _ (o : Origin) (m : State) (s : AbsState) (n : ℕ) (at : IsBefore o s m)
     zero_true (i.Sbiw d k) fit = wide_zero d (wide_of false (pair m (2 * d)) k) _ fit.0 (wide_is_zero false (pair m (2 * d)) k m.sreg)
     zero_true _ fit = tt
 
-    pub tags_true : (instr : Instr) (x : Option PairFacts) → HasRegisters instr → HoldsAt x (registers_set words still m instr b1 b2) (sreg_set words still m instr b1 b2)
-        → HoldsAt (tagged s.registers f instr x) (registers_set words still m instr b1 b2) (sreg_set words still m instr b1 b2)
+    pub tags_true : (instr : Instr) (x : Option PairFacts) → HasRegisters instr → HoldsAt x (registers_set image still m instr b1 b2) (sreg_set image still m instr b1 b2)
+        → HoldsAt (tagged s.registers f instr x) (registers_set image still m instr b1 b2) (sreg_set image still m instr b1 b2)
     tags_true instr None fit holds = tt
     tags_true instr (Some g) fit holds = record {
       intervals = holds.intervals;
@@ -346,15 +346,15 @@ module _ (o : Origin) (m : State) (s : AbsState) (n : ℕ) (at : IsBefore o s m)
       zero = zero_by (sets_flags instr);
     }
       where
-        sum_by : (b : Bool) → SumHolds (registers_set words still m instr b1 b2) (if b then sum_of s.registers f instr else g.sum) (flag (sreg_set words still m instr b1 b2) 0)
+        sum_by : (b : Bool) → SumHolds (registers_set image still m instr b1 b2) (if b then sum_of s.registers f instr else g.sum) (flag (sreg_set image still m instr b1 b2) 0)
         sum_by true = sum_true instr fit
         sum_by false = holds.sum
 
-        compare_by : (b : Bool) → CompareHolds (registers_set words still m instr b1 b2) (if b then compare_of f instr else g.compare) (flag (sreg_set words still m instr b1 b2) 0)
-            (flag (sreg_set words still m instr b1 b2) 1) (flag (sreg_set words still m instr b1 b2) 4)
+        compare_by : (b : Bool) → CompareHolds (registers_set image still m instr b1 b2) (if b then compare_of f instr else g.compare) (flag (sreg_set image still m instr b1 b2) 0)
+            (flag (sreg_set image still m instr b1 b2) 1) (flag (sreg_set image still m instr b1 b2) 4)
         compare_by true = compare_true instr fit
         compare_by false = holds.compare
 
-        zero_by : (b : Bool) → ZeroHolds (registers_set words still m instr b1 b2) (if b then zero_of f instr else g.zero) (flag (sreg_set words still m instr b1 b2) 1)
+        zero_by : (b : Bool) → ZeroHolds (registers_set image still m instr b1 b2) (if b then zero_of f instr else g.zero) (flag (sreg_set image still m instr b1 b2) 1)
         zero_by true = zero_true instr fit
         zero_by false = holds.zero

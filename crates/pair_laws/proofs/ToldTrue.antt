@@ -19,7 +19,7 @@ use Rattle.avr_model.specs.Sums.{sum_of, difference_of}
 use Rattle.avr_model.specs.State.{State, pair, plus16, minus16}
 use Rattle.avr_model.specs.Effects.{moved, set, binary_effect, immediate_effect}
 use Rattle.avr_model.specs.Step.{with_registers}
-use Rattle.avr_model.specs.Devices.{Program}
+use Rattle.avr_model.specs.Devices.{Image}
 use Rattle.bit_domain.proofs.AllLaws.{ranges_fit}
 use Rattle.sp_domain.specs.Tags.{Origin}
 use Rattle.pair_domain.specs.declared.intervals.Interval.{Interval}
@@ -159,26 +159,26 @@ module _ (o : Origin) (m : State) (s : AbsState) (n : ℕ) (at : IsBefore o s m)
       by true e =
           subst (InInterval (interval_of f d)) (sym (same_is m.registers at.count d (d / 2) x (is (eqb-true d r e)))) (h.intervals (d / 2) (omega (arith, lt)))
 
-  binary_true : (words : Program) (op : BinaryOp) (d r : ℕ) → d < 32 → r < 32
-      → TellsTrue (told_binary s.registers f op d r) (with_registers m.registers (binary_effect words m op d r).registers)
-  binary_true words binary.Cpc d r small other = tt
-  binary_true words binary.Sbc d r small other =
+  binary_true : (image : Image) (op : BinaryOp) (d r : ℕ) → d < 32 → r < 32
+      → TellsTrue (told_binary s.registers f op d r) (with_registers m.registers (binary_effect image m op d r).registers)
+  binary_true image binary.Cpc d r small other = tt
+  binary_true image binary.Sbc d r small other =
       sbc_true m.registers at.count at.bytes f m.sreg h d (value_at s.registers r).low (value_at s.registers r).high (slice_index m.registers r) small (operand_at o s m n r at formed other) fits.sum
-  binary_true words binary.Add d r small other =
+  binary_true image binary.Add d r small other =
       add_true m.registers at.count at.bytes f m.sreg h d (value_at s.registers r).low (value_at s.registers r).high (slice_index m.registers r) small (operand_at o s m n r at formed other)
-  binary_true words binary.Cpse d r small other = tt
-  binary_true words binary.Cp d r small other = tt
-  binary_true words binary.Sub d r small other =
+  binary_true image binary.Cpse d r small other = tt
+  binary_true image binary.Cp d r small other = tt
+  binary_true image binary.Sub d r small other =
       sub_true m.registers at.count at.bytes f m.sreg h d (value_at s.registers r).low (value_at s.registers r).high (slice_index m.registers r) small (operand_at o s m n r at formed other)
-  binary_true words binary.Adc d r small other =
+  binary_true image binary.Adc d r small other =
       adc_true m.registers at.count at.bytes f m.sreg h d (value_at s.registers r).low (value_at s.registers r).high (slice_index m.registers r) small (operand_at o s m n r at formed other) fits.sum
-  binary_true words binary.And d r small other =
+  binary_true image binary.And d r small other =
       same_true d r _ small (λ e. ap (λ (q : ℕ). bit_and (slice_index m.registers d) (slice_index m.registers q)) (sym e) ∙ and_self (slice_index m.registers d))
-  binary_true words binary.Eor d r small other = tt
-  binary_true words binary.Or d r small other =
+  binary_true image binary.Eor d r small other = tt
+  binary_true image binary.Or d r small other =
       same_true d r _ small (λ e. ap (λ (q : ℕ). bit_or (slice_index m.registers d) (slice_index m.registers q)) (sym e) ∙ or_self (slice_index m.registers d))
-  binary_true words binary.Mov d r small other = tt
-  binary_true words binary.Mul d r small other =
+  binary_true image binary.Mov d r small other = tt
+  binary_true image binary.Mul d r small other =
       let a = operand_at o s m n d at formed small in
       let b = operand_at o s m n r at formed other in
       subst (InInterval (product (value_at s.registers d).low (value_at s.registers d).high (value_at s.registers r).low (value_at s.registers r).high))
@@ -221,23 +221,23 @@ module _ (o : Origin) (m : State) (s : AbsState) (n : ℕ) (at : IsBefore o s m)
   wide_less : (w k : ℕ) → w < 65536 → k < 256 → minus16 w k ≡ (65536 + w - k) % 65536
   wide_less w k small lt = omega arith
 
-  pub told_true : (words : Program) (still : Bool) (b1 b2 : ℕ) (instr : Instr) → HasRegisters instr → TellsTrue (told_by s.registers f instr) (registers_set words still m instr b1 b2)
-  told_true words still b1 b2 (i.Movw d r) fit =
+  pub told_true : (image : Image) (still : Bool) (b1 b2 : ℕ) (instr : Instr) → HasRegisters instr → TellsTrue (told_by s.registers f instr) (registers_set image still m instr b1 b2)
+  told_true image still b1 b2 (i.Movw d r) fit =
       subst (InInterval (interval_at f.intervals r)) (sym (set_word m.registers at.count d (pair m (2 * r)) fit.0)) (h.intervals r fit.1)
-  told_true words still b1 b2 (i.Binary op d r) fit = binary_true words op d r fit.0 fit.1
-  told_true words still b1 b2 (i.Immediate op d k) fit = immediate_true op d k fit.0 fit.1
-  told_true words still b1 b2 (i.Adiw d k) fit =
+  told_true image still b1 b2 (i.Binary op d r) fit = binary_true image op d r fit.0 fit.1
+  told_true image still b1 b2 (i.Immediate op d k) fit = immediate_true op d k fit.0 fit.1
+  told_true image still b1 b2 (i.Adiw d k) fit =
       word_true d ((pair m (2 * d) + k) % 65536) (moved_up (interval_at f.intervals d) k) fit.0 (omega arith)
       (rows_are_true.up (interval_at f.intervals d) (pair m (2 * d)) k (h.intervals d fit.0))
-  told_true words still b1 b2 (i.Sbiw d k) fit =
+  told_true image still b1 b2 (i.Sbiw d k) fit =
       word_true d ((65536 + pair m (2 * d) - k) % 65536) (moved_down (interval_at f.intervals d) k) fit.0 (omega arith)
       (subst (ToldHolds (moved_down (interval_at f.intervals d) k)) (wide_less (pair m (2 * d)) k (word_of (2 * d)) fit.1)
       (rows_are_true.down (interval_at f.intervals d) (pair m (2 * d)) k (omega (arith, fit.1)) (h.intervals d fit.0)))
-  told_true words still b1 b2 (i.Ld d p) fit = load_true d _ p
-  told_true words still b1 b2 (i.St p r) fit = store_true p
-  told_true words still b1 b2 (i.LpmZPlus d) fit = pointer_true d 15 (plus16 (pair m 30) 1) _ _ (omega arith) (omega arith) (up_true 15 (omega arith) (pair m 30) refl)
-  told_true words still b1 b2 (i.ElpmZPlus d) fit = pointer_true d 15 (plus16 (pair m 30) 1) _ _ (omega arith) (omega arith) (up_true 15 (omega arith) (pair m 30) refl)
-  told_true words still b1 b2 _ fit = tt
+  told_true image still b1 b2 (i.Ld d p) fit = load_true d _ p
+  told_true image still b1 b2 (i.St p r) fit = store_true p
+  told_true image still b1 b2 (i.LpmZPlus d) fit = pointer_true d 15 (plus16 (pair m 30) 1) _ _ (omega arith) (omega arith) (up_true 15 (omega arith) (pair m 30) refl)
+  told_true image still b1 b2 (i.ElpmZPlus d) fit = pointer_true d 15 (plus16 (pair m 30) 1) _ _ (omega arith) (omega arith) (up_true 15 (omega arith) (pair m 30) refl)
+  told_true image still b1 b2 _ fit = tt
 
 -- ---- it fits
 

@@ -7,7 +7,7 @@ use Rattle.avr_model.specs.State.{State}
 use Rattle.avr_model.specs.Effects.{effect_of}
 use Rattle.avr_model.specs.Step.{with_registers}
 use Rattle.avr_model.specs.Written.{written}
-use Rattle.avr_model.specs.Devices.{Program}
+use Rattle.avr_model.specs.Devices.{Image}
 use Rattle.bit_domain.specs.declared.bits.Tri.{Tri}
 use Rattle.bit_domain.specs.declared.bytes.TriByte.{TriByte}
 use Rattle.bit_domain.specs.TriByte.{byte_constant}
@@ -33,25 +33,25 @@ abbrev pub AreRegisterBytes : List ℕ → Type 0
 AreRegisterBytes registers = (r : ℕ) → slice_index registers r < 256
 
 -- the registers and the status register after an instruction, before a byte is stored
-abbrev pub registers_set : Program → Bool → State → Instr → ℕ → ℕ → List ℕ
-registers_set words still m instr b1 b2 = with_registers m.registers (effect_of words still m instr b1 b2).registers
+abbrev pub registers_set : Image → Bool → State → Instr → ℕ → ℕ → List ℕ
+registers_set image still m instr b1 b2 = with_registers m.registers (effect_of image still m instr b1 b2).registers
 
-abbrev pub sreg_set : Program → Bool → State → Instr → ℕ → ℕ → ℕ
-sreg_set words still m instr b1 b2 = (effect_of words still m instr b1 b2).sreg
+abbrev pub sreg_set : Image → Bool → State → Instr → ℕ → ℕ → ℕ
+sreg_set image still m instr b1 b2 = (effect_of image still m instr b1 b2).sreg
 
 -- ---- what laws of the rows ask for
 
 -- the registers of each instruction of a program are among the 32
 pub record OperandsFit : Type 0 where
-  pub fit : (words : Program) (pc : ℕ) (instr : Instr) → instruction_at words pc ≡ Some instr → HasRegisters instr
+  pub fit : (image : Image) (pc : ℕ) (instr : Instr) → instruction_at image pc ≡ Some instr → HasRegisters instr
 
 -- The plain sum of a byte with itself is above the doubled byte. A plain read of flash is above each byte at a permitted number of the
 -- pair.
 pub record ValuesAreCovered : Type 0 where
   pub doubled : (bits flags : TriByte) (carry : Tri) → IsByteWithin (untagged (doubled bits carry)) (with_bits tag.None (abs_add bits bits carry flags).0)
-  pub constant : (words : Program) (p : PairSet) (x y : ℕ) → byte_constant p.low.bits ≡ Some x → byte_constant p.high.bits ≡ Some y
-      → CoversFlash words p (flash_at words (x + 256 * y))
-  pub unknown : (words : Program) (p : PairSet) → CoversFlash words p unknown
+  pub constant : (image : Image) (p : PairSet) (x y : ℕ) → byte_constant p.low.bits ≡ Some x → byte_constant p.high.bits ≡ Some y
+      → CoversFlash image p (flash_at image (x + 256 * y))
+  pub unknown : (image : Image) (p : PairSet) → CoversFlash image p unknown
   pub permits : (p : PairSet) (x y : ℕ) → PairStands p x y → pair_permits p (x + 256 * y) ≡ true
 
 -- ---- refined states
@@ -76,26 +76,26 @@ pub record IsLike (t u : AbsState) : Type 0 where
 
 -- If the state before the instruction and the plain one after it hold, the refined one exists and holds.
 pub record RefinedHolds : Type 0 where
-  pub holds : (marks : List ℕ) (words : Program) (still : Bool) (o : Origin) (m : State) (instr : Instr) (b1 b2 n k : ℕ) (s t : AbsState) → All (λ w. w < 65536) words.words
-      → HasRegisters instr → IsFormed s n → IsFormed t k → IsBefore o s m → IsBehind o t (registers_set words still m instr b1 b2) (sreg_set words still m instr b1 b2)
-      → (u : AbsState) × (refined marks words instr s t ≡ Some u) × IsBehind o u (registers_set words still m instr b1 b2) (sreg_set words still m instr b1 b2)
+  pub holds : (marks : List ℕ) (image : Image) (still : Bool) (o : Origin) (m : State) (instr : Instr) (b1 b2 n k : ℕ) (s t : AbsState) → All (λ w. w < 65536) image.words
+      → HasRegisters instr → IsFormed s n → IsFormed t k → IsBefore o s m → IsBehind o t (registers_set image still m instr b1 b2) (sreg_set image still m instr b1 b2)
+      → (u : AbsState) × (refined marks image instr s t ≡ Some u) × IsBehind o u (registers_set image still m instr b1 b2) (sreg_set image still m instr b1 b2)
 
 -- The refined state is within the plain one, with the same flags and slots. It is monotone, and formed if the plain one is.
 pub record RefinedIsOrdered : Type 0 where
-  pub like : (marks : List ℕ) (words : Program) (instr : Instr) (s t u : AbsState) → refined marks words instr s t ≡ Some u → IsLike t u
-  pub under : (marks : List ℕ) (words : Program) (instr : Instr) (n k : ℕ) (s t u : AbsState) → HasRegisters instr → IsFormed s n → IsFormed t k
-      → IsPlain words instr s t → refined marks words instr s t ≡ Some u → IsStateWithin u t
-  pub more : (marks : List ℕ) (words : Program) (instr : Instr) (n k : ℕ) (s s' t t' u : AbsState) → HasRegisters instr → IsFormed s n → IsFormed s' n → IsFormed t k
-      → IsFormed t' k → IsPlain words instr s t → IsPlain words instr s' t' → IsStateWithin s s' → IsStateWithin t t' → refined marks words instr s t ≡ Some u
-      → (u' : AbsState) × (refined marks words instr s' t' ≡ Some u') × IsStateWithin u u'
-  pub formed : (marks : List ℕ) (words : Program) (instr : Instr) (n k : ℕ) (s t u : AbsState) → HasRegisters instr → IsFormed s n → IsFormed t k
-      → refined marks words instr s t ≡ Some u → IsFormed u k
-  pub tags : (marks : List ℕ) (words : Program) (instr : Instr) (n k : ℕ) (s t u : AbsState) → HasRegisters instr → IsFormed s n → IsFormed t k → TagsFit t
-      → refined marks words instr s t ≡ Some u → TagsFit u
-  pub untagged : (marks : List ℕ) (words : Program) (instr : Instr) (n k : ℕ) (s t u : AbsState) → HasRegisters instr → IsFormed s n → IsFormed t k → IsUntagged t
-      → refined marks words instr s t ≡ Some u → IsUntagged u
+  pub like : (marks : List ℕ) (image : Image) (instr : Instr) (s t u : AbsState) → refined marks image instr s t ≡ Some u → IsLike t u
+  pub under : (marks : List ℕ) (image : Image) (instr : Instr) (n k : ℕ) (s t u : AbsState) → HasRegisters instr → IsFormed s n → IsFormed t k
+      → IsPlain image instr s t → refined marks image instr s t ≡ Some u → IsStateWithin u t
+  pub more : (marks : List ℕ) (image : Image) (instr : Instr) (n k : ℕ) (s s' t t' u : AbsState) → HasRegisters instr → IsFormed s n → IsFormed s' n → IsFormed t k
+      → IsFormed t' k → IsPlain image instr s t → IsPlain image instr s' t' → IsStateWithin s s' → IsStateWithin t t' → refined marks image instr s t ≡ Some u
+      → (u' : AbsState) × (refined marks image instr s' t' ≡ Some u') × IsStateWithin u u'
+  pub formed : (marks : List ℕ) (image : Image) (instr : Instr) (n k : ℕ) (s t u : AbsState) → HasRegisters instr → IsFormed s n → IsFormed t k
+      → refined marks image instr s t ≡ Some u → IsFormed u k
+  pub tags : (marks : List ℕ) (image : Image) (instr : Instr) (n k : ℕ) (s t u : AbsState) → HasRegisters instr → IsFormed s n → IsFormed t k → TagsFit t
+      → refined marks image instr s t ≡ Some u → TagsFit u
+  pub untagged : (marks : List ℕ) (image : Image) (instr : Instr) (n k : ℕ) (s t u : AbsState) → HasRegisters instr → IsFormed s n → IsFormed t k → IsUntagged t
+      → refined marks image instr s t ≡ Some u → IsUntagged u
   -- registers that are not written keep their sets
-  pub hulls : (marks : List ℕ) (words : Program) (instr : Instr) (n k : ℕ) (s t u : AbsState) → HasRegisters instr → IsFormed s n → IsFormed t k
+  pub hulls : (marks : List ℕ) (image : Image) (instr : Instr) (n k : ℕ) (s t u : AbsState) → HasRegisters instr → IsFormed s n → IsFormed t k
       → t.facts ≡ ended_by instr s.facts
       → ((r : ℕ) → r < 32 → is_one_of (written instr) r ≡ false → set_of (value_at t.registers r) ≡ set_of (value_at s.registers r)) → IsInHulls s
-      → refined marks words instr s t ≡ Some u → IsInHulls u
+      → refined marks image instr s t ≡ Some u → IsInHulls u

@@ -31,7 +31,7 @@ use Rattle.pair_rules.specs.Told.{told_by}
 use Rattle.pair_rules.specs.Tags.{sum_of, compare_of, zero_of, facts_tagged}
 use Rattle.pair_rules.specs.Values.{doubled, z_of}
 use Rattle.pair_rules.specs.Refined.{refined}
-use Rattle.avr_model.specs.Devices.{Program, M328, image}
+use Rattle.avr_model.specs.Devices.{Image, M328, image_of}
 
 abbrev from : ℕ → ℕ → Interval
 from low high = record { low = low; high = high }
@@ -180,8 +180,8 @@ unfolding packed
 carry_is_the_lowest_bit = refl
 
 -- Z is from 2 to 4: three bytes of flash, 0x10, 0x12 and 0x13
-abbrev table : Program
-table = image M328 (0 ∷ 0x1210 ∷ 0x0013 ∷ [])
+abbrev table : Image
+table = image_of M328 (0 ∷ 0x1210 ∷ 0x0013 ∷ [])
 
 abbrev z_small : AbsByte
 z_small = record unknown { low = 2; high = 4 }

@@ -4,7 +4,7 @@ use Rattle.avr_model.specs.declared.instruction.Instr.{Instr}
 use Rattle.avr_model.specs.declared.instruction.Instr.TheVariants as i
 use Rattle.avr_model.specs.declared.instruction.BinaryOp.{BinaryOp}
 use Rattle.avr_model.specs.declared.instruction.BinaryOp.TheVariants as binary
-use Rattle.avr_model.specs.Devices.{Program}
+use Rattle.avr_model.specs.Devices.{Image}
 use Rattle.bit_domain.specs.declared.bits.Tri.TheVariants.{Zero}
 use Rattle.bit_domain.specs.TriByte.{tri_at}
 use Rattle.pair_domain.specs.declared.facts.PairFacts.{PairFacts}
@@ -38,12 +38,12 @@ HasRegisters (i.Bld d b) = d < 32
 HasRegisters _ = ⊤
 
 -- the value of a byte of flash, as it is read
-abbrev pub flash_at : Program → ℕ → AbsByte
-flash_at words z = if is_flash words z then flash_known words z else unknown
+abbrev pub flash_at : Image → ℕ → AbsByte
+flash_at image z = if is_flash image z then flash_known image z else unknown
 
 -- the value is above each byte of flash at a permitted number of the pair
-abbrev pub CoversFlash : Program → PairSet → AbsByte → Type 0
-CoversFlash words p v = (z : ℕ) → z < 65536 → pair_permits p z ≡ true → IsByteWithin (flash_at words z) v
+abbrev pub CoversFlash : Image → PairSet → AbsByte → Type 0
+CoversFlash image p v = (z : ℕ) → z < 65536 → pair_permits p z ≡ true → IsByteWithin (flash_at image z) v
 
 abbrev pub CoversDoubled : AbsState → BinaryOp → ℕ → AbsByte → Type 0
 CoversDoubled s binary.Add d v = IsByteWithin (doubled_value s d Zero) v
@@ -51,14 +51,14 @@ CoversDoubled s binary.Adc d v = IsByteWithin (doubled_value s d (tri_at s.flags
 CoversDoubled s _ d v = ⊤
 
 -- the register that t sets is above the refined value
-abbrev pub CoversTold : Program → AbsState → Instr → AbsState → Type 0
-CoversTold words s (i.Binary op d r) t = d ≡ r → CoversDoubled s op d (value_at t.registers d)
-CoversTold words s (i.LpmZ d) t = (f : PairFacts) → CoversFlash words (z_of s f) (value_at t.registers d)
-CoversTold words s (i.LpmZPlus d) t = (f : PairFacts) → CoversFlash words (z_of s f) (value_at t.registers d)
-CoversTold words s i.Lpm t = (f : PairFacts) → CoversFlash words (z_of s f) (value_at t.registers 0)
-CoversTold words s _ t = ⊤
+abbrev pub CoversTold : Image → AbsState → Instr → AbsState → Type 0
+CoversTold image s (i.Binary op d r) t = d ≡ r → CoversDoubled s op d (value_at t.registers d)
+CoversTold image s (i.LpmZ d) t = (f : PairFacts) → CoversFlash image (z_of s f) (value_at t.registers d)
+CoversTold image s (i.LpmZPlus d) t = (f : PairFacts) → CoversFlash image (z_of s f) (value_at t.registers d)
+CoversTold image s i.Lpm t = (f : PairFacts) → CoversFlash image (z_of s f) (value_at t.registers 0)
+CoversTold image s _ t = ⊤
 
 -- t is a state by the plain rules after s: its facts are those of s without the ended ones, and its values are above the refined ones
-pub record IsPlain (words : Program) (instr : Instr) (s t : AbsState) : Type 0 where
+pub record IsPlain (image : Image) (instr : Instr) (s t : AbsState) : Type 0 where
   pub facts : t.facts ≡ ended_by instr s.facts
-  pub value : CoversTold words s instr t
+  pub value : CoversTold image s instr t

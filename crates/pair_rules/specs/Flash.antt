@@ -1,7 +1,7 @@
 -- Bytes of flash at the possible numbers of a register pair. Source: own.
 use Rattle.std.specs.Prelude.{ℕ, zero, suc, ◌*◌, ◌/◌, ◌%◌, ◌&&◌, ◌||◌, Bool, not, nat_lt, nat_le, if◌then◌else◌, List, Option, Some, None}
 use Rattle.avr_model.specs.Bits.{all_below}
-use Rattle.avr_model.specs.Devices.{Program, words_of, device_of}
+use Rattle.avr_model.specs.Devices.{Image, words_of, device_of}
 use Rattle.avr_model.specs.Image.{byte_at}
 use Rattle.bit_domain.specs.Ranges.{ByteSet}
 use Rattle.bit_domain.specs.TriByte.{has}
@@ -38,16 +38,16 @@ joined_below permits value (suc n) = if permits n then Some (joined_with (joined
 
 -- ---- flash
 
-abbrev pub flash_known : Program → ℕ → AbsByte
-flash_known words z = known (byte_at words.words z)
+abbrev pub flash_known : Image → ℕ → AbsByte
+flash_known image z = known (byte_at image.words z)
 
-abbrev pub is_flash : Program → ℕ → Bool
-is_flash words z = nat_lt z (2 * words_of (device_of words))
+abbrev pub is_flash : Image → ℕ → Bool
+is_flash image z = nat_lt z (2 * words_of (device_of image))
 
 -- at most 64 numbers are permitted, and all are byte addresses in the device's flash
-abbrev pub few_in_flash : Program → (ℕ → Bool) → Bool
-few_in_flash words permits = nat_le (count_below permits 65536) 64 && all_below 65536 (λ z. not (permits z) || is_flash words z)
+abbrev pub few_in_flash : Image → (ℕ → Bool) → Bool
+few_in_flash image permits = nat_le (count_below permits 65536) 64 && all_below 65536 (λ z. not (permits z) || is_flash image z)
 
 -- the join of the bytes at the permitted numbers; none if no number is permitted
-abbrev pub flash_joined : Program → (ℕ → Bool) → Option AbsByte
-flash_joined words permits = joined_below permits (flash_known words) 65536
+abbrev pub flash_joined : Image → (ℕ → Bool) → Option AbsByte
+flash_joined image permits = joined_below permits (flash_known image) 65536

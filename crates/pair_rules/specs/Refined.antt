@@ -3,7 +3,7 @@
 use Rattle.std.specs.Prelude.{ℕ, List, Option, Some, None}
 use Rattle.avr_model.specs.declared.instruction.Instr.{Instr}
 use Rattle.avr_model.specs.Written.{written}
-use Rattle.avr_model.specs.Devices.{Program}
+use Rattle.avr_model.specs.Devices.{Image}
 use Rattle.pair_domain.specs.declared.intervals.Interval.{Interval}
 use Rattle.pair_domain.specs.declared.facts.PairFacts.{PairFacts}
 use Rattle.pair_domain.specs.Intervals.{interval_meet}
@@ -44,11 +44,11 @@ abbrev pub told_then : List ℕ → AbsState → PairFacts → Instr → Option 
 told_then marks s f instr None = None
 told_then marks s f instr (Some t) = tags_then s f instr (cut_told marks (told_by s.registers f instr) (with_hulls (written instr) t))
 
-abbrev pub refined_known : List ℕ → Program → Instr → AbsState → AbsState → Option PairFacts → Option AbsState
-refined_known marks words instr s t None = Some t
-refined_known marks words instr s t (Some f) = told_then marks s f instr (retold words s f instr t)
+abbrev pub refined_known : List ℕ → Image → Instr → AbsState → AbsState → Option PairFacts → Option AbsState
+refined_known marks image instr s t None = Some t
+refined_known marks image instr s t (Some f) = told_then marks s f instr (retold image s f instr t)
 
 -- s is the state before an instruction, and the other the one after it by the plain rules, with the facts on written registers ended. For
 -- a store it is the state before the byte is stored. None if no machine gets there.
-abbrev pub refined : List ℕ → Program → Instr → AbsState → AbsState → Option AbsState
-refined marks words instr s t = refined_known marks words instr s t s.facts
+abbrev pub refined : List ℕ → Image → Instr → AbsState → AbsState → Option AbsState
+refined marks image instr s t = refined_known marks image instr s t s.facts

@@ -4,7 +4,7 @@ use Rattle.avr_model.specs.declared.instruction.Instr.{Instr}
 use Rattle.avr_model.specs.declared.instruction.Instr.TheVariants as i
 use Rattle.avr_model.specs.declared.instruction.BinaryOp.{BinaryOp}
 use Rattle.avr_model.specs.declared.instruction.BinaryOp.TheVariants as binary
-use Rattle.avr_model.specs.Devices.{Program}
+use Rattle.avr_model.specs.Devices.{Image}
 use Rattle.bit_domain.specs.declared.bits.Tri.{Tri}
 use Rattle.bit_domain.specs.declared.bits.Tri.TheVariants.{Zero}
 use Rattle.bit_domain.specs.declared.bytes.TriByte.{TriByte}
@@ -43,8 +43,8 @@ with_joined t d None = None
 with_joined t d (Some v) = Some (with_value t d v)
 
 -- the join of the bytes if few numbers are permitted and all are in flash, else the plain value
-abbrev pub flash_read : Program → AbsState → ℕ → (ℕ → Bool) → Option AbsState
-flash_read words t d permits = if few_in_flash words permits then with_joined t d (flash_joined words permits) else Some t
+abbrev pub flash_read : Image → AbsState → ℕ → (ℕ → Bool) → Option AbsState
+flash_read image t d permits = if few_in_flash image permits then with_joined t d (flash_joined image permits) else Some t
 
 -- the registers and interval of Z before the instruction
 abbrev pub z_of : AbsState → PairFacts → PairSet
@@ -52,9 +52,9 @@ z_of s f = pair_of s.registers f.intervals 15
 
 -- ---- by the instruction: s is the state before it, and t what the plain rules leave
 
-abbrev pub retold : Program → AbsState → PairFacts → Instr → AbsState → Option AbsState
-retold words s f (i.Binary op d r) t = Some (if d == r then doubled_by s op d t else t)
-retold words s f (i.LpmZ d) t = flash_read words t d (pair_permits (z_of s f))
-retold words s f (i.LpmZPlus d) t = flash_read words t d (pair_permits (z_of s f))
-retold words s f i.Lpm t = flash_read words t 0 (pair_permits (z_of s f))
-retold words s f _ t = Some t
+abbrev pub retold : Image → AbsState → PairFacts → Instr → AbsState → Option AbsState
+retold image s f (i.Binary op d r) t = Some (if d == r then doubled_by s op d t else t)
+retold image s f (i.LpmZ d) t = flash_read image t d (pair_permits (z_of s f))
+retold image s f (i.LpmZPlus d) t = flash_read image t d (pair_permits (z_of s f))
+retold image s f i.Lpm t = flash_read image t 0 (pair_permits (z_of s f))
+retold image s f _ t = Some t

@@ -12,8 +12,8 @@ use abs_state::AbsState;
 use avr_model::instruction::{Instr, Pair};
 use flash_image::Flash;
 use pair_domain::{Interval, PairFacts};
+use pair_rows::{hull_by, told_by};
 use pair_rules::Told;
-use pair_told::{hull_by, told_by};
 
 // Cuts the interval of a pair, and nothing else. Returns whether anything is left.
 fn meet_pair(state: &mut AbsState, n: Pair, interval: Interval) -> bool

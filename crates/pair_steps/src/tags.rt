@@ -9,8 +9,8 @@ use abs_state::AbsByte;
 use avr_model::instruction::{BinaryOp, ImmediateOp, Instr, Register, UnaryOp};
 use pair_domain::tags::{down_from, up_from};
 use pair_domain::{CompareTag, Facts, PairFacts, Side, SumTag, ZeroTag};
-use pair_told::told::{interval_of, is_odd, value_at};
-use pair_told::{sets_carry, sets_flags};
+use pair_rows::told::{interval_of, is_odd, value_at};
+use pair_rows::{sets_carry, sets_flags};
 
 // The sum tag after a byte from `low` to `high` is added to register `d` if `up`, otherwise subtracted; only for a low byte.
 fn sum_of_byte(facts: &PairFacts, up: bool, d: Register, low: u8, high: u8) -> SumTag

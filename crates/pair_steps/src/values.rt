@@ -12,7 +12,7 @@ use avr_model::instruction::{BinaryOp, Instr, Pair, Register};
 use bit_domain::{Tri, TriByte};
 use flash_image::Flash;
 use pair_domain::PairFacts;
-use pair_told::told::{interval_at, value_at};
+use pair_rows::told::{interval_at, value_at};
 
 // Bit `k`, from 0 to 7, of the byte shifted one place up.
 fn doubled_bit(bits: TriByte, low: Tri, k: u8) -> Tri

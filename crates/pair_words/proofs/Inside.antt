@@ -5,7 +5,7 @@ use Rattle.std.proofs.lemmas.Bool.{eqb-true, and_parts, cases_Bool}
 use Rattle.std.proofs.lemmas.Option.{cond_some, same_Some}
 use Rattle.basics.specs.Lists.{chosen}
 use Rattle.basics.specs.Numbers.{equals_itself, at_most_from_test, test_from_at_most}
-use Rattle.sb_base.specs.Digits.{hex_digits}
+use Rattle.text_base.specs.Digits.{hex_digits}
 use Rattle.line_reading.specs.Letters.{digits_at}
 use Rattle.line_reading.specs.Words.{WordLaws}
 use Rattle.line_reading.proofs.AllLaws.{map_some, bind_some, digits_take, digits_again}

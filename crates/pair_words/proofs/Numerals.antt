@@ -1,6 +1,6 @@
 -- Digits one by one.
 use Rattle.std.proofs.Common.{ℕ, ◌/◌, ◌%◌, ◌<◌, ◌≡◌, ◌∙◌, refl, List, [], ◌∷◌, ◌++◌, ap, ap₂, arith}
-use Rattle.sb_base.specs.Digits.{hex_digit, hex_digits}
+use Rattle.text_base.specs.Digits.{hex_digit, hex_digits}
 
 pub two : (n : ℕ) → n < 256 → hex_digits n 2 ≡ hex_digit (n / 16) ∷ hex_digit (n % 16) ∷ []
 unfolding hex_digits

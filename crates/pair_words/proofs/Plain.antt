@@ -1,7 +1,7 @@
 -- The words on pairs have no space and no line feed, and are short.
 use Rattle.std.proofs.Common.{ℕ, ◌+◌, ◌*◌, ◌<◌, ◌≤◌, ◌≡◌, List, [], ◌∷◌, ◌++◌, length, length-append, codes, Bool, true, false, cond, refl, arith}
 use Rattle.std.specs.List.{AllByRecursion}
-use Rattle.sb_base.specs.Digits.{hex_digits}
+use Rattle.text_base.specs.Digits.{hex_digits}
 use Rattle.line_reading.specs.Words.{IsWord, WordLaws}
 use Rattle.line_reading.proofs.AllLaws.{lacks_append, length_hex}
 use Rattle.pair_domain.specs.declared.intervals.Interval.{Interval}

@@ -8,7 +8,7 @@ use Rattle.std.proofs.lemmas.Slice.Eq.{bytes_eq-Decides}
 use Rattle.std.specs.Str.{bytes_eq}
 use Rattle.basics.specs.Lists.{chosen}
 use Rattle.basics.specs.Numbers.{less_from_test, test_from_less, at_most_from_test, test_from_at_most}
-use Rattle.sb_base.specs.Digits.{hex_digits}
+use Rattle.text_base.specs.Digits.{hex_digits}
 use Rattle.line_reading.specs.Letters.{letter_at, digits_at, is_end}
 use Rattle.line_reading.specs.Words.{WordLaws}
 use Rattle.line_reading.proofs.AllLaws.{map_some, bind_some, end_is, letter_take, length_hex, digits_take, digits_again}

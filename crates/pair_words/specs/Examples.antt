@@ -1,6 +1,6 @@
 -- Worked words.
 use Rattle.std.specs.Prelude.{◌≡◌, [], ◌∷◌, List, codes, Some, None, refl}
-use Rattle.sb_base.specs.Digits.{hex_digits}
+use Rattle.text_base.specs.Digits.{hex_digits}
 use Rattle.line_reading.specs.Letters.{digits_at}
 use Rattle.pair_domain.specs.declared.intervals.Interval.{Interval}
 use Rattle.pair_domain.specs.declared.tags.SumTag.TheVariants as sum

@@ -1,6 +1,6 @@
 -- The four words of facts on pairs: the sum tag, the compare tag, the zero tag, and the intervals. Source: own.
 use Rattle.std.specs.Prelude.{ℕ, ◌+◌, ◌==◌, ◌&&◌, Bool, List, [], ◌∷◌, ◌++◌, codes, if◌then◌else◌}
-use Rattle.sb_base.specs.Digits.{hex_digits}
+use Rattle.text_base.specs.Digits.{hex_digits}
 use Rattle.pair_domain.specs.declared.intervals.Interval.{Interval}
 use Rattle.pair_domain.specs.declared.tags.SumTag.{SumTag}
 use Rattle.pair_domain.specs.declared.tags.SumTag.TheVariants as sum

@@ -1,9 +1,9 @@
 //! Numbers in a fixed count of upper-case hexadecimal digits.
 
 ghost use Rattle.std.specs.Prelude.{◌≡◌, ◌∷◌, []};
-ghost use Rattle.sb_base.specs.Digits.{hex_digits};
+ghost use Rattle.text_base.specs.Digits.{hex_digits};
 
-use sb_base::hex_glyph;
+use text_base::hex_glyph;
 
 /// A byte in two digits.
 pub fn two_digits(byte: u8) -> (u8, u8)

@@ -7,7 +7,7 @@ ghost use Rattle.pair_words.specs.Reading.{register_at, pair_at, ends_in, sum_in
 
 use line_reading::Letters;
 use pair_domain::{CompareTag, Interval, PairFacts, Side, SumTag, ZeroTag};
-use sb_base::Words;
+use text_base::Words;
 
 /// The number of a register, below 32, in two digits.
 #[tactic(auto, unfolding(crate::specs::Reading::register_at))]

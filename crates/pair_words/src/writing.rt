@@ -1,13 +1,13 @@
 //! The writer of the words on pairs.
 
 ghost use Rattle.std.specs.Prelude.{◌≡◌, ◌∷◌, [], ◌++◌, OnOk};
-ghost use Rattle.sb_base.specs.Writing.{with_word, with_words};
+ghost use Rattle.text_base.specs.Writing.{with_word, with_words};
 ghost use Rattle.pair_words.specs.Spelling.{ends_text, sum_word, side_text, compare_word, zero_word, interval_text, intervals_text, intervals_word, facts_words};
 
 use crate::digits::{five_digits, four_digits, two_digits};
 use pair_domain::{CompareTag, Interval, PairFacts, Side, SumTag, ZeroTag};
-use sb_base::LineWriter;
 use std::alloc::{AllocError, Global};
+use text_base::LineWriter;
 
 // Writes a letter, a pair and two ends.
 fn ends_word(letter: u8, pair: u8, low: u32, high: u32) -> [u8; 13]

@@ -8,15 +8,15 @@ use Rattle.avr_model.specs.declared.assumption.Entry.{Entry}
 use Rattle.avr_model.specs.declared.choice.Stop.{Stop}
 use Rattle.avr_model.specs.declared.choice.Stop.TheVariants as stop
 use Rattle.avr_model.specs.declared.device.Device.{Device}
-use Rattle.avr_model.specs.Devices.{Program, words_of as count_of, limit_of, image, device_of}
+use Rattle.avr_model.specs.Devices.{Image, words_of as count_of, limit_of, image_of, device_of}
 use Rattle.avr_model.specs.Image.{IsRawImage, raw_words}
 use Rattle.avr_model.specs.Run.{Bounded}
 use Rattle.local_rules.specs.Machine.{AreWords}
 use Rattle.elf_load.specs.Elf.{is_elf}
 use Rattle.flash_image.specs.Narrowing.{NarrowingIsExact, outside_word}
-use Rattle.indirect_targets.specs.declared.fault.AssumeText.{AssumeText}
-use Rattle.indirect_targets.specs.Reading.{entries_in}
-use Rattle.indirect_targets.specs.Exact.{IsListDue, ReadingIsExact}
+use Rattle.assumption_files.specs.declared.fault.AssumeText.{AssumeText}
+use Rattle.assumption_files.specs.Reading.{entries_in}
+use Rattle.assumption_files.specs.Exact.{IsListDue, ReadingIsExact}
 use Rattle.witness_replay.specs.Spelling.{Plan}
 use Rattle.witness_replay.specs.Replay.{Report as Replayed, replay_of}
 use Rattle.certificate.specs.Claims.{Claim, IsClaim}
@@ -103,9 +103,9 @@ none_of : (a b : Option (List ℕ)) → fault_or a b ≡ None → (a ≡ None) �
 none_of None b e = (refl, e)
 none_of (Some text) b e = absurd (let wrong = e in cc)
 
-no_word : (o : Option ℕ) → option_map firmware_outside o ≡ None → o ≡ None
-no_word None e = refl
-no_word (Some word) e = absurd (let wrong = e in cc)
+no_word : (device : Device) (o : Option ℕ) → option_map (firmware_outside device) o ≡ None → o ≡ None
+no_word device None e = refl
+no_word device (Some word) e = absurd (let wrong = e in cc)
 
 module _
     (one : (device : Device) (bytes words : List ℕ) → IsRawImage device bytes words → words ≡ raw_words device bytes)
@@ -132,27 +132,27 @@ module _
       let all : List ℕ = words_by device (is_elf bytes) bytes in
       let none = none_of (fault_by device (is_elf bytes) bytes) (outside_fault device all) e in
       let image = image_by device (is_elf bytes) bytes none.0 in
-      record { all = all; image = image; narrowed = narrowing.some device all (image_size device (is_elf bytes) bytes all image) (no_word (outside_word device all) none.1) }
+      record { all = all; image = image; narrowed = narrowing.some device all (image_size device (is_elf bytes) bytes all image) (no_word device (outside_word device all) none.1) }
 
-  pub words_of : (device : Device) (bytes : List ℕ) (words : Program) → IsFirmware device bytes words → words ≡ firmware_image device bytes
+  pub words_of : (device : Device) (bytes : List ℕ) (words : Image) → IsFirmware device bytes words → words ≡ firmware_image device bytes
   words_of device bytes words h =
       narrowing.words device h.all words (image_size device (is_elf bytes) bytes h.all h.image) h.narrowed
-      ∙ ap (λ (all : List ℕ). image device (take (count_of device) all)) (all_of device (is_elf bytes) bytes h.all h.image)
+      ∙ ap (λ (all : List ℕ). image_of device (take (count_of device) all)) (all_of device (is_elf bytes) bytes h.all h.image)
 
-  pub fault_of : (device : Device) (bytes : List ℕ) (words : Program) → IsFirmware device bytes words → firmware_fault device bytes ≡ None
+  pub fault_of : (device : Device) (bytes : List ℕ) (words : Image) → IsFirmware device bytes words → firmware_fault device bytes ≡ None
   fault_of device bytes words h =
       let none = narrowing.none device h.all words (image_size device (is_elf bytes) bytes h.all h.image) h.narrowed in
       ap (λ (o : Option (List ℕ)). fault_or o (outside_fault device (words_by device (is_elf bytes) bytes))) (image_fault device (is_elf bytes) bytes h.all h.image)
       ∙ ap (outside_fault device) (sym (all_of device (is_elf bytes) bytes h.all h.image))
-      ∙ ap (option_map firmware_outside) none
+      ∙ ap (option_map (firmware_outside device)) none
 
-  pub zero_image : (device : Device) (bytes : List ℕ) (next : Program → Reply) (text : List ℕ) → WithImage device bytes next exit.Done text
+  pub zero_image : (device : Device) (bytes : List ℕ) (next : Image → Reply) (text : List ℕ) → WithImage device bytes next exit.Done text
       → IsFirmware device bytes (firmware_image device bytes) × next (firmware_image device bytes) exit.Done text
   zero_image device bytes next text h =
       let by = zero_by (firmware_fault device bytes) (next (firmware_image device bytes)) text h in
       (firmware_here device bytes by.0, by.1)
 
-  pub image_zero : (device : Device) (bytes : List ℕ) (words : Program) (next : Program → Reply) (status : Status) (text : List ℕ) → IsFirmware device bytes words → next words status text → WithImage device bytes next status text
+  pub image_zero : (device : Device) (bytes : List ℕ) (words : Image) (next : Image → Reply) (status : Status) (text : List ℕ) → IsFirmware device bytes words → next words status text → WithImage device bytes next status text
   image_zero device bytes words next status text firmware h =
       by_none (firmware_fault device bytes) (next (firmware_image device bytes)) status text (fault_of device bytes words firmware)
       (subst (λ ws. next ws status text) (words_of device bytes words firmware) h)
@@ -376,7 +376,7 @@ module _
 
   -- ---- exactness
 
-  pub image_read : (bytes : List ℕ) (words : Program) (later : Program → Reply) (status : Status) (text : List ℕ) → IsFirmware device bytes words → WithImage device bytes later status text → later words status text
+  pub image_read : (bytes : List ℕ) (words : Image) (later : Image → Reply) (status : Status) (text : List ℕ) → IsFirmware device bytes words → WithImage device bytes later status text → later words status text
   image_read bytes words later status text firmware h =
       subst (λ ws. later ws status text) (sym (words_of one images narrowing device bytes words firmware))
       (fault_none (firmware_fault device bytes) (later (firmware_image device bytes)) status text (fault_of one images narrowing device bytes words firmware) h)

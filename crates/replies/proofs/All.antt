@@ -7,13 +7,13 @@ use Rattle.avr_model.specs.declared.assumption.Entry.{Entry}
 use Rattle.avr_model.specs.declared.choice.Choice.{Choice}
 use Rattle.avr_model.specs.declared.choice.Flag.{Flag}
 use Rattle.avr_model.specs.declared.device.Device.{Device}
-use Rattle.avr_model.specs.Devices.{Program, device_of, limit_of}
+use Rattle.avr_model.specs.Devices.{Image, device_of, limit_of}
 use Rattle.avr_model.specs.State.{State}
 use Rattle.avr_model.specs.Vectors.{vector_word}
 use Rattle.avr_model.specs.Image.{IsRawImage, raw_words}
 use Rattle.flash_image.specs.Narrowing.{NarrowingIsExact}
 use Rattle.flash_image.specs.Naming.{Named}
-use Rattle.indirect_targets.specs.Exact.{ReadingIsExact}
+use Rattle.assumption_files.specs.Exact.{ReadingIsExact}
 use Rattle.local_rules.specs.Machine.{AreWords}
 use Rattle.witness_replay.specs.Runs.{ReplaysAreRuns}
 use Rattle.certificate.specs.Claims.{Claim}
@@ -25,12 +25,12 @@ use Rattle.round_solutions.specs.Answers.{AnswersAreOne}
 use Rattle.witness_search.specs.Laws.{WaypointsAreOne}
 use Rattle.demo_image.specs.Image.{demo_program}
 use Rattle.certificate.specs.Valid.{IsSound, IsValid}
-use Rattle.device_hooks.specs.declared.devices.DevicesFault.{DevicesFault}
-use Rattle.device_hooks.specs.Spelling.{Setup}
-use Rattle.device_hooks.specs.Reading.{setup_in}
-use Rattle.device_hooks.specs.Exact.{IsSetupReading as IsDevices, ReadSetupIsSpelled as DevicesAreSpelled, SpelledSetupIsRead as DevicesAreRead}
-use Rattle.device_hooks.specs.Simulating.{simulation_of}
-use Rattle.device_hooks.specs.Laws.{SimulationsAreBounded}
+use Rattle.peripherals.specs.declared.devices.DevicesFault.{DevicesFault}
+use Rattle.peripherals.specs.Spelling.{Setup}
+use Rattle.peripherals.specs.Reading.{setup_in}
+use Rattle.peripherals.specs.Exact.{IsSetupReading as IsDevices, ReadSetupIsSpelled as DevicesAreSpelled, SpelledSetupIsRead as DevicesAreRead}
+use Rattle.peripherals.specs.Simulating.{simulation_of}
+use Rattle.peripherals.specs.Laws.{SimulationsAreBounded}
 use Rattle.chain_explain.specs.Laws.{ExplanationsTell}
 use Rattle.clear_laws.specs.Clear.{word_of_flag}
 use Rattle.clear_laws.specs.declared.verdict.ClearVerdict.{ClearVerdict}
@@ -188,7 +188,7 @@ module _
   none_apart : (node pc : ℕ) → ◌≡◌ {A = ClearVerdict} clear.Clear (clear.Unclear node pc) → ⊥
   none_apart node pc e = cc
 
-  clear_by : (words : Program) (c : Claim) (status : Status) (text : List ℕ) (v : ClearVerdict) → IsClearVerdict words c v → ClearSays words c v status text → IsValid (bare words) c
+  clear_by : (words : Image) (c : Claim) (status : Status) (text : List ℕ) (v : ClearVerdict) → IsClearVerdict words c v → ClearSays words c v status text → IsValid (bare words) c
       → (cert : List ℕ) → SaysWhether (Clear cert) (bare words) c status
   clear_by words c status text clear.Clear is says valid cert =
       record {
@@ -206,7 +206,7 @@ module _
         rejected = (λ e. absurd (rejected_apart_from_unclear (sym e ∙ says.0)), λ n. absurd (n valid));
       }
 
-  clear_says : (words : Program) (c : Claim) (status : Status) (text cert : List ℕ) → IsJudged (bare words) (ClearReply words) c status text → SaysWhether (Clear cert) (bare words) c status
+  clear_says : (words : Image) (c : Claim) (status : Status) (text cert : List ℕ) → IsJudged (bare words) (ClearReply words) c status text → SaysWhether (Clear cert) (bare words) c status
   clear_says words c status text cert (inl h) = clear_by words c status text h.1.verdict h.1.is h.1.says h.0 cert
   clear_says words c status text cert (inr h) =
       record {
@@ -227,7 +227,7 @@ module _
       subst (λ B. SaysWhether (Clear cert) (task_with task.flash B) claim status) empty
       (clear_says task.flash claim status text cert (subst (λ B. IsJudged (task_with task.flash B) (ClearReply task.flash) claim status text) (sym empty) judged))
 
-  all_clear : (words : Program) (c : Claim) (text : List ℕ) (v : ClearVerdict) → IsClearVerdict words c v → ClearSays words c v exit.Done text → AreAllClear (bare words) c
+  all_clear : (words : Image) (c : Claim) (text : List ℕ) (v : ClearVerdict) → IsClearVerdict words c v → ClearSays words c v exit.Done text → AreAllClear (bare words) c
   all_clear words c text clear.Clear is says = is
   all_clear words c text (clear.Unclear node pc) is says = absurd (not_unclear says.0)
 
@@ -359,7 +359,7 @@ module _
 
   -- status 0 comes with a setup, and a setup gives status 0
   zero_setup : (task : Task) (steps : ℕ) (x : Result Setup DevicesFault) (text : List ℕ) → SimulateReply task steps x exit.Done text
-      → (setup : Setup) × (x ≡ Ok setup) × (text ≡ run_text (simulation_of task.flash task.assumptions setup steps))
+      → (setup : Setup) × (x ≡ Ok setup) × (text ≡ run_text (device_of task.flash) (simulation_of task.flash task.assumptions setup steps))
   zero_setup task steps (Err fault) text h = absurd (zero_refused exit.BadDevices not_devices (devices_refused fault) text h)
   zero_setup task steps (Ok setup) text h = (setup, refl, h.1)
 
@@ -369,7 +369,7 @@ module _
       let first = zero_file fw seen.firmware _ text h in
       let second = zero_file dev seen.second _ text first.2 in
       let third = zero_optional assume seen.assumptions (AfterDevices device steps first.0 second.0) text second.2 in
-      let words : Program = firmware_image device first.0 in
+      let words : Image = firmware_image device first.0 in
       let image = zero_image raw images narrowing device first.0 (λ ws. WithList device third.0 (λ B. SimulateReply (task_with ws B) steps (setup_in (device_of ws) second.0))) text third.2 in
       let list = zero_list lists device third.0 (λ B. SimulateReply (task_with words B) steps (setup_in (device_of words) second.0)) text image.1 in
       let setup = zero_setup (task_with words list.0) steps (setup_in (device_of words) second.0) text list.2 in

@@ -1,6 +1,6 @@
 -- The answer of an analysis is unique.
 use Rattle.std.proofs.Common.{◌≡◌, ◌≢◌, inl, inr, ℕ, List, Option, Some, None, refl, sym, ap, ◌∙◌, subst}
-use Rattle.avr_model.specs.Devices.{Program}
+use Rattle.avr_model.specs.Devices.{Image}
 use Rattle.witness_replay.specs.Spelling.{Plan}
 use Rattle.certificate.specs.Claims.{Claim}
 use Rattle.cert_words.specs.Text.{text_of}
@@ -18,8 +18,8 @@ use Rattle.replies.proofs.Trials.{found_one}
 use Rattle.local_rules.specs.Site.{Task, bare}
 
 -- running out of memory is never printed
-pub no_memory : (words : Program) (r : Refusal) (status : Status) (text : List ℕ) → Refuses (why_not_status r) (why_not_text words r) status text → r ≢ Memory
-no_memory words r status text h e = subst (λ x. Refuses (why_not_status x) (why_not_text words x) status text) e h
+pub no_memory : (image : Image) (r : Refusal) (status : Status) (text : List ℕ) → Refuses (why_not_status r) (why_not_text image r) status text → r ≢ Memory
+no_memory image r status text h e = subst (λ x. Refuses (why_not_status x) (why_not_text image x) status text) e h
 
 refuses_one : (n : Status) (o : Option (List ℕ)) (s t : Status) (a b : List ℕ) → Refuses n o s a → Refuses n o t b → (s ≡ t) × (a ≡ b)
 refuses_one n None s t a b h k = absurd h

@@ -2,10 +2,10 @@
 use Rattle.std.proofs.Common.{◌≡◌, ℕ, Bool, true, false, List, [], ◌∷◌, Option, Some, None, Result, Ok, Err, refl, sym, ap, ap₂, ◌∙◌, subst}
 use Rattle.avr_model.specs.declared.assumption.Entry.{Entry}
 use Rattle.avr_model.specs.declared.device.Device.{Device}
-use Rattle.avr_model.specs.Devices.{Program, device_of}
-use Rattle.sb_base.specs.Lines.{Place, TextLine}
-use Rattle.indirect_targets.specs.declared.fault.AssumeText.{AssumeText}
-use Rattle.indirect_targets.specs.Reading.{entries_in}
+use Rattle.avr_model.specs.Devices.{Image, device_of}
+use Rattle.text_base.specs.Lines.{Position, TextLine}
+use Rattle.assumption_files.specs.declared.fault.AssumeText.{AssumeText}
+use Rattle.assumption_files.specs.Reading.{entries_in}
 use Rattle.witness_replay.specs.Spelling.{Plan}
 use Rattle.witness_replay.specs.Reading.{schedule_in}
 use Rattle.witness_replay.specs.Replay.{Report as Replayed, replay_of}
@@ -25,10 +25,10 @@ use Rattle.clear_laws.specs.declared.verdict.ClearVerdict.{ClearVerdict}
 use Rattle.clear_laws.specs.declared.verdict.ClearVerdict.TheVariants as clear
 use Rattle.clear_laws.specs.CertificateLaws.{ClearVerdictsAreOne}
 use Rattle.clear_laws.specs.ListLaws.{SitesAreOne, PlacesAreOne, NeversAreOne}
-use Rattle.device_hooks.specs.declared.devices.DevicesFault.{DevicesFault}
-use Rattle.device_hooks.specs.Spelling.{Setup}
-use Rattle.device_hooks.specs.Reading.{setup_in}
-use Rattle.device_hooks.specs.Simulating.{simulation_of}
+use Rattle.peripherals.specs.declared.devices.DevicesFault.{DevicesFault}
+use Rattle.peripherals.specs.Spelling.{Setup}
+use Rattle.peripherals.specs.Reading.{setup_in}
+use Rattle.peripherals.specs.Simulating.{simulation_of}
 use Rattle.commands.specs.About.{about_text}
 use Rattle.commands.specs.Commands.{Work, Check, Analyse, Run, Report, Explain, Clear, Premises, Attain, Simulate, Command, On, Demo, About, Firmware, Second, Assumptions, name_of}
 use Rattle.replies.specs.declared.status.Status.{Status}
@@ -93,20 +93,20 @@ verdict_one task next c (Accepted bound) f s t a b h k = witness_one task (next 
 
 simulate_one : (task : Task) (steps : ℕ) (x : Result Setup DevicesFault) → IsOneAnswer (SimulateReply task steps x)
 simulate_one task steps (Err fault) s t a b h k = refuses_one exit.BadDevices (devices_refused fault) s t a b h k
-simulate_one task steps (Ok setup) s t a b h k = says_one exit.Done (run_text (simulation_of task.flash task.assumptions setup steps)) s t a b h k
+simulate_one task steps (Ok setup) s t a b h k = says_one exit.Done (run_text (device_of task.flash) (simulation_of task.flash task.assumptions setup steps)) s t a b h k
 
-run_one : (x : Result Replayed ℕ) → IsOneAnswer (RunReply x)
-run_one (Err step) s t a b h k = says_one exit.BadSchedule (schedule_illegal step) s t a b h k
-run_one (Ok r) s t a b h k = says_one exit.Done (run_text r) s t a b h k
+run_one : (device : Device) (x : Result Replayed ℕ) → IsOneAnswer (RunReply device x)
+run_one device (Err step) s t a b h k = says_one exit.BadSchedule (schedule_illegal step) s t a b h k
+run_one device (Ok r) s t a b h k = says_one exit.Done (run_text device r) s t a b h k
 
 ends_one : (ls : List TextLine) (at : ℕ) (reply : Reply) → IsOneAnswer reply → IsOneAnswer (EndsBefore ls at reply)
 ends_one [] at reply f s t a b h k = f s t a b h k
 ends_one (l ∷ ls) at reply f s t a b h k = says_one exit.BadSchedule (schedule_malformed at) s t a b h k
 
-schedule_one : (task : Task) (x : Result (Plan × Place) ℕ) → IsOneAnswer (ScheduleReply task x)
+schedule_one : (task : Task) (x : Result (Plan × Position) ℕ) → IsOneAnswer (ScheduleReply task x)
 schedule_one task (Err at) s t a b h k = says_one exit.BadSchedule (schedule_malformed at) s t a b h k
 schedule_one task (Ok read) s t a b h k =
-    ends_one read.1.rest read.1.at (RunReply (replay_of task.flash task.assumptions read.0)) (run_one (replay_of task.flash task.assumptions read.0)) s t a b h k
+    ends_one read.1.rest read.1.at (RunReply (device_of task.flash) (replay_of task.flash task.assumptions read.0)) (run_one (device_of task.flash) (replay_of task.flash task.assumptions read.0)) s t a b h k
 
 module _ (read : ReadCertificateIsSpelled) (one : VerdictsAreOne) (answers : AnswersAreOne) (chains : WaypointsAreOne) (explanations : ExplanationsAreOne)
     (clears : ClearVerdictsAreOne) (sites : SitesAreOne) (places : PlacesAreOne) (takes : NeversAreOne) where
@@ -127,13 +127,13 @@ module _ (read : ReadCertificateIsSpelled) (one : VerdictsAreOne) (answers : Ans
       let e = explanations task c h.explanation k.explanation claim h.is k.is in
       (h.says.0 ∙ sym k.says.0, h.says.1 ∙ (ap (explanation_text (device_of task.flash) c.bound names) e ∙ sym k.says.1))
 
-  clear_says_one : (words : Program) (c : Claim) (v : ClearVerdict) → IsOneAnswer (ClearSays words c v)
-  clear_says_one words c clear.Clear s t a b h k = says_one exit.Done (clear_text c.bound) s t a b h k
-  clear_says_one words c (clear.Unclear node pc) s t a b h k = says_one exit.Unclear (unclear_text words node pc) s t a b h k
+  clear_says_one : (image : Image) (c : Claim) (v : ClearVerdict) → IsOneAnswer (ClearSays image c v)
+  clear_says_one image c clear.Clear s t a b h k = says_one exit.Done (clear_text c.bound) s t a b h k
+  clear_says_one image c (clear.Unclear node pc) s t a b h k = says_one exit.Unclear (unclear_text image node pc) s t a b h k
 
-  clear_one : (words : Program) (c : Claim) → IsClaim c → IsOneAnswer (ClearReply words c)
-  clear_one words c claim s t a b h k =
-      let e = clears words c h.verdict k.verdict h.is k.is in clear_says_one words c k.verdict s t a b (subst (λ v. ClearSays words c v s a) e h.says) k.says
+  clear_one : (image : Image) (c : Claim) → IsClaim c → IsOneAnswer (ClearReply image c)
+  clear_one image c claim s t a b h k =
+      let e = clears image c h.verdict k.verdict h.is k.is in clear_says_one image c k.verdict s t a b (subst (λ v. ClearSays image c v s a) e h.says) k.says
 
   premises_one : (names : List Named) (task : Task) (c : Claim) → IsClaim c → IsOneAnswer (PremisesReply names task c)
   premises_one names task c claim s t a b h k =

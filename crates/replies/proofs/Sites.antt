@@ -2,17 +2,16 @@
 use Rattle.std.proofs.Common.{◌≡◌, ℕ, zero, suc, ◌+◌, length, ◌-◌, ◌<◌, ◌≤◌, nat_lt, Bool, false, List, [], ◌∷◌, ◌++◌, map, take, take_all, codes, Option, Some, None, refl, sym, ap, ap₂, ◌∙◌, arith}
 use Rattle.std.specs.List.{flat_map}
 use Rattle.std.proofs.lemmas.List.{append-nil}
-use Rattle.indirect_targets.proofs.AllLaws.{words_append}
-use Rattle.sb_base.specs.Lines.{line}
-use Rattle.sb_base.specs.Writing.{Written, with_word, with_words}
+use Rattle.assumption_files.proofs.AllLaws.{words_append}
+use Rattle.text_base.specs.Lines.{line}
+use Rattle.text_base.specs.Writing.{Written, with_word, with_words}
 use Rattle.line_reading.specs.Appending.{with_text}
 use Rattle.flash_image.specs.Naming.{Named, least_name, SayTheSame}
 use Rattle.reports.specs.Report.{name_word}
-use Rattle.reports.specs.Explained.{word_text}
 use Rattle.clear_laws.specs.declared.place.FlaggedPlace.{FlaggedPlace}
-use Rattle.replies.specs.Places.{name_or, name_up_to, place_words, place_line, place_text, never_text, count_line, word_where, first_addresses, protected_words, cause_words, why_line}
+use Rattle.replies.specs.Places.{name_or, name_up_to, place_words, place_line, place_text, never_text, count_line, word_where, address_text, first_addresses, protected_words, cause_words, why_line}
 use Rattle.replies.specs.Headline.{PlacesSayTheSame, CausesSayTheSame}
-use Rattle.avr_model.specs.Devices.{Program}
+use Rattle.avr_model.specs.Devices.{Image, device_of}
 
 -- ---- names
 
@@ -42,29 +41,29 @@ unfolding name_up_to
 same_up names others zero same = same zero
 same_up names others (suc at) same = rw (same (suc at), same_up names others at same) refl
 
-same_place : (words : Program) (names others : List Named) (pc : ℕ) → SayTheSame names others → place_text words names pc ≡ place_text words others pc
-same_place words names others pc same =
-    ap (λ (o : Option (List ℕ)). line (place_words words pc ++ codes "in" ∷ name_word o ∷ [])) (same_up names others pc same)
+same_place : (image : Image) (names others : List Named) (pc : ℕ) → SayTheSame names others → place_text image names pc ≡ place_text image others pc
+same_place image names others pc same =
+    ap (λ (o : Option (List ℕ)). line (place_words image pc ++ codes "in" ∷ name_word o ∷ [])) (same_up names others pc same)
 
-same_lines : (words : Program) (names others : List Named) (sites : List ℕ) → SayTheSame names others → flat_map (place_text words names) sites ≡ flat_map (place_text words others) sites
-same_lines words names others [] same = refl
-same_lines words names others (pc ∷ sites) same = ap₂ (λ (xs ys : List ℕ). xs ++ ys) (same_place words names others pc same) (same_lines words names others sites same)
+same_lines : (image : Image) (names others : List Named) (sites : List ℕ) → SayTheSame names others → flat_map (place_text image names) sites ≡ flat_map (place_text image others) sites
+same_lines image names others [] same = refl
+same_lines image names others (pc ∷ sites) same = ap₂ (λ (xs ys : List ℕ). xs ++ ys) (same_place image names others pc same) (same_lines image names others sites same)
 
 pub same_places : PlacesSayTheSame
-same_places words names others bound sites nevers same =
-    ap (λ (ys : List ℕ). line (count_line bound (length sites + length nevers)) ++ (ys ++ flat_map never_text nevers)) (same_lines words names others sites same)
+same_places image names others bound sites nevers same =
+    ap (λ (ys : List ℕ). line (count_line bound (length sites + length nevers)) ++ (ys ++ flat_map (never_text (device_of image)) nevers)) (same_lines image names others sites same)
 
-same_why : (words : Program) (names others : List Named) (place : FlaggedPlace) → SayTheSame names others → why_line words names place ≡ why_line words others place
-same_why words names others place same =
-    ap (λ (o : Option (List ℕ)). (place_words words place.word ++ codes "in" ∷ name_word o ∷ []) ++ cause_words place) (same_up names others place.word same)
+same_why : (image : Image) (names others : List Named) (place : FlaggedPlace) → SayTheSame names others → why_line image names place ≡ why_line image others place
+same_why image names others place same =
+    ap (λ (o : Option (List ℕ)). (place_words image place.word ++ codes "in" ∷ name_word o ∷ []) ++ cause_words place) (same_up names others place.word same)
 
-same_whys : (words : Program) (names others : List Named) (places : List FlaggedPlace) → SayTheSame names others → map (why_line words names) places ≡ map (why_line words others) places
-same_whys words names others [] same = refl
-same_whys words names others (p ∷ ps) same = ap₂ (λ (x : List (List ℕ)) (xs : List (List (List ℕ))). x ∷ xs) (same_why words names others p same) (same_whys words names others ps same)
+same_whys : (image : Image) (names others : List Named) (places : List FlaggedPlace) → SayTheSame names others → map (why_line image names) places ≡ map (why_line image others) places
+same_whys image names others [] same = refl
+same_whys image names others (p ∷ ps) same = ap₂ (λ (x : List (List ℕ)) (xs : List (List (List ℕ))). x ∷ xs) (same_why image names others p same) (same_whys image names others ps same)
 
 pub same_causes : CausesSayTheSame
-same_causes words names others bound places nevers same =
-    ap (λ (ls : List (List (List ℕ))). line (count_line bound (length places + length nevers)) ++ (flat_map line ls ++ flat_map never_text nevers)) (same_whys words names others places same)
+same_causes image names others bound places nevers same =
+    ap (λ (ls : List (List (List ℕ))). line (count_line bound (length places + length nevers)) ++ (flat_map line ls ++ flat_map (never_text (device_of image)) nevers)) (same_whys image names others places same)
 
 -- ---- lines
 
@@ -72,12 +71,12 @@ same_causes words names others bound places nevers same =
 pub nothing_behind : (w : Written) → w.begun ≡ false → w ≡ with_text w []
 nothing_behind w none = ap₂ (λ bytes begun. record { bytes = bytes; begun = begun }) (sym (append-nil w.bytes)) none
 
-pub named_written : (words : Program) (names : List Named) (pc : ℕ) (w v u : Written) → v ≡ with_words w (place_words words pc)
-    → u ≡ with_word (with_word v (codes "in")) (name_word (name_up_to names pc)) → u ≡ with_words w (place_line words names pc)
-named_written words names pc w v u e f =
+pub named_written : (image : Image) (names : List Named) (pc : ℕ) (w v u : Written) → v ≡ with_words w (place_words image pc)
+    → u ≡ with_word (with_word v (codes "in")) (name_word (name_up_to names pc)) → u ≡ with_words w (place_line image names pc)
+named_written image names pc w v u e f =
     f
     ∙ ap (λ (x : Written). with_word (with_word x (codes "in")) (name_word (name_up_to names pc))) e
-    ∙ sym (words_append w (place_words words pc) (codes "in" ∷ name_word (name_up_to names pc) ∷ []))
+    ∙ sym (words_append w (place_words image pc) (codes "in" ∷ name_word (name_up_to names pc) ∷ []))
 
 -- ---- what may happen at a word
 
@@ -93,10 +92,10 @@ pub few_first : (xs : List ℕ) → length xs ≤ 8 → xs ≡ take 8 xs
 few_first xs few = sym (take_all 8 xs few)
 
 pub some_written : (xs first : List ℕ) (more : Bool) (w v u x : Written) → (length xs ≡ 0 → ⊥) → first ≡ take 8 xs → more ≡ nat_lt 8 (length xs) → v ≡ with_word w (codes "protected")
-    → u ≡ with_words v (map word_text first) → x ≡ with_words u (word_where more (codes "..")) → x ≡ with_words w (protected_words xs)
+    → u ≡ with_words v (map address_text first) → x ≡ with_words u (word_where more (codes "..")) → x ≡ with_words w (protected_words xs)
 some_written xs first more w v u x some same long e f g =
-    g ∙ ap₂ (λ (y : Written) (b : Bool). with_words y (word_where b (codes ".."))) (f ∙ ap₂ (λ (y : Written) (ys : List ℕ). with_words y (map word_text ys)) e same) long
-    ∙ sym (words_append w (codes "protected" ∷ map word_text (take 8 xs)) (word_where (nat_lt 8 (length xs)) (codes "..")))
+    g ∙ ap₂ (λ (y : Written) (b : Bool). with_words y (word_where b (codes ".."))) (f ∙ ap₂ (λ (y : Written) (ys : List ℕ). with_words y (map address_text ys)) e same) long
+    ∙ sym (words_append w (codes "protected" ∷ map address_text (take 8 xs)) (word_where (nat_lt 8 (length xs)) (codes "..")))
     ∙ ap (with_words w) (sym (some_protected xs some))
 
 pub three_written : (a b c : List (List ℕ)) (w v u x : Written) → v ≡ with_words w a → u ≡ with_words v b → x ≡ with_words u c → x ≡ with_words w (a ++ (b ++ c))
@@ -107,8 +106,8 @@ pub four_written : (a b c d : List (List ℕ)) (w v u x y : Written) → v ≡ w
     → y ≡ with_words w (a ++ (b ++ (c ++ d)))
 four_written a b c d w v u x y e f g h = three_written a b (c ++ d) w v u y e f (h ∙ ap (λ (z : Written). with_words z d) g ∙ sym (words_append u c d))
 
-pub why_written : (words : Program) (names : List Named) (place : FlaggedPlace) (pc : ℕ) (w v u : Written) → pc ≡ place.word → v ≡ with_words w (place_line words names pc) → u ≡ with_words v (cause_words place)
-    → u ≡ with_words w (why_line words names place)
-why_written words names place pc w v u same e f =
-    f ∙ ap (λ (x : Written). with_words x (cause_words place)) (e ∙ ap (λ p. with_words w (place_line words names p)) same)
-    ∙ sym (words_append w (place_line words names place.word) (cause_words place))
+pub why_written : (image : Image) (names : List Named) (place : FlaggedPlace) (pc : ℕ) (w v u : Written) → pc ≡ place.word → v ≡ with_words w (place_line image names pc) → u ≡ with_words v (cause_words place)
+    → u ≡ with_words w (why_line image names place)
+why_written image names place pc w v u same e f =
+    f ∙ ap (λ (x : Written). with_words x (cause_words place)) (e ∙ ap (λ p. with_words w (place_line image names p)) same)
+    ∙ sym (words_append w (place_line image names place.word) (cause_words place))

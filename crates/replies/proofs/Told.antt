@@ -1,7 +1,7 @@
 -- A printed line.
 use Rattle.std.proofs.Common.{◌≡◌, ℕ, List, [], Option, Some, None, false, sym, ap, ◌∙◌}
 use Rattle.std.specs.Option.{option_map}
-use Rattle.sb_base.specs.Writing.{Written, with_words, with_end}
+use Rattle.text_base.specs.Writing.{Written, with_words, with_end}
 use Rattle.replies.specs.Texts.{told, AreWritten}
 
 -- the words written in a line are those of its text

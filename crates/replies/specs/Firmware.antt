@@ -2,7 +2,7 @@
 use Rattle.std.specs.Prelude.{ℕ, zero, suc, ◌+◌, ◌*◌, ◌%◌, ◌==◌, nat_lt, Bool, true, false, List, [], ◌∷◌, length, take, Option, Some, None, if◌then◌else◌}
 use Rattle.std.specs.Option.{option_map}
 use Rattle.avr_model.specs.declared.device.Device.{Device}
-use Rattle.avr_model.specs.Devices.{Program, words_of, limit_of, image}
+use Rattle.avr_model.specs.Devices.{Image, words_of, limit_of, image_of}
 use Rattle.avr_model.specs.Image.{IsRawImage, raw_words, IsNarrowed}
 use Rattle.flash_image.specs.Narrowing.{outside_word}
 use Rattle.flash_image.specs.Naming.{Named}
@@ -20,7 +20,7 @@ abbrev pub IsImage : Device → List ℕ → List ℕ → Type 0
 IsImage device bytes all = IsImageBy device (is_elf bytes) bytes all
 
 -- The image that a firmware file stands for on a device: the words that it gives, of which all behind the device's flash are erased.
-pub record IsFirmware (device : Device) (bytes : List ℕ) (words : Program) : Type 0 where
+pub record IsFirmware (device : Device) (bytes : List ℕ) (words : Image) : Type 0 where
   pub all : List ℕ
   pub image : IsImage device bytes all
   pub narrowed : IsNarrowed device all words
@@ -48,12 +48,12 @@ fault_by device false bytes =
     if length bytes % 2 == 1 then Some (raw_fault raw.OddLength) else (if nat_lt (2 * limit_of device) (length bytes) then Some (raw_fault raw.TooLong) else None)
 
 -- the image of a firmware file on a device
-abbrev pub firmware_image : Device → List ℕ → Program
-firmware_image device bytes = image device (take (words_of device) (words_by device (is_elf bytes) bytes))
+abbrev pub firmware_image : Device → List ℕ → Image
+firmware_image device bytes = image_of device (take (words_of device) (words_by device (is_elf bytes) bytes))
 
 -- the text of the refusal of an image with a word behind the device's flash
 abbrev pub outside_fault : Device → List ℕ → Option (List ℕ)
-outside_fault device all = option_map firmware_outside (outside_word device all)
+outside_fault device all = option_map (firmware_outside device) (outside_word device all)
 
 abbrev pub fault_or : Option (List ℕ) → Option (List ℕ) → Option (List ℕ)
 fault_or None later = later

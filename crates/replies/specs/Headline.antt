@@ -3,12 +3,12 @@ use Rattle.std.specs.Prelude.{◌≡◌, ◌≢◌, ◌↔◌, ◌≤◌, ⊤, B
 use Rattle.std.specs.Option.{is_some}
 use Rattle.avr_model.specs.declared.assumption.Entry.{Entry}
 use Rattle.avr_model.specs.declared.device.Device.{Device}
-use Rattle.avr_model.specs.Devices.{Program, device_of}
+use Rattle.avr_model.specs.Devices.{Image, device_of}
 use Rattle.avr_model.specs.declared.choice.Choice.{Choice}
 use Rattle.avr_model.specs.declared.choice.Stop.TheVariants.{End}
 use Rattle.avr_model.specs.State.{State, IsReset}
 use Rattle.avr_model.specs.Run.{IsRun, stop_of, depth_of, Bounded}
-use Rattle.indirect_targets.specs.Exact.{IsListReading}
+use Rattle.assumption_files.specs.Exact.{IsListReading}
 use Rattle.certificate.specs.Claims.{Claim, IsClaim, IsCertificate}
 use Rattle.certificate.specs.Valid.{IsValid}
 use Rattle.cert_words.specs.Text.{text_of}
@@ -30,9 +30,9 @@ use Rattle.clear_laws.specs.declared.verdict.ClearVerdict.{ClearVerdict}
 use Rattle.clear_laws.specs.declared.verdict.ClearVerdict.TheVariants.{Clear as AllClear}
 use Rattle.clear_laws.specs.Verdict.{AreAllClear, IsFirstUnclear, IsClearVerdict, AreSites, AreNevers}
 use Rattle.demo_image.specs.Image.{demo_program}
-use Rattle.device_hooks.specs.Spelling.{Setup}
-use Rattle.device_hooks.specs.Exact.{IsSetupReading as IsDevices}
-use Rattle.device_hooks.specs.Simulating.{simulation_of}
+use Rattle.peripherals.specs.Spelling.{Setup}
+use Rattle.peripherals.specs.Exact.{IsSetupReading as IsDevices}
+use Rattle.peripherals.specs.Simulating.{simulation_of}
 use Rattle.commands.specs.Commands.{Work, Check, Analyse, Run, Explain, Clear, Premises, Attain, Simulate, Command, On, Demo, About}
 use Rattle.commands.specs.About.{about_text}
 use Rattle.local_rules.specs.Machine.{AreWords}
@@ -214,7 +214,7 @@ pub record IsSimulated (device : Device) (steps : ℕ) (firmware devices : List 
   pub setup : Setup
   pub mean : Mean device firmware list task
   pub reads : IsDevices device devices setup
-  pub told : text ≡ run_text (simulation_of task.flash task.assumptions setup steps)
+  pub told : text ≡ run_text (device_of task.flash) (simulation_of task.flash task.assumptions setup steps)
   pub within : (c : Claim) → IsClaim c → IsValid task c → (simulation_of task.flash task.assumptions setup steps).depth ≤ c.bound
 
 -- all files of a simulation were read, and its text is such a report
@@ -339,11 +339,11 @@ RepliesAreExact = (command : Command) (seen : Contents) (status : Status) (text 
 -- lists of names that agree on each word give the same texts of words at which a step may be flagged
 abbrev pub PlacesSayTheSame : Type 0
 PlacesSayTheSame =
-    (words : Program) (names others : List Named) (bound : ℕ) (sites nevers : List ℕ) → SayTheSame names others
+    (words : Image) (names others : List Named) (bound : ℕ) (sites nevers : List ℕ) → SayTheSame names others
     → premises_text words names bound sites nevers ≡ premises_text words others bound sites nevers
 
 -- they also give the same texts of these words with causes
 abbrev pub CausesSayTheSame : Type 0
 CausesSayTheSame =
-    (words : Program) (names others : List Named) (bound : ℕ) (places : List FlaggedPlace) (nevers : List ℕ) → SayTheSame names others
+    (words : Image) (names others : List Named) (bound : ℕ) (places : List FlaggedPlace) (nevers : List ℕ) → SayTheSame names others
     → why_text words names bound places nevers ≡ why_text words others bound places nevers

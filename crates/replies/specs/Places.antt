@@ -1,26 +1,27 @@
 -- The texts of the words at which a step may be flagged. Source: own.
 use Rattle.std.specs.Prelude.{ℕ, zero, suc, ◌+◌, Bool, true, false, nat_lt, List, [], ◌∷◌, ◌++◌, length, map, take, codes, decimal, Option, Some, None}
 use Rattle.std.specs.List.{flat_map}
-use Rattle.sb_base.specs.Digits.{hex_digits}
-use Rattle.sb_base.specs.Lines.{line}
+use Rattle.text_base.specs.Digits.{hex_digits}
+use Rattle.text_base.specs.Lines.{line}
 use Rattle.flash_image.specs.Naming.{Named, least_name}
 use Rattle.reports.specs.Report.{name_word}
-use Rattle.reports.specs.Explained.{word_text}
 use Rattle.clear_laws.specs.declared.place.FlaggedPlace.{FlaggedPlace}
 use Rattle.replies.specs.Texts.{told, instruction_told}
-use Rattle.avr_model.specs.Devices.{Program}
+use Rattle.avr_model.specs.declared.device.Device.{Device}
+use Rattle.avr_model.specs.Devices.{Image, device_of}
+use Rattle.assumption_files.specs.Spelling.{word_address_text}
 
 -- no node may flag a step
 abbrev pub clear_text : ℕ → List ℕ
 clear_text bound = told (codes "clear" ∷ codes "bound" ∷ decimal bound ∷ [])
 
 -- a word, and the instruction there
-abbrev pub place_words : Program → ℕ → List (List ℕ)
-place_words words pc = codes "at" ∷ hex_digits pc 4 ∷ instruction_told words pc
+abbrev pub place_words : Image → ℕ → List (List ℕ)
+place_words image pc = codes "at" ∷ word_address_text (device_of image) pc ∷ instruction_told image pc
 
 -- the number of the first node that may, and its place
-abbrev pub unclear_text : Program → ℕ → ℕ → List ℕ
-unclear_text words node pc = told (codes "unclear" ∷ codes "node" ∷ decimal node ∷ place_words words pc)
+abbrev pub unclear_text : Image → ℕ → ℕ → List ℕ
+unclear_text image node pc = told (codes "unclear" ∷ codes "node" ∷ decimal node ∷ place_words image pc)
 
 -- ---- all words at which one may be flagged
 
@@ -34,26 +35,26 @@ name_up_to names zero = least_name names zero
 name_up_to names (suc pc) = name_or (least_name names (suc pc)) (name_up_to names pc)
 
 -- a word, the instruction there, and the name of its function
-abbrev pub place_line : Program → List Named → ℕ → List (List ℕ)
-place_line words names pc = place_words words pc ++ codes "in" ∷ name_word (name_up_to names pc) ∷ []
+abbrev pub place_line : Image → List Named → ℕ → List (List ℕ)
+place_line image names pc = place_words image pc ++ codes "in" ∷ name_word (name_up_to names pc) ∷ []
 
-abbrev pub place_text : Program → List Named → ℕ → List ℕ
-place_text words names pc = line (place_line words names pc)
+abbrev pub place_text : Image → List Named → ℕ → List ℕ
+place_text image names pc = line (place_line image names pc)
 
 -- the word of a vector that may be taken although it is assumed never to be
-abbrev pub never_line : ℕ → List (List ℕ)
-never_line word = codes "never" ∷ hex_digits word 4 ∷ []
+abbrev pub never_line : Device → ℕ → List (List ℕ)
+never_line device word = codes "never" ∷ word_address_text device word ∷ []
 
-abbrev pub never_text : ℕ → List ℕ
-never_text word = line (never_line word)
+abbrev pub never_text : Device → ℕ → List ℕ
+never_text device word = line (never_line device word)
 
 -- the bound of the certificate, and the number of words of both kinds
 abbrev pub count_line : ℕ → ℕ → List (List ℕ)
 count_line bound count = codes "bound" ∷ decimal bound ∷ codes "places" ∷ decimal count ∷ []
 
-abbrev pub premises_text : Program → List Named → ℕ → List ℕ → List ℕ → List ℕ
-premises_text words names bound sites nevers =
-    line (count_line bound (length sites + length nevers)) ++ (flat_map (place_text words names) sites ++ flat_map never_text nevers)
+abbrev pub premises_text : Image → List Named → ℕ → List ℕ → List ℕ → List ℕ
+premises_text image names bound sites nevers =
+    line (count_line bound (length sites + length nevers)) ++ (flat_map (place_text image names) sites ++ flat_map (never_text (device_of image)) nevers)
 
 -- ---- what may happen there
 
@@ -61,9 +62,12 @@ abbrev pub word_where : Bool → List ℕ → List (List ℕ)
 word_where true word = word ∷ []
 word_where false word = []
 
+abbrev pub address_text : ℕ → List ℕ
+address_text address = hex_digits address 4
+
 -- the first eight data addresses, and dots if there are more
 abbrev pub first_addresses : List ℕ → List (List ℕ)
-first_addresses addresses = map word_text (take 8 addresses) ++ word_where (nat_lt 8 (length addresses)) (codes "..")
+first_addresses addresses = map address_text (take 8 addresses) ++ word_where (nat_lt 8 (length addresses)) (codes "..")
 
 abbrev pub protected_words : List ℕ → List (List ℕ)
 protected_words [] = []
@@ -77,9 +81,9 @@ cause_words place =
     ++ (word_where place.live (codes "live") ++ (word_where place.transfer (codes "transfer") ++ word_where place.moves (codes "moves")))
 
 -- a word with its causes
-abbrev pub why_line : Program → List Named → FlaggedPlace → List (List ℕ)
-why_line words names place = place_line words names place.word ++ cause_words place
+abbrev pub why_line : Image → List Named → FlaggedPlace → List (List ℕ)
+why_line image names place = place_line image names place.word ++ cause_words place
 
-abbrev pub why_text : Program → List Named → ℕ → List FlaggedPlace → List ℕ → List ℕ
-why_text words names bound places nevers =
-    line (count_line bound (length places + length nevers)) ++ (flat_map line (map (why_line words names) places) ++ flat_map never_text nevers)
+abbrev pub why_text : Image → List Named → ℕ → List FlaggedPlace → List ℕ → List ℕ
+why_text image names bound places nevers =
+    line (count_line bound (length places + length nevers)) ++ (flat_map line (map (why_line image names) places) ++ flat_map (never_text (device_of image)) nevers)

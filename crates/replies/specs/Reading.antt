@@ -1,6 +1,6 @@
 -- The contents of a command's files, as read. Source: own.
 use Rattle.std.specs.Prelude.{ℕ, ◌≡◌, ◌≤◌, List, length, ⊤, Bool, true, false, Option, Some, None}
-use Rattle.sb_base.specs.Outside.{Held, Blamed, Gives, MayExceed, IsBlamed}
+use Rattle.text_base.specs.Outside.{Held, Blamed, Gives, MayExceed, IsBlamed}
 use Rattle.commands.specs.Commands.{Work, Run, Simulate, Command, On, Demo, About, Role, Firmware, Second, Assumptions, name_of, IsFileOf}
 
 -- nothing was read of a file yet, all its bytes were, or it is longer than its cap

@@ -5,10 +5,10 @@ use Rattle.avr_model.specs.declared.assumption.Entry.{Entry}
 use Rattle.avr_model.specs.declared.device.Device.{Device}
 use Rattle.avr_model.specs.declared.choice.Stop.{Stop}
 use Rattle.avr_model.specs.declared.choice.Stop.TheVariants as stop
-use Rattle.avr_model.specs.Devices.{Program, device_of}
-use Rattle.sb_base.specs.Lines.{Place, TextLine, lines_of}
-use Rattle.indirect_targets.specs.declared.fault.AssumeText.{AssumeText}
-use Rattle.indirect_targets.specs.Reading.{entries_in}
+use Rattle.avr_model.specs.Devices.{Image, device_of}
+use Rattle.text_base.specs.Lines.{Position, TextLine, lines_of}
+use Rattle.assumption_files.specs.declared.fault.AssumeText.{AssumeText}
+use Rattle.assumption_files.specs.Reading.{entries_in}
 use Rattle.witness_replay.specs.Spelling.{Plan}
 use Rattle.witness_replay.specs.Reading.{schedule_in}
 use Rattle.witness_replay.specs.Replay.{Report as Replayed, replay_of}
@@ -30,10 +30,10 @@ use Rattle.clear_laws.specs.Verdict.{IsClearVerdict, AreSites, AreNevers}
 use Rattle.clear_laws.specs.declared.place.FlaggedPlace.{FlaggedPlace}
 use Rattle.clear_laws.specs.Places.{ArePlaces}
 use Rattle.demo_image.specs.Image.{demo_program}
-use Rattle.device_hooks.specs.declared.devices.DevicesFault.{DevicesFault}
-use Rattle.device_hooks.specs.Spelling.{Setup}
-use Rattle.device_hooks.specs.Reading.{setup_in}
-use Rattle.device_hooks.specs.Simulating.{simulation_of}
+use Rattle.peripherals.specs.declared.devices.DevicesFault.{DevicesFault}
+use Rattle.peripherals.specs.Spelling.{Setup}
+use Rattle.peripherals.specs.Reading.{setup_in}
+use Rattle.peripherals.specs.Simulating.{simulation_of}
 use Rattle.cert_format.specs.declared.fault.CertFault.{CertFault}
 use Rattle.cert_format.specs.Reading.{certificate_in}
 use Rattle.cert_check.specs.Verdict.{IsVerdict}
@@ -76,7 +76,7 @@ ImageBy (Some refusal) reply status text = Says exit.BadFirmware refusal status 
 ImageBy None reply status text = reply status text
 
 -- continues with the words of a firmware on a device
-abbrev pub WithImage : Device → List ℕ → (Program → Reply) → Reply
+abbrev pub WithImage : Device → List ℕ → (Image → Reply) → Reply
 WithImage device bytes next = ImageBy (firmware_fault device bytes) (next (firmware_image device bytes))
 
 abbrev pub ListBy : Result (List Entry) AssumeText → (List Entry → Reply) → Reply
@@ -139,14 +139,14 @@ pub record ExplainReply (names : List Named) (task : Task) (c : Claim) (status :
   pub says : Says exit.Done (explanation_text (device_of task.flash) c.bound names explanation) status text
 
 -- the answer by whether all nodes of a certificate are clear
-abbrev pub ClearSays : Program → Claim → ClearVerdict → Reply
-ClearSays words c clear.Clear status text = Says exit.Done (clear_text c.bound) status text
-ClearSays words c (clear.Unclear node pc) status text = Says exit.Unclear (unclear_text words node pc) status text
+abbrev pub ClearSays : Image → Claim → ClearVerdict → Reply
+ClearSays image c clear.Clear status text = Says exit.Done (clear_text c.bound) status text
+ClearSays image c (clear.Unclear node pc) status text = Says exit.Unclear (unclear_text image node pc) status text
 
-pub record ClearReply (words : Program) (c : Claim) (status : Status) (text : List ℕ) : Type 0 where
+pub record ClearReply (image : Image) (c : Claim) (status : Status) (text : List ℕ) : Type 0 where
   pub verdict : ClearVerdict
-  pub is : IsClearVerdict words c verdict
-  pub says : ClearSays words c verdict status text
+  pub is : IsClearVerdict image c verdict
+  pub says : ClearSays image c verdict status text
 
 -- The answer lists all words at which some node of a certificate isn't clear, with these names, and those of vectors that may be taken
 -- despite `never` lines.
@@ -187,25 +187,25 @@ AcceptedReply device work bytes task c = Says exit.Done (told_of device work byt
 
 -- ---- run
 
-abbrev pub RunReply : Result Replayed ℕ → Reply
-RunReply (Err step) status text = Says exit.BadSchedule (schedule_illegal step) status text
-RunReply (Ok r) status text = Says exit.Done (run_text r) status text
+abbrev pub RunReply : Device → Result Replayed ℕ → Reply
+RunReply device (Err step) status text = Says exit.BadSchedule (schedule_illegal step) status text
+RunReply device (Ok r) status text = Says exit.Done (run_text device r) status text
 
 -- nothing follows a schedule in its file
 abbrev pub EndsBefore : List TextLine → ℕ → Reply → Reply
 EndsBefore [] at reply status text = reply status text
 EndsBefore (l ∷ ls) at reply status text = Says exit.BadSchedule (schedule_malformed at) status text
 
-abbrev pub ScheduleReply : Task → Result (Plan × Place) ℕ → Reply
+abbrev pub ScheduleReply : Task → Result (Plan × Position) ℕ → Reply
 ScheduleReply task (Err at) status text = Says exit.BadSchedule (schedule_malformed at) status text
-ScheduleReply task (Ok read) status text = EndsBefore read.1.rest read.1.at (RunReply (replay_of task.flash task.assumptions read.0)) status text
+ScheduleReply task (Ok read) status text = EndsBefore read.1.rest read.1.at (RunReply (device_of task.flash) (replay_of task.flash task.assumptions read.0)) status text
 
 -- ---- simulate
 
 -- the report of the run that devices choose, if their text is well-formed
 abbrev pub SimulateReply : Task → ℕ → Result Setup DevicesFault → Reply
 SimulateReply task steps (Err fault) status text = Refuses exit.BadDevices (devices_refused fault) status text
-SimulateReply task steps (Ok setup) status text = Says exit.Done (run_text (simulation_of task.flash task.assumptions setup steps)) status text
+SimulateReply task steps (Ok setup) status text = Says exit.Done (run_text (device_of task.flash) (simulation_of task.flash task.assumptions setup steps)) status text
 
 -- ---- analyse and demo
 
@@ -247,7 +247,7 @@ FlashReply device work firmware bytes task = CertificateReply task (AcceptedRepl
 
 -- the answer of a work for the bytes of a firmware, its second file and an assumption file, which are examined in this order
 abbrev pub ImageReply : Device → Work → List ℕ → List ℕ → Option (List ℕ) → Reply
-ImageReply device work firmware second list = WithImage device firmware (λ words. WithList device list (λ A. FlashReply device work firmware second (task_with words A)))
+ImageReply device work firmware second list = WithImage device firmware (λ image. WithList device list (λ A. FlashReply device work firmware second (task_with image A)))
 
 -- `demo` and what the program says of itself have no files.
 abbrev pub WorkReply : Command → List ℕ → List ℕ → Option (List ℕ) → Reply

@@ -1,9 +1,9 @@
--- Printed texts, each one line of words. `line_writing` of sb_base writes a line of words as their text with one space between each two
+-- Printed texts, each one line of words. `line_writing` of text_base writes a line of words as their text with one space between each two
 -- and a line feed at the end.
 use Rattle.std.specs.Option.{option_map}
 use Rattle.std.specs.Prelude.{ℕ, List, [], ◌∷◌, length, codes, decimal, Bool, true, false, ◌≡◌, Option, Some, None}
-use Rattle.sb_base.specs.Digits.{hex_digits}
-use Rattle.sb_base.specs.Writing.{Written, with_words, with_end}
+use Rattle.text_base.specs.Digits.{hex_digits}
+use Rattle.text_base.specs.Writing.{Written, with_words, with_end}
 use Rattle.avr_model.specs.declared.instruction.Instr.{Instr}
 use Rattle.avr_model.specs.Image.{word_at}
 use Rattle.avr_model.specs.Sites.{instruction_at}
@@ -12,10 +12,11 @@ use Rattle.avr_model.specs.declared.choice.Flag.TheVariants.{Live, Protected, Tr
 use Rattle.avr_model.specs.declared.choice.Stop.{Stop}
 use Rattle.avr_model.specs.declared.choice.Stop.TheVariants as stop
 use Rattle.avr_model.specs.declared.device.Device.{Device}
-use Rattle.avr_model.specs.Devices.{Program, device_of}
+use Rattle.avr_model.specs.Devices.{Image, device_of}
 use Rattle.avr_model.specs.Names.{class_of}
-use Rattle.indirect_targets.specs.declared.fault.AssumeText.{AssumeText}
-use Rattle.indirect_targets.specs.declared.fault.AssumeText.TheVariants as assume
+use Rattle.assumption_files.specs.Spelling.{word_address_text}
+use Rattle.assumption_files.specs.declared.fault.AssumeText.{AssumeText}
+use Rattle.assumption_files.specs.declared.fault.AssumeText.TheVariants as assume
 use Rattle.local_rules.specs.declared.local.NodeFault.{NodeFault}
 use Rattle.local_rules.specs.declared.local.NodeFault.TheVariants as fault
 use Rattle.local_rules.specs.Faults.{cause_of}
@@ -27,8 +28,8 @@ use Rattle.certificate.specs.declared.limit.Limit.{Limit}
 use Rattle.certificate.specs.declared.limit.Limit.TheVariants as limit
 use Rattle.cert_format.specs.declared.fault.CertFault.{CertFault}
 use Rattle.cert_format.specs.declared.fault.CertFault.TheVariants as cert
-use Rattle.device_hooks.specs.declared.devices.DevicesFault.{DevicesFault}
-use Rattle.device_hooks.specs.declared.devices.DevicesFault.TheVariants as devices
+use Rattle.peripherals.specs.declared.devices.DevicesFault.{DevicesFault}
+use Rattle.peripherals.specs.declared.devices.DevicesFault.TheVariants as devices
 use Rattle.cert_check.specs.declared.verdict.Reason.{Reason}
 use Rattle.cert_check.specs.declared.verdict.Reason.TheVariants.{Device as OtherDevice, Root, Node, Edge, Rank, Need, Bound, Assumptions, Expansion}
 use Rattle.elf_load.specs.Elf.{ElfRefusal, Short, NotElf32Little, NotExecutable, NotAvr, EntrySize, SegmentOutside, Overlap}
@@ -83,8 +84,8 @@ abbrev pub elf_refused : ElfRefusal → List ℕ
 elf_refused refusal = told (codes "firmware" ∷ codes "elf" ∷ refusal_words refusal)
 
 -- the first word behind the device's flash that the firmware fills
-abbrev pub firmware_outside : ℕ → List ℕ
-firmware_outside word = told (codes "firmware" ∷ codes "outside" ∷ codes "at" ∷ hex_digits word 4 ∷ [])
+abbrev pub firmware_outside : Device → ℕ → List ℕ
+firmware_outside device word = told (codes "firmware" ∷ codes "outside" ∷ codes "at" ∷ word_address_text device word ∷ [])
 
 -- the line of an assumption file that is refused, from 1; running out of memory has no text
 abbrev pub assumption_words : AssumeText → Option (List (List ℕ))
@@ -148,19 +149,19 @@ rejected device reason = told (codes "rejected" ∷ reason_words device reason)
 abbrev pub witness_rejected : List ℕ
 witness_rejected = told (codes "rejected" ∷ codes "8" ∷ codes "witness" ∷ [])
 
--- how a run ended
-abbrev pub stop_words : Stop → List (List ℕ)
-stop_words stop.End = codes "end" ∷ []
-stop_words (stop.Flag (Live pc a)) = codes "live" ∷ hex_digits pc 4 ∷ hex_digits a 4 ∷ []
-stop_words (stop.Flag (Protected pc a)) = codes "protected" ∷ hex_digits pc 4 ∷ hex_digits a 4 ∷ []
-stop_words (stop.Flag (Transfer pc target)) = codes "transfer" ∷ hex_digits pc 4 ∷ hex_digits target 4 ∷ []
-stop_words (stop.Flag (Moved pc)) = codes "moved" ∷ hex_digits pc 4 ∷ []
-stop_words (stop.Undefined pc) = codes "undefined" ∷ hex_digits pc 4 ∷ []
-stop_words (stop.Overflow pc) = codes "overflow" ∷ hex_digits pc 4 ∷ []
+-- how a run on a device ended
+abbrev pub stop_words : Device → Stop → List (List ℕ)
+stop_words device stop.End = codes "end" ∷ []
+stop_words device (stop.Flag (Live pc a)) = codes "live" ∷ word_address_text device pc ∷ hex_digits a 4 ∷ []
+stop_words device (stop.Flag (Protected pc a)) = codes "protected" ∷ word_address_text device pc ∷ hex_digits a 4 ∷ []
+stop_words device (stop.Flag (Transfer pc target)) = codes "transfer" ∷ word_address_text device pc ∷ word_address_text device target ∷ []
+stop_words device (stop.Flag (Moved pc)) = codes "moved" ∷ word_address_text device pc ∷ []
+stop_words device (stop.Undefined pc) = codes "undefined" ∷ word_address_text device pc ∷ []
+stop_words device (stop.Overflow pc) = codes "overflow" ∷ word_address_text device pc ∷ []
 
-abbrev pub run_text : Report → List ℕ
-run_text r =
-    told (codes "steps" ∷ decimal r.steps ∷ codes "depth" ∷ decimal r.depth ∷ codes "stop" ∷ stop_words r.stop)
+abbrev pub run_text : Device → Report → List ℕ
+run_text device r =
+    told (codes "steps" ∷ decimal r.steps ∷ codes "depth" ∷ decimal r.depth ∷ codes "stop" ∷ stop_words device r.stop)
 
 -- ---- in place of a certificate
 
@@ -170,34 +171,34 @@ instruction_words device (Some instr) word at = instruction.text_of device instr
 instruction_words device None word at = codes "opcode" ∷ hex_digits word 4 ∷ []
 
 -- the instruction at a word address, or the word in digits
-abbrev pub instruction_told : Program → ℕ → List (List ℕ)
+abbrev pub instruction_told : Image → ℕ → List (List ℕ)
 instruction_told words at = instruction_words (device_of words) (instruction_at words at) (word_at words at) at
 
 -- the number and name of a cause, and its word
-abbrev pub cause_at : ℕ → List ℕ → ℕ → List (List ℕ) → Option (List (List ℕ))
-cause_at number name at more = Some (codes "refused" ∷ decimal number ∷ name ∷ codes "at" ∷ hex_digits at 4 ∷ more)
+abbrev pub cause_at : Device → ℕ → List ℕ → ℕ → List (List ℕ) → Option (List (List ℕ))
+cause_at device number name at more = Some (codes "refused" ∷ decimal number ∷ name ∷ codes "at" ∷ word_address_text device at ∷ more)
 
 -- a node's fault, told of a word with what stands there; running out of memory is none
-abbrev pub fault_words : Program → NodeFault → Option (List (List ℕ))
-fault_words words (fault.UnresolvedJump at) = cause_at (cause_of (fault.UnresolvedJump at)) (codes "unresolved-jump") at (instruction_told words at)
-fault_words words (fault.UntrackedSp at) = cause_at (cause_of (fault.UntrackedSp at)) (codes "untracked-sp") at (instruction_told words at)
-fault_words words (fault.Unsupported at) = cause_at (cause_of (fault.Unsupported at)) (codes "unsupported") at (codes "opcode" ∷ hex_digits (word_at words at) 4 ∷ [])
-fault_words words (fault.TooDeep at need) = cause_at (cause_of (fault.TooDeep at need)) (codes "too-deep") at (codes "need" ∷ decimal need ∷ [])
-fault_words words (fault.UnknownPointer at) = cause_at (cause_of (fault.UnknownPointer at)) (codes "unknown-pointer") at (instruction_told words at)
+abbrev pub fault_words : Image → NodeFault → Option (List (List ℕ))
+fault_words words (fault.UnresolvedJump at) = cause_at (device_of words) (cause_of (fault.UnresolvedJump at)) (codes "unresolved-jump") at (instruction_told words at)
+fault_words words (fault.UntrackedSp at) = cause_at (device_of words) (cause_of (fault.UntrackedSp at)) (codes "untracked-sp") at (instruction_told words at)
+fault_words words (fault.Unsupported at) = cause_at (device_of words) (cause_of (fault.Unsupported at)) (codes "unsupported") at (codes "opcode" ∷ hex_digits (word_at words at) 4 ∷ [])
+fault_words words (fault.TooDeep at need) = cause_at (device_of words) (cause_of (fault.TooDeep at need)) (codes "too-deep") at (codes "need" ∷ decimal need ∷ [])
+fault_words words (fault.UnknownPointer at) = cause_at (device_of words) (cause_of (fault.UnknownPointer at)) (codes "unknown-pointer") at (instruction_told words at)
 fault_words words fault.Memory = None
 
 -- The words in place of a certificate: the assumption that does not fit the device, the cause with what it names, or the number of rounds
 -- that did not suffice. Running out of memory has none.
-abbrev pub why_not_words : Program → Refusal → Option (List (List ℕ))
+abbrev pub why_not_words : Image → Refusal → Option (List (List ℕ))
 why_not_words words (refusal.Misfit at) = Some (codes "entry" ∷ decimal at ∷ [])
 why_not_words words (refusal.Node x) = fault_words words x
-why_not_words words (refusal.Recursion at) = cause_at 2 (codes "recursion") at []
-why_not_words words (refusal.ReEntry v at) = Some (codes "refused" ∷ codes "3" ∷ codes "re-entry" ∷ codes "of" ∷ decimal v ∷ codes "at" ∷ hex_digits at 4 ∷ [])
+why_not_words words (refusal.Recursion at) = cause_at (device_of words) 2 (codes "recursion") at []
+why_not_words words (refusal.ReEntry v at) = Some (codes "refused" ∷ codes "3" ∷ codes "re-entry" ∷ codes "of" ∷ decimal v ∷ codes "at" ∷ word_address_text (device_of words) at ∷ [])
 why_not_words words (refusal.TooLarge limit) = Some (codes "refused" ∷ codes "7" ∷ codes "too-large" ∷ limit_word limit ∷ [])
 why_not_words words (refusal.Spent n) = Some (codes "spent" ∷ decimal n ∷ [])
 why_not_words words refusal.Memory = None
 
-abbrev pub why_not_text : Program → Refusal → Option (List ℕ)
+abbrev pub why_not_text : Image → Refusal → Option (List ℕ)
 why_not_text words r = option_map told (why_not_words words r)
 
 abbrev pub why_not_status : Refusal → Status

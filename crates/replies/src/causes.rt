@@ -1,25 +1,27 @@
 //! The lines printed if there is no certificate, and the line of `demo`.
 
 ghost use Rattle.std.specs.Prelude.{◌≡◌, [], ◌∷◌, IfOk, OnOk, Some, codes, decimal};
-ghost use Rattle.sb_base.specs.Digits.{hex_digits};
-ghost use Rattle.sb_base.specs.Writing.{with_words};
+ghost use Rattle.text_base.specs.Digits.{hex_digits};
+ghost use Rattle.assumption_files.specs.Spelling.{word_address_text};
+ghost use Rattle.text_base.specs.Writing.{with_words};
 ghost use Rattle.replies.specs.Texts.{AreWritten, instruction_told, limit_word, fault_words, why_not_words, why_not_text, demo_text};
 
 use crate::texts::{ended, limit_word, put_address, put_number, put_two, put_two_and_number};
 use avr_decode::text as instruction_text;
+use avr_model::device::Device;
 use certificate::Certificate;
 use flash_image::Flash;
 use local_rules::NodeFault;
 use round_rules::Refusal;
-use sb_base::LineWriter;
 use std::alloc::{AllocError, Global};
+use text_base::LineWriter;
 
 // The text of the instruction at a word, or the word in digits if it is none on the device.
 pub(crate) fn put_instruction(
     alloc: Global,
     line: &mut LineWriter,
     flash: &Flash,
-    at: u16,
+    at: u32,
 ) -> Result<(), AllocError>
     ensures { OnOk result (line.new ≡ with_words line.old (instruction_told flash.now at)) }
 {
@@ -28,17 +30,31 @@ pub(crate) fn put_instruction(
             let text = instruction_text(alloc, flash.device(), &instr, at)?;
             line.word(&text)
         }
-        None => put_address(line, b"opcode", flash.word(at)),
+        None => put_opcode(line, flash.word(at)),
     }
 }
 
+// A word of flash in digits.
+fn put_opcode(line: &mut LineWriter, word: u16) -> Result<(), AllocError>
+    ensures { OnOk result (line.new ≡ with_words line.old (codes "opcode" ∷ hex_digits word 4 ∷ [])) }
+{
+    line.word(b"opcode")?;
+    line.hex(u32::from(word), 4)
+}
+
 // A cause, and its word.
-fn put_cause(line: &mut LineWriter, number: u8, name: &[u8], at: u16) -> Result<(), AllocError>
-    ensures { OnOk result (line.new ≡ with_words line.old (codes "refused" ∷ decimal number ∷ name.now ∷ codes "at" ∷ hex_digits at 4 ∷ [])) }
+fn put_cause(
+    line: &mut LineWriter,
+    device: Device,
+    number: u8,
+    name: &[u8],
+    at: u32,
+) -> Result<(), AllocError>
+    ensures { OnOk result (line.new ≡ with_words line.old (codes "refused" ∷ decimal number ∷ name.now ∷ codes "at" ∷ word_address_text device at ∷ [])) }
 {
     put_number(line, b"refused", u64::from(number))?;
     line.word(name)?;
-    put_address(line, b"at", at)
+    put_address(line, device, b"at", at)
 }
 
 // The words of a node's fault; `None` if memory runs out.
@@ -51,25 +67,26 @@ fn put_fault(
     ensures { OnOk result (AreWritten line.old line.new (fault_words flash.now fault.now)) }
 {
     let number = fault.cause();
+    let device = flash.device();
     match *fault {
         NodeFault::UnresolvedJump(at) => {
-            put_cause(line, number, b"unresolved-jump", at)?;
+            put_cause(line, device, number, b"unresolved-jump", at)?;
             put_instruction(alloc, line, flash, at)
         }
         NodeFault::UntrackedSp(at) => {
-            put_cause(line, number, b"untracked-sp", at)?;
+            put_cause(line, device, number, b"untracked-sp", at)?;
             put_instruction(alloc, line, flash, at)
         }
         NodeFault::Unsupported(at) => {
-            put_cause(line, number, b"unsupported", at)?;
-            put_address(line, b"opcode", flash.word(at))
+            put_cause(line, device, number, b"unsupported", at)?;
+            put_opcode(line, flash.word(at))
         }
         NodeFault::TooDeep(at, need) => {
-            put_cause(line, number, b"too-deep", at)?;
+            put_cause(line, device, number, b"too-deep", at)?;
             put_number(line, b"need", u64::from(need))
         }
         NodeFault::UnknownPointer(at) => {
-            put_cause(line, number, b"unknown-pointer", at)?;
+            put_cause(line, device, number, b"unknown-pointer", at)?;
             put_instruction(alloc, line, flash, at)
         }
         NodeFault::Memory => Err(AllocError),
@@ -88,11 +105,11 @@ fn put_why_not(
     match *refusal {
         Refusal::Misfit(at) => put_number(line, b"entry", u64::from(at)),
         Refusal::Node(fault) => put_fault(alloc, line, flash, &fault),
-        Refusal::Recursion(at) => put_cause(line, 2, b"recursion", at),
+        Refusal::Recursion(at) => put_cause(line, flash.device(), 2, b"recursion", at),
         Refusal::ReEntry(vector, at) => {
             put_two(line, b"refused", b"3")?;
             put_two_and_number(line, b"re-entry", b"of", u64::from(vector))?;
-            put_address(line, b"at", at)
+            put_address(line, flash.device(), b"at", at)
         }
         Refusal::TooLarge(limit) => {
             put_two(line, b"refused", b"7")?;

@@ -3,15 +3,15 @@
 ghost use Rattle.replies.specs.Status.{CodesAreApart};
 ghost use Rattle.replies.specs.Headline.{RepliesAreOne, AcceptingRepliesHold, RepliesAreExact, PlacesSayTheSame, CausesSayTheSame};
 
+use assumption_files::laws::reading_is_exact;
 use cert_check::laws::{sound_certificates_bound_every_run, verdicts_are_one};
 use cert_format::laws::certificate_texts;
 use cert_writing::laws::texts_fit;
 use chain_explain::laws::explanations_tell;
 use clear_laws::laws::{clear_answers_are_one, flagged_runs_end_as_told};
-use device_hooks::laws::{reading_is_exact as devices_are_exact, simulations_are_runs};
 use flash_image::laws::{narrowing_is_exact, raw_images_are_their_words};
 use guided_trials::laws::trials_are_led;
-use indirect_targets::laws::reading_is_exact;
+use peripherals::laws::{reading_is_exact as devices_are_exact, simulations_are_runs};
 use round_laws::laws::{rounds_are_least, solutions_are_valid};
 use round_solutions::laws::answers_are_one;
 use witness_replay::laws::replays_are_runs;

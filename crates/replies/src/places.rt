@@ -3,19 +3,19 @@
 ghost use Rattle.std.specs.Prelude.{◌≡◌, ◌≤◌, IfOk, OnOk, false, map, take};
 ghost use Rattle.std.specs.List.{flat_map};
 ghost use Rattle.flash_image.specs.Naming.{least_name};
-ghost use Rattle.sb_base.specs.Lines.{line};
-ghost use Rattle.sb_base.specs.Writing.{with_words, with_end};
+ghost use Rattle.text_base.specs.Lines.{line};
+ghost use Rattle.text_base.specs.Writing.{with_words, with_end};
 ghost use Rattle.line_reading.specs.Appending.{with_text};
-ghost use Rattle.replies.specs.Places.{clear_text, place_words, unclear_text, name_up_to, place_line, place_text, never_text, count_line, premises_text, protected_words, word_where, cause_words, why_line, why_text};
+ghost use Rattle.replies.specs.Places.{clear_text, place_words, unclear_text, name_up_to, place_line, place_text, never_text, count_line, premises_text, address_text, protected_words, word_where, cause_words, why_line, why_text};
 
 use crate::causes::put_instruction;
 use crate::texts::{ended, put_address, put_number, put_two_and_number};
 use clear_laws::FlaggedPlace;
-use flash_image::{Flash, Names};
+use flash_image::{Device, Flash, Names};
 use line_reading::laws::appending_laws;
-use reports::{write_name, write_words};
-use sb_base::LineWriter;
+use reports::write_name;
 use std::alloc::{AllocError, Global};
+use text_base::LineWriter;
 
 /// A firmware with the names of its words.
 #[derive(Clone, Copy)]
@@ -36,15 +36,15 @@ pub fn clear_text(alloc: Global, bound: u16) -> Result<Vec<u8>, AllocError>
 }
 
 // Writes a word, and the instruction there.
-fn put_place(alloc: Global, line: &mut LineWriter, flash: &Flash, pc: u16) -> Result<(), AllocError>
+fn put_place(alloc: Global, line: &mut LineWriter, flash: &Flash, pc: u32) -> Result<(), AllocError>
     ensures { OnOk result (line.new ≡ with_words line.old (place_words flash.now pc)) }
 {
-    put_address(line, b"at", pc)?;
+    put_address(line, flash.device(), b"at", pc)?;
     put_instruction(alloc, line, flash, pc)
 }
 
 /// The line of the least node that may flag a step: its number, its word, and the instruction there.
-pub fn unclear_text(alloc: Global, flash: &Flash, node: u32, pc: u16) -> Result<Vec<u8>, AllocError>
+pub fn unclear_text(alloc: Global, flash: &Flash, node: u32, pc: u32) -> Result<Vec<u8>, AllocError>
     ensures { IfOk result (λ v. v.items ≡ unclear_text flash.now node pc) }
 {
     let mut line = LineWriter::new(alloc);
@@ -56,13 +56,13 @@ pub fn unclear_text(alloc: Global, flash: &Flash, node: u32, pc: u16) -> Result<
 // A word, and the greatest named word up to it, or 0.
 #[derive(Clone, Copy)]
 struct Reached {
-    pc: u16,
-    named: u16,
+    pc: u32,
+    named: u32,
 }
 
 // The word from which to search for a name: the last one, unless that is beyond this word.
 #[tactic(auto, using(crate::proofs::Sites::up_first))]
-fn before(names: &Names, last: Reached, pc: u16) -> Reached
+fn before(names: &Names, last: Reached, pc: u32) -> Reached
     requires { least_name names.now last.named ≡ name_up_to names.now last.pc }
     ensures low { result.pc ≤ pc }
     ensures named { least_name names.now result.named ≡ name_up_to names.now result.pc }
@@ -76,7 +76,7 @@ fn before(names: &Names, last: Reached, pc: u16) -> Reached
 
 // Advances from the last word to another. It visits the words between them alone, so all places together visit each word of flash once.
 #[tactic(auto, using(crate::proofs::Sites::up_there))]
-fn reach(names: &Names, last: Reached, pc: u16) -> Reached
+fn reach(names: &Names, last: Reached, pc: u32) -> Reached
     requires { least_name names.now last.named ≡ name_up_to names.now last.pc }
     ensures pc { result.pc ≡ pc }
     ensures named { least_name names.now result.named ≡ name_up_to names.now pc }
@@ -115,7 +115,7 @@ fn write_places(
     out: &mut LineWriter,
     alloc: Global,
     program: &Program<'_>,
-    sites: &[u16],
+    sites: &[u32],
 ) -> Result<(), AllocError>
     requires { out.old.begun ≡ false }
     ensures { OnOk result (out.new ≡ with_text out.old (flat_map (place_text program.now.flash.now program.now.names.now) sites.now)) }
@@ -131,13 +131,13 @@ fn write_places(
 }
 
 // Writes the lines of vectors' words.
-fn write_nevers(out: &mut LineWriter, nevers: &[u16]) -> Result<(), AllocError>
+fn write_nevers(out: &mut LineWriter, device: Device, nevers: &[u32]) -> Result<(), AllocError>
     requires { out.old.begun ≡ false }
-    ensures { OnOk result (out.new ≡ with_text out.old (flat_map never_text nevers.now)) }
+    ensures { OnOk result (out.new ≡ with_text out.old (flat_map (never_text device) nevers.now)) }
 {
     appending_laws();
     for word in nevers {
-        put_address(out, b"never", *word)?;
+        put_address(out, device, b"never", *word)?;
         out.end_line()?;
     }
     Ok(())
@@ -157,8 +157,8 @@ pub fn premises_text(
     alloc: Global,
     program: &Program<'_>,
     bound: u16,
-    sites: &[u16],
-    nevers: &[u16],
+    sites: &[u32],
+    nevers: &[u32],
 ) -> Result<Vec<u8>, AllocError>
     ensures { IfOk result (λ v. v.items ≡ premises_text program.now.flash.now program.now.names.now bound sites.now nevers.now) }
 {
@@ -166,7 +166,7 @@ pub fn premises_text(
     let mut out = LineWriter::new(alloc);
     write_count(&mut out, bound, sites.len() as u64 + nevers.len() as u64)?;
     write_places(&mut out, alloc, program, sites)?;
-    write_nevers(&mut out, nevers)?;
+    write_nevers(&mut out, program.flash.device(), nevers)?;
     Ok(out.finish())
 }
 
@@ -175,6 +175,16 @@ fn write_where(out: &mut LineWriter, holds: bool, word: &[u8]) -> Result<(), All
     ensures { OnOk result (out.new ≡ with_words out.old (word_where holds word.now)) }
 {
     if holds { out.word(word) } else { Ok(()) }
+}
+
+// Writes data addresses.
+fn write_addresses(out: &mut LineWriter, addresses: &[u16]) -> Result<(), AllocError>
+    ensures { OnOk result (out.new ≡ with_words out.old (map address_text addresses.now)) }
+{
+    for address in addresses {
+        out.hex(u32::from(*address), 4)?;
+    }
+    Ok(())
 }
 
 // At most the first eight.
@@ -199,7 +209,7 @@ fn write_protected(out: &mut LineWriter, addresses: &[u16]) -> Result<(), AllocE
     }
     let has_more = addresses.len() > 8;
     out.word(b"protected")?;
-    write_words(out, first_eight(addresses))?;
+    write_addresses(out, first_eight(addresses))?;
     write_where(out, has_more, b"..")
 }
 
@@ -241,7 +251,7 @@ pub fn why_text(
     program: &Program<'_>,
     bound: u16,
     places: &[FlaggedPlace],
-    nevers: &[u16],
+    nevers: &[u32],
 ) -> Result<Vec<u8>, AllocError>
     ensures { IfOk result (λ v. v.items ≡ why_text program.now.flash.now program.now.names.now bound places.now nevers.now) }
 {
@@ -249,6 +259,6 @@ pub fn why_text(
     let mut out = LineWriter::new(alloc);
     write_count(&mut out, bound, places.len() as u64 + nevers.len() as u64)?;
     write_whys(&mut out, alloc, program, places)?;
-    write_nevers(&mut out, nevers)?;
+    write_nevers(&mut out, program.flash.device(), nevers)?;
     Ok(out.finish())
 }

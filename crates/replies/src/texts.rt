@@ -3,22 +3,23 @@
 ghost use Rattle.std.specs.Prelude.{◌≡◌, ◌<◌, [], ◌∷◌, IfOk, OnOk, Some, codes, decimal};
 ghost use Rattle.std.specs.Option.{option_map};
 ghost use Rattle.elf_load.specs.Refusing.{refusal_of};
-ghost use Rattle.sb_base.specs.Digits.{hex_digits};
-ghost use Rattle.sb_base.specs.Writing.{with_words, with_end};
+ghost use Rattle.text_base.specs.Digits.{hex_digits};
+ghost use Rattle.assumption_files.specs.Spelling.{word_address_text};
+ghost use Rattle.text_base.specs.Writing.{with_words, with_end};
 ghost use Rattle.replies.specs.Texts.{told, usage, read_fault, too_long, raw_fault, elf_refused, firmware_outside, IsRefusalWritten, AreWritten, assumption_words, assumptions_refused, limit_word, certificate_words, certificate_refused, schedule_malformed, schedule_illegal, devices_refused, witness_word, accepted, reason_words, rejected, witness_rejected, stop_words, run_text};
 
 use crate::raw::RawRefusal;
+use assumption_files::{AssumeText, write_word_address};
 use avr_model::choice::{Flag, Stop};
 use avr_model::device::Device;
 use avr_model::naming::class_of;
 use cert_check::Reason;
 use cert_format::{CertFault, Limit};
 use cert_writing::write_key;
-use device_hooks::DevicesFault;
 use elf_load::ElfFault;
-use indirect_targets::AssumeText;
-use sb_base::LineWriter;
+use peripherals::DevicesFault;
 use std::alloc::{AllocError, Global};
+use text_base::LineWriter;
 use witness_replay::ReplayReport;
 
 // The text of a line that ends here.
@@ -106,12 +107,12 @@ pub fn elf_refused(alloc: Global, fault: &ElfFault) -> Result<Vec<u8>, AllocErro
 }
 
 /// The line for a firmware beyond the device's flash, with the least such word.
-pub fn firmware_outside(alloc: Global, word: u16) -> Result<Vec<u8>, AllocError>
-    ensures { IfOk result (λ v. v.items ≡ firmware_outside word) }
+pub fn firmware_outside(alloc: Global, device: Device, word: u32) -> Result<Vec<u8>, AllocError>
+    ensures { IfOk result (λ v. v.items ≡ firmware_outside device word) }
 {
     let mut line = LineWriter::new(alloc);
     put_two(&mut line, b"firmware", b"outside")?;
-    put_address(&mut line, b"at", word)?;
+    put_address(&mut line, device, b"at", word)?;
     ended(line)
 }
 
@@ -144,12 +145,17 @@ pub(crate) fn put_number(line: &mut LineWriter, name: &[u8], number: u64) -> Res
     line.dec(number)
 }
 
-// A word, and a word of flash in digits: an address, or its content.
-pub(crate) fn put_address(line: &mut LineWriter, name: &[u8], word: u16) -> Result<(), AllocError>
-    ensures { OnOk result (line.new ≡ with_words line.old (name.now ∷ hex_digits word 4 ∷ [])) }
+// A word, and a word address.
+pub(crate) fn put_address(
+    line: &mut LineWriter,
+    device: Device,
+    name: &[u8],
+    word: u32,
+) -> Result<(), AllocError>
+    ensures { OnOk result (line.new ≡ with_words line.old (name.now ∷ word_address_text device word ∷ [])) }
 {
     line.word(name)?;
-    line.hex(u32::from(word), 4)
+    write_word_address(line, device, word)
 }
 
 // The words of a refusal of an assumption file; `None` if memory runs out.
@@ -325,37 +331,48 @@ pub fn witness_rejected(alloc: Global) -> Result<Vec<u8>, AllocError>
     three_words(alloc, b"rejected", b"8", b"witness")
 }
 
-// A word, a word address, and an address or word.
-fn put_flag(line: &mut LineWriter, name: &[u8], pc: u16, other: u16) -> Result<(), AllocError>
-    ensures { OnOk result (line.new ≡ with_words line.old (name.now ∷ hex_digits pc 4 ∷ hex_digits other 4 ∷ [])) }
+// A word, a word address and a data address.
+fn put_write(
+    line: &mut LineWriter,
+    device: Device,
+    name: &[u8],
+    pc: u32,
+    address: u16,
+) -> Result<(), AllocError>
+    ensures { OnOk result (line.new ≡ with_words line.old (name.now ∷ word_address_text device pc ∷ hex_digits address 4 ∷ [])) }
 {
-    put_address(line, name, pc)?;
-    line.hex(u32::from(other), 4)
+    put_address(line, device, name, pc)?;
+    line.hex(u32::from(address), 4)
 }
 
 // How a run ended.
-fn put_stop(line: &mut LineWriter, stop: Stop) -> Result<(), AllocError>
-    ensures { OnOk result (line.new ≡ with_words line.old (stop_words stop)) }
+fn put_stop(line: &mut LineWriter, device: Device, stop: Stop) -> Result<(), AllocError>
+    ensures { OnOk result (line.new ≡ with_words line.old (stop_words device stop)) }
 {
     match stop {
         Stop::End => line.word(b"end"),
-        Stop::Flag(Flag::Live(pc, address)) => put_flag(line, b"live", pc, address),
-        Stop::Flag(Flag::Protected(pc, address)) => put_flag(line, b"protected", pc, address),
-        Stop::Flag(Flag::Transfer(pc, target)) => put_flag(line, b"transfer", pc, target),
-        Stop::Flag(Flag::Moved(pc)) => put_address(line, b"moved", pc),
-        Stop::Undefined(pc) => put_address(line, b"undefined", pc),
-        Stop::Overflow(pc) => put_address(line, b"overflow", pc),
+        Stop::Flag(Flag::Live(pc, address)) => put_write(line, device, b"live", pc, address),
+        Stop::Flag(Flag::Protected(pc, address)) => {
+            put_write(line, device, b"protected", pc, address)
+        }
+        Stop::Flag(Flag::Transfer(pc, target)) => {
+            put_address(line, device, b"transfer", pc)?;
+            write_word_address(line, device, target)
+        }
+        Stop::Flag(Flag::Moved(pc)) => put_address(line, device, b"moved", pc),
+        Stop::Undefined(pc) => put_address(line, device, b"undefined", pc),
+        Stop::Overflow(pc) => put_address(line, device, b"overflow", pc),
     }
 }
 
-/// The line of a replay.
-pub fn run_text(alloc: Global, report: &ReplayReport) -> Result<Vec<u8>, AllocError>
-    ensures { IfOk result (λ v. v.items ≡ run_text (record { steps = report.now.steps; depth = report.now.depth; stop = report.now.stop })) }
+/// The line of a replay on a device.
+pub fn run_text(alloc: Global, device: Device, report: &ReplayReport) -> Result<Vec<u8>, AllocError>
+    ensures { IfOk result (λ v. v.items ≡ run_text device (record { steps = report.now.steps; depth = report.now.depth; stop = report.now.stop })) }
 {
     let mut line = LineWriter::new(alloc);
     put_number(&mut line, b"steps", u64::from(report.steps))?;
     put_number(&mut line, b"depth", u64::from(report.depth))?;
     line.word(b"stop")?;
-    put_stop(&mut line, report.stop)?;
+    put_stop(&mut line, device, report.stop)?;
     ended(line)
 }

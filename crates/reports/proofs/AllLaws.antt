@@ -1,2 +1,2 @@
 -- The lemmas that crates above cite.
-pub use Rattle.reports.proofs.Lines.{line_and_text, numbers_next}
+pub use Rattle.reports.proofs.Lines.{line_and_text, word_next, numbers_next}

@@ -4,10 +4,10 @@ use Rattle.std.proofs.lemmas.List.{map-append, take_more}
 use Rattle.std.proofs.lemmas.Option.{slice_get_within, get_or_from_slice_get}
 use Rattle.std.proofs.lemmas.Grind.{flat_map-append}
 use Rattle.std.specs.List.{flat_map}
-use Rattle.indirect_targets.proofs.AllLaws.{none_begun}
+use Rattle.assumption_files.proofs.AllLaws.{none_begun}
 use Rattle.witness_replay.proofs.Parts.{more_text}
-use Rattle.sb_base.specs.Lines.{line}
-use Rattle.sb_base.specs.Writing.{Written, with_word, with_words, with_end}
+use Rattle.text_base.specs.Lines.{line}
+use Rattle.text_base.specs.Writing.{Written, with_word, with_words, with_end}
 use Rattle.line_reading.specs.Appending.{with_text, AppendingLaws}
 use Rattle.avr_model.specs.declared.device.Device.{Device}
 use Rattle.certificate.specs.Claims.{Claim}

@@ -3,7 +3,7 @@ use Rattle.std.proofs.Common.{◌≡◌, ℕ, List, [], ◌∷◌, ◌++◌, map
 use Rattle.std.specs.List.{flat_map}
 use Rattle.std.proofs.lemmas.Str.{IsUtf8-from_ascii, utf8_lossy-IsUtf8}
 use Rattle.serde_json.specs.Data.{string}
-use Rattle.sb_base.specs.Lines.{line}
+use Rattle.text_base.specs.Lines.{line}
 use Rattle.avr_model.specs.declared.device.Device.{Device}
 use Rattle.flash_image.specs.Naming.{Named, SayTheSame}
 use Rattle.certificate.specs.declared.instance.Inst.{Inst}
@@ -34,7 +34,7 @@ same_reports device c names others static_end same =
 
 same_part : (device : Device) (names others : List Named) (p : Part) → SayTheSame names others → part_text device names p ≡ part_text device others p
 same_part device names others p same =
-    ap (λ (o : Option (List ℕ)). line (codes "link" ∷ inst_key_words device p.inst ++ name_word o ∷ place_words p.place ++ codes "adds" ∷ decimal p.adds ∷ []) ++ path_text p.place) (same p.inst.entry)
+    ap (λ (o : Option (List ℕ)). line (codes "link" ∷ inst_key_words device p.inst ++ name_word o ∷ place_words device p.place ++ codes "adds" ∷ decimal p.adds ∷ []) ++ path_text device p.place) (same p.inst.entry)
 
 same_parts : (device : Device) (names others : List Named) (ps : List Part) → SayTheSame names others → flat_map (part_text device names) ps ≡ flat_map (part_text device others) ps
 same_parts device names others [] same = refl

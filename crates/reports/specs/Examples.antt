@@ -1,12 +1,12 @@
 -- Worked reports.
 use Rattle.std.specs.Prelude.{◌≡◌, ◌∷◌, [], List, Option, Some, None, false, refl, codes}
 use Rattle.std.specs.Fmt.{digits}
-use Rattle.sb_base.specs.Digits.{hex_digits}
+use Rattle.text_base.specs.Digits.{hex_digits}
 use Rattle.serde_json.proofs.OnLiterals.{serde_json_on_literals}
 use Rattle.serde_json.specs.Data.{string}
 use Rattle.serde_json.specs.Written.{compact_text}
 use Rattle.avr_model.specs.Devices.{M48, M328, device_row}
-use Rattle.mask_states.specs.declared.keys.Kind.TheVariants.{Root, Call, Vector}
+use Rattle.node_keys.specs.declared.keys.Kind.TheVariants.{Root, Call, Vector}
 use Rattle.witness_replay.specs.Spelling.{Plan}
 use Rattle.certificate.specs.declared.instance.Inst.{Inst}
 use Rattle.certificate.specs.declared.version.Version.TheVariants.{Two}

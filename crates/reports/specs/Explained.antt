@@ -1,10 +1,10 @@
 -- The text of an explanation as lines of words. Source: own.
 use Rattle.std.specs.Prelude.{ℕ, List, [], ◌∷◌, ◌++◌, map, codes, decimal}
 use Rattle.std.specs.List.{flat_map}
-use Rattle.sb_base.specs.Digits.{hex_digits}
-use Rattle.sb_base.specs.Lines.{line}
+use Rattle.text_base.specs.Lines.{line}
 use Rattle.avr_model.specs.declared.device.Device.{Device}
 use Rattle.flash_image.specs.Naming.{Named, least_name}
+use Rattle.assumption_files.specs.Spelling.{word_address_text}
 use Rattle.cert_words.specs.KeySpelling.{inst_key_words}
 use Rattle.chain_explain.specs.declared.explanation.Explanation.{Explanation}
 use Rattle.chain_explain.specs.declared.explanation.Part.{Part}
@@ -17,28 +17,25 @@ abbrev pub explain_line : ℕ → Explanation → List (List ℕ)
 explain_line bound x = codes "explain" ∷ codes "bound" ∷ decimal bound ∷ codes "least" ∷ decimal x.least ∷ []
 
 -- the word of a link's place, or the word that calls enter by its recur edge
-abbrev pub place_words : PartPlace → List (List ℕ)
-place_words (place.Node pc walk) = codes "at" ∷ hex_digits pc 4 ∷ []
-place_words (place.Recur word) = codes "recur" ∷ hex_digits word 4 ∷ []
+abbrev pub place_words : Device → PartPlace → List (List ℕ)
+place_words device (place.Node pc walk) = codes "at" ∷ word_address_text device pc ∷ []
+place_words device (place.Recur word) = codes "recur" ∷ word_address_text device word ∷ []
 
 -- a link: its instance, the name of the entry, the word of its place, and its bytes
 abbrev pub link_line : Device → List Named → Part → List (List ℕ)
 link_line device names part =
-    codes "link" ∷ inst_key_words device part.inst ++ name_word (least_name names part.inst.entry) ∷ place_words part.place ++ codes "adds" ∷ decimal part.adds ∷ []
-
-abbrev pub word_text : ℕ → List ℕ
-word_text word = hex_digits word 4
+    codes "link" ∷ inst_key_words device part.inst ++ name_word (least_name names part.inst.entry) ∷ place_words device part.place ++ codes "adds" ∷ decimal part.adds ∷ []
 
 -- the line of the words of the path to a place; a recur edge has none
-abbrev pub path_line : List ℕ → List (List ℕ)
-path_line walk = codes "path" ∷ map word_text walk
+abbrev pub path_line : Device → List ℕ → List (List ℕ)
+path_line device walk = codes "path" ∷ map (word_address_text device) walk
 
-abbrev pub path_text : PartPlace → List ℕ
-path_text (place.Node pc walk) = line (path_line walk)
-path_text (place.Recur word) = []
+abbrev pub path_text : Device → PartPlace → List ℕ
+path_text device (place.Node pc walk) = line (path_line device walk)
+path_text device (place.Recur word) = []
 
 abbrev pub part_text : Device → List Named → Part → List ℕ
-part_text device names part = line (link_line device names part) ++ path_text part.place
+part_text device names part = line (link_line device names part) ++ path_text device part.place
 
 -- the text of an explanation of a certificate with this bound, for a device
 abbrev pub explanation_text : Device → ℕ → List Named → Explanation → List ℕ

@@ -3,8 +3,8 @@ use Rattle.std.specs.Prelude.{ℕ, ◌+◌, ◌-◌, nat_le, Bool, List, [], ◌
 use Rattle.std.specs.List.{flat_map}
 use Rattle.avr_model.specs.declared.device.Device.{Device}
 use Rattle.avr_model.specs.Devices.{ramend}
-use Rattle.sb_base.specs.Digits.{hex_digits}
-use Rattle.sb_base.specs.Lines.{line}
+use Rattle.text_base.specs.Digits.{hex_digits}
+use Rattle.text_base.specs.Lines.{line}
 use Rattle.flash_image.specs.Naming.{Named, least_name}
 use Rattle.witness_replay.specs.Spelling.{Plan}
 use Rattle.certificate.specs.declared.instance.Inst.{Inst}

@@ -2,31 +2,33 @@
 
 ghost use Rattle.std.specs.Prelude.{◌≡◌, ◌<◌, map, IfOk, OnOk, false};
 ghost use Rattle.std.specs.List.{flat_map};
-ghost use Rattle.sb_base.specs.Lines.{line};
-ghost use Rattle.sb_base.specs.Writing.{with_words, with_end};
+ghost use Rattle.text_base.specs.Lines.{line};
+ghost use Rattle.text_base.specs.Writing.{with_words, with_end};
 ghost use Rattle.line_reading.specs.Appending.{with_text};
-ghost use Rattle.reports.specs.Explained.{word_text, explain_line, place_words, link_line, path_line, path_text, part_text, explanation_text};
+ghost use Rattle.assumption_files.specs.Spelling.{word_address_text};
+ghost use Rattle.reports.specs.Explained.{explain_line, place_words, link_line, path_line, path_text, part_text, explanation_text};
 
 use crate::text::write_name;
+use assumption_files::write_word_address;
 use cert_writing::write_inst_key;
 use chain_explain::{Explanation, Part, PartPlace};
 use flash_image::{Device, Names};
 use line_reading::laws::appending_laws;
-use sb_base::LineWriter;
 use std::alloc::{AllocError, Global};
+use text_base::LineWriter;
 
 // Writes the word of a link's place, or the word of its recur edge.
-fn write_place(out: &mut LineWriter, place: &PartPlace) -> Result<(), AllocError>
-    ensures { OnOk result (out.new ≡ with_words out.old (place_words place.now)) }
+fn write_place(out: &mut LineWriter, device: Device, place: &PartPlace) -> Result<(), AllocError>
+    ensures { OnOk result (out.new ≡ with_words out.old (place_words device place.now)) }
 {
     match place {
         PartPlace::Node(pc, _) => {
             out.word(b"at")?;
-            out.hex(u32::from(*pc), 4)
+            write_word_address(out, device, *pc)
         }
         PartPlace::Recur(word) => {
             out.word(b"recur")?;
-            out.hex(u32::from(*word), 4)
+            write_word_address(out, device, *word)
         }
     }
 }
@@ -44,40 +46,40 @@ fn write_link(
     out.word(b"link")?;
     write_inst_key(out, alloc, device, &part.inst)?;
     write_name(out, names, part.inst.entry)?;
-    write_place(out, &part.place)?;
+    write_place(out, device, &part.place)?;
     out.word(b"adds")?;
     out.dec(u64::from(part.adds))?;
     out.end_line()
 }
 
-/// Writes word addresses, or data addresses.
-pub fn write_words(out: &mut LineWriter, words: &[u16]) -> Result<(), AllocError>
-    ensures { OnOk result (out.new ≡ with_words out.old (map word_text words.now)) }
+// Writes word addresses.
+fn write_words(out: &mut LineWriter, device: Device, words: &[u32]) -> Result<(), AllocError>
+    ensures { OnOk result (out.new ≡ with_words out.old (map (word_address_text device) words.now)) }
 {
     for word in words {
-        out.hex(u32::from(*word), 4)?;
+        write_word_address(out, device, *word)?;
     }
     Ok(())
 }
 
 // Writes the line of the words of a path.
-fn write_walk(out: &mut LineWriter, walk: &[u16]) -> Result<(), AllocError>
+fn write_walk(out: &mut LineWriter, device: Device, walk: &[u32]) -> Result<(), AllocError>
     requires { out.old.begun ≡ false }
-    ensures { OnOk result (out.new ≡ with_text out.old (line (path_line walk.now))) }
+    ensures { OnOk result (out.new ≡ with_text out.old (line (path_line device walk.now))) }
 {
     appending_laws();
     out.word(b"path")?;
-    write_words(out, walk)?;
+    write_words(out, device, walk)?;
     out.end_line()
 }
 
 // Writes the line of the path to a place; a recur edge has none.
-fn write_path(out: &mut LineWriter, place: &PartPlace) -> Result<(), AllocError>
+fn write_path(out: &mut LineWriter, device: Device, place: &PartPlace) -> Result<(), AllocError>
     requires { out.old.begun ≡ false }
-    ensures { OnOk result (out.new ≡ with_text out.old (path_text place.now)) }
+    ensures { OnOk result (out.new ≡ with_text out.old (path_text device place.now)) }
 {
     match place {
-        PartPlace::Node(_, walk) => write_walk(out, walk.as_slice()),
+        PartPlace::Node(_, walk) => write_walk(out, device, walk.as_slice()),
         PartPlace::Recur(_) => Ok(()),
     }
 }
@@ -95,7 +97,7 @@ fn write_part(
 {
     appending_laws();
     write_link(out, alloc, device, names, part)?;
-    write_path(out, &part.place)
+    write_path(out, device, &part.place)
 }
 
 // Writes the lines of all links.

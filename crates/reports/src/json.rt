@@ -12,12 +12,12 @@ use crate::room::{fits_word, room};
 use avr_model::device::Device;
 use certificate::{Certificate, Inst};
 use flash_image::Names;
-use mask_states::Kind;
+use node_keys::Kind;
 use serde_json::{Map, Value};
 use std::alloc::{AllocError, Global};
 
 // The greatest number that each reader of JSON keeps: one with 53 bits.
-const MOST_EXACT: u64 = 9_007_199_254_740_991;
+const MOST_EXACT: u128 = 9_007_199_254_740_991;
 
 // A text as a value.
 fn text_value(alloc: Global, text: &str) -> Result<Value, AllocError>
@@ -72,7 +72,7 @@ fn witness_value(alloc: Global, certificate: &Certificate) -> Result<Value, Allo
 }
 
 // The name of a word.
-fn name_value(alloc: Global, names: &Names, word: u16) -> Result<Value, AllocError>
+fn name_value(alloc: Global, names: &Names, word: u32) -> Result<Value, AllocError>
     ensures { IfOk result (λ v. view v ≡ name_data (least_name names.now word)) }
 {
     match names.at(word) {
@@ -82,11 +82,11 @@ fn name_value(alloc: Global, names: &Names, word: u16) -> Result<Value, AllocErr
 }
 
 // Enable bits, as a text where they are above the numbers that each reader of JSON keeps.
-fn enables_value(alloc: Global, enables: u64) -> Result<Value, AllocError>
+fn enables_value(alloc: Global, enables: u128) -> Result<Value, AllocError>
     ensures { IfOk result (λ v. view v ≡ enables_data enables) }
 {
     if enables <= MOST_EXACT {
-        Ok(Value::from(enables))
+        Ok(Value::from(enables as u64))
     } else {
         Ok(Value::String(enables.to_string(alloc)?))
     }

@@ -8,6 +8,6 @@ pub mod laws;
 mod room;
 mod text;
 
-pub use explained::{explanation_text, write_words};
+pub use explained::explanation_text;
 pub use json::report_json;
 pub use text::{report_text, write_name};

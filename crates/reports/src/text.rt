@@ -2,8 +2,8 @@
 
 ghost use Rattle.std.specs.Prelude.{◌≡◌, map, codes, IfOk, OnOk, false};
 ghost use Rattle.std.specs.List.{flat_map};
-ghost use Rattle.sb_base.specs.Lines.{line};
-ghost use Rattle.sb_base.specs.Writing.{with_word, with_words, with_end};
+ghost use Rattle.text_base.specs.Lines.{line};
+ghost use Rattle.text_base.specs.Writing.{with_word, with_words, with_end};
 ghost use Rattle.line_reading.specs.Appending.{with_text};
 ghost use Rattle.flash_image.specs.Naming.{least_name};
 ghost use Rattle.cert_words.specs.Text.{numbered};
@@ -15,8 +15,8 @@ use cert_writing::write_inst_key;
 use certificate::{Certificate, Inst};
 use flash_image::Names;
 use line_reading::laws::appending_laws;
-use sb_base::LineWriter;
 use std::alloc::{AllocError, Global};
+use text_base::LineWriter;
 
 // Writes the line of the bound.
 fn write_bound(out: &mut LineWriter, bound: u16) -> Result<(), AllocError>
@@ -63,7 +63,7 @@ fn write_static(
 }
 
 /// Writes the name of a word, or a hyphen if it has none.
-pub fn write_name(out: &mut LineWriter, names: &Names, word: u16) -> Result<(), AllocError>
+pub fn write_name(out: &mut LineWriter, names: &Names, word: u32) -> Result<(), AllocError>
     ensures { OnOk result (out.new ≡ with_word out.old (name_word (least_name names.now word))) }
 {
     match names.at(word) {

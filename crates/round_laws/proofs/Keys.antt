@@ -2,10 +2,10 @@
 use Rattle.std.proofs.Common.{◌≡◌, ◌≢◌, refl, sym, ap, ◌∙◌, subst, Bool, true, false, cond, Some}
 use Rattle.std.specs.FinMap.{IsAntisymmetric, get, insert, get-insert}
 use Rattle.abs_state.specs.declared.state.AbsState.{AbsState}
-use Rattle.mask_states.specs.declared.keys.NodeKey.{NodeKey}
-use Rattle.mask_states.specs.Order.{node_cmp, same_node}
-use Rattle.mask_states.specs.Total.{node_total, node_equal}
-use Rattle.mask_states.proofs.AllLaws.{keys_are_ordered}
+use Rattle.node_keys.specs.declared.keys.NodeKey.{NodeKey}
+use Rattle.node_keys.specs.Order.{node_cmp, same_node}
+use Rattle.node_keys.specs.Total.{node_total, node_equal}
+use Rattle.node_keys.proofs.AllLaws.{keys_are_ordered}
 use Rattle.round_rules.specs.Families.{Family}
 
 pub node_exact : IsAntisymmetric node_cmp

@@ -1,7 +1,7 @@
 -- Edges of the nest.
 use Rattle.std.proofs.Common.{◌≡◌, ◌∙◌, sym, ℕ}
-use Rattle.mask_states.specs.declared.keys.InstKey.{InstKey}
-use Rattle.mask_states.specs.Keys.{root_inst}
+use Rattle.node_keys.specs.declared.keys.InstKey.{InstKey}
+use Rattle.node_keys.specs.Keys.{root_inst}
 use Rattle.local_rules.specs.declared.local.Node.{Node}
 use Rattle.local_rules.specs.Site.{Task}
 use Rattle.edge_rules.specs.Nest.{NestEdge, recurs, enters as by_node}

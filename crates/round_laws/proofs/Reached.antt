@@ -4,9 +4,9 @@ use Rattle.std.specs.declared.cmp.Ordering.TheVariants.{Equal}
 use Rattle.std.specs.FinMap.{get, retain_keys, get-retain_keys}
 use Rattle.avr_model.specs.Devices.{device_of}
 use Rattle.abs_state.specs.declared.state.AbsState.{AbsState}
-use Rattle.mask_states.specs.declared.keys.NodeKey.{NodeKey}
-use Rattle.mask_states.specs.Keys.{root_inst, entry_key}
-use Rattle.mask_states.specs.Order.{node_cmp}
+use Rattle.node_keys.specs.declared.keys.NodeKey.{NodeKey}
+use Rattle.node_keys.specs.Keys.{root_inst, entry_key}
+use Rattle.node_keys.specs.Order.{node_cmp}
 use Rattle.local_rules.specs.declared.local.Node.{Node}
 use Rattle.edge_rules.specs.Edges.{target}
 use Rattle.edge_laws.specs.Laws.{with_state}

@@ -10,13 +10,13 @@ use Rattle.std.specs.FinMap.Entries.{is_sorted, below_all}
 use Rattle.std.proofs.lemmas.Option.{same_Some}
 use Rattle.basics.specs.Booleans.{join_tests, so_if_less}
 use Rattle.abs_state.specs.declared.state.AbsState.{AbsState}
-use Rattle.mask_states.specs.declared.keys.NodeKey.{NodeKey}
-use Rattle.mask_states.specs.Order.{node_cmp}
+use Rattle.node_keys.specs.declared.keys.NodeKey.{NodeKey}
+use Rattle.node_keys.specs.Order.{node_cmp}
 use Rattle.local_rules.specs.declared.local.Node.{Node}
 use Rattle.edge_rules.specs.declared.seeded.NodeForm.{NodeForm}
 use Rattle.edge_rules.specs.Expansion.{Seeds, HasKeyAt}
 use Rattle.edge_rules.specs.Families.{IsSoundFamily}
-use Rattle.certificate.specs.Claims.{Claim, node_keys, cells_of, most_cells}
+use Rattle.certificate.specs.Claims.{Claim, seed_keys, cells_of, most_cells}
 use Rattle.certificate.specs.Insts.{rank_in, need_in}
 use Rattle.certificate.proofs.AllLaws.{conditions_make_families_sound}
 use Rattle.round_rules.specs.Families.{Family, node_of, nodes_of}
@@ -30,7 +30,7 @@ pair_of n = (n.key, n.state)
 abbrev keys_at : List Node → List NodeKey
 keys_at ns = map (λ (n : Node). n.key) ns
 
-same_keys : (ns : List Node) (es : Seeds) → length ns ≡ length es → ((at : ℕ) (n : Node) → slice_get ns at ≡ Some n → HasKeyAt es at n.key) → keys_at ns ≡ node_keys es
+same_keys : (ns : List Node) (es : Seeds) → length ns ≡ length es → ((at : ℕ) (n : Node) → slice_get ns at ≡ Some n → HasKeyAt es at n.key) → keys_at ns ≡ seed_keys es
 same_keys [] [] e h = refl
 same_keys [] (x ∷ es) e h = absurd (omega arith)
 same_keys (n ∷ ns) [] e h = absurd (omega arith)
@@ -63,7 +63,7 @@ count_back (n ∷ ns) = omega (arith, count_back ns)
 pub stands : (task : Task) (c : Claim) → IsShown task c → StandsForShown task c
 stands task c shown =
     let ns = shown.sound.nodes in
-    let keys : keys_at ns ≡ node_keys c.nodes = same_keys ns c.nodes shown.sound.expanded.count shown.sound.expanded.keys in
+    let keys : keys_at ns ≡ seed_keys c.nodes = same_keys ns c.nodes shown.sound.expanded.count shown.sound.expanded.keys in
     let sorted = sorted_of ns (subst (IsStrictlySortedBy node_cmp) (sym keys) shown.claim.nodes_ascend) in
     let g : Family = from_sorted (map pair_of ns) in
     let are : entries g ≡ map pair_of ns = entries-from_sorted node_cmp (map pair_of ns) sorted in

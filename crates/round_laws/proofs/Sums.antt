@@ -5,10 +5,10 @@ use Rattle.std.specs.Ordering.{eq_by_cmp}
 use Rattle.std.specs.FinMap.{get, entries, entries_sorted, get-entries, len, len-entries}
 use Rattle.std.specs.FinMap.Entries.{find, is_sorted}
 use Rattle.abs_state.specs.declared.state.AbsState.{AbsState}
-use Rattle.mask_states.specs.declared.keys.NodeKey.{NodeKey}
-use Rattle.mask_states.specs.Keys.{offset_of}
-use Rattle.mask_states.specs.Order.{node_cmp}
-use Rattle.mask_states.specs.Total.{node_equal, node_equivalence}
+use Rattle.node_keys.specs.declared.keys.NodeKey.{NodeKey}
+use Rattle.node_keys.specs.Keys.{offset_of}
+use Rattle.node_keys.specs.Order.{node_cmp}
+use Rattle.node_keys.specs.Total.{node_equal, node_equivalence}
 use Rattle.certificate.specs.Claims.{cells_of}
 use Rattle.round_rules.specs.Families.{Family, Below, cells}
 use Rattle.round_laws.proofs.Nodes.{tied, key_is, apart, sorted_parts}

@@ -3,21 +3,21 @@ use Rattle.std.proofs.Common.{◌≡◌, refl, sym, ap, ◌∙◌, subst, ℕ, z
 use Rattle.std.proofs.lemmas.Option.{none-some, same_Some, slice_get_within}
 use Rattle.basics.specs.Lists.{get_inside}
 use Rattle.avr_model.specs.Devices.{device_of, back_of}
-use Rattle.mask_states.specs.declared.keys.InstKey.{InstKey}
-use Rattle.mask_states.specs.declared.keys.Kind.{Kind}
-use Rattle.mask_states.specs.declared.keys.Kind.TheVariants.{Root, Call, Vector}
-use Rattle.mask_states.specs.Keys.{root_inst}
-use Rattle.mask_states.specs.Order.{same_inst}
-use Rattle.mask_states.proofs.AllLaws.{keys_are_ordered}
+use Rattle.node_keys.specs.declared.keys.InstKey.{InstKey}
+use Rattle.node_keys.specs.declared.keys.Kind.{Kind}
+use Rattle.node_keys.specs.declared.keys.Kind.TheVariants.{Root, Call, Vector}
+use Rattle.node_keys.specs.Keys.{root_inst}
+use Rattle.node_keys.specs.Order.{same_inst}
+use Rattle.node_keys.proofs.AllLaws.{keys_are_ordered}
 use Rattle.edge_rules.specs.Nest.{recurs, enters as by_node}
-use Rattle.nesting_bound.specs.declared.graph.GraphInst.{GraphInst}
-use Rattle.nesting_bound.specs.declared.graph.Entered.{Entered}
-use Rattle.nesting_bound.specs.Graph as graph
-use Rattle.nesting_bound.specs.Least.{IsLeast}
-use Rattle.nesting_bound.specs.Cycle.{IsNamed, IsNoLater, group_of, number_of}
+use Rattle.instance_graph.specs.declared.graph.GraphInst.{GraphInst}
+use Rattle.instance_graph.specs.declared.graph.Entered.{Entered}
+use Rattle.instance_graph.specs.Graph as graph
+use Rattle.instance_graph.specs.Least.{IsLeast}
+use Rattle.instance_graph.specs.Cycle.{IsNamed, IsNoLater, group_of, number_of}
 use Rattle.round_rules.specs.Refusals.{IsReEntry, IsRecursion}
 use Rattle.round_rules.specs.Families.{Family}
-use Rattle.round_rules.specs.Rounds.{Entering, Reaches, once, more, IsAcyclic, AreRanks, AreNeeds, IsRootNeed}
+use Rattle.round_rules.specs.Rounds.{IsEntering, Reaches, once, more, IsAcyclic, AreRanks, AreNeeds, IsRootNeed}
 use Rattle.round_laws.specs.Graphs.{IsNumber, IsNumberFor, IsGraphOver, valued, GraphsTell}
 use Rattle.local_rules.specs.Site.{Task}
 
@@ -94,7 +94,7 @@ by_entry (Vector v) entry never = absurd (never v refl)
 
 module _ (task : Task) (f : Family) (keys : List InstKey) (gs : List GraphInst) (is : IsGraphOver task f keys gs) where
   -- an upper instance has a number: it has a node, or is the root
-  from_number : (i j : InstKey) (offset : ℕ) → Entering task f i j offset → (n : ℕ) × IsNumber keys n i
+  from_number : (i j : InstKey) (offset : ℕ) → IsEntering task f i j offset → (n : ℕ) × IsNumber keys n i
   from_number i j offset (by_node n way back has same at e whole) = is.numbered i (n, has, same)
   from_number i j offset (recurs n has same cut top) = (0, subst (IsNumber keys 0) (sym top) is.root)
 
@@ -109,12 +109,12 @@ module _ (task : Task) (f : Family) (keys : List InstKey) (gs : List GraphInst) 
   into_is n k j (inl e) d = same_Some k j (sym e ∙ d)
   into_is n k j (inr h) d = let lt = slice_get_within keys n j d in absurd (omega (arith, lt, h.0))
 
-  entering_is : (a : ℕ) (e : Entered) (i j : InstKey) → graph.EntersAlong gs a e → IsNumber keys a i → IsNumber keys e.into j → Entering task f i j e.offset
+  entering_is : (a : ℕ) (e : Entered) (i j : InstKey) → graph.EntersAlong gs a e → IsNumber keys a i → IsNumber keys e.into j → IsEntering task f i j e.offset
   entering_is a e i j h from to =
       let x = is.entered a e h in
       let is_i : x.inst ≡ i = same_Some x.inst i (sym x.from ∙ from) in
       let is_j : x.into ≡ j = into_is e.into x.into j x.to to in
-      subst (λ (k : InstKey). Entering task f i k e.offset) is_j (subst (λ (k : InstKey). Entering task f k x.into e.offset) is_i x.entering)
+      subst (λ (k : InstKey). IsEntering task f i k e.offset) is_j (subst (λ (k : InstKey). IsEntering task f k x.into e.offset) is_i x.entering)
 
   number_from : (a b : ℕ) → graph.ReachesBy gs a b → (k : InstKey) × IsNumber keys a k
   number_from _ _ (graph.once a e h) = let x = is.entered a e h in (x.inst, x.from)

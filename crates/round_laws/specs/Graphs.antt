@@ -2,21 +2,21 @@
 -- these, which has no edges.
 use Rattle.std.specs.Prelude.{ℕ, ◌+◌, ◌≡◌, ◌<◌, ◌≤◌, ◌⊎◌, List, [], ◌∷◌, length, map, Some, slice_get, slice_index, if◌then◌else◌}
 use Rattle.avr_model.specs.Devices.{device_of, back_of}
-use Rattle.mask_states.specs.declared.keys.InstKey.{InstKey}
-use Rattle.mask_states.specs.declared.keys.SpForm.TheVariants.{Closed}
-use Rattle.mask_states.specs.declared.keys.Kind.TheVariants.{Vector}
-use Rattle.mask_states.specs.Keys.{root_inst}
-use Rattle.mask_states.specs.Order.{same_inst}
+use Rattle.node_keys.specs.declared.keys.InstKey.{InstKey}
+use Rattle.node_keys.specs.declared.keys.SpForm.TheVariants.{Closed}
+use Rattle.node_keys.specs.declared.keys.Kind.TheVariants.{Vector}
+use Rattle.node_keys.specs.Keys.{root_inst}
+use Rattle.node_keys.specs.Order.{same_inst}
 use Rattle.local_rules.specs.declared.local.Node.{Node}
-use Rattle.nesting_bound.specs.declared.graph.GraphInst.{GraphInst}
-use Rattle.nesting_bound.specs.declared.graph.Entered.{Entered}
-use Rattle.nesting_bound.specs.declared.graph.Place.{Place}
-use Rattle.nesting_bound.specs.Graph as graph
-use Rattle.nesting_bound.specs.Least.{IsLeast}
-use Rattle.nesting_bound.specs.Cycle.{IsNamed, group_of}
+use Rattle.instance_graph.specs.declared.graph.GraphInst.{GraphInst}
+use Rattle.instance_graph.specs.declared.graph.Entered.{Entered}
+use Rattle.instance_graph.specs.declared.graph.Place.{Place}
+use Rattle.instance_graph.specs.Graph as graph
+use Rattle.instance_graph.specs.Least.{IsLeast}
+use Rattle.instance_graph.specs.Cycle.{IsNamed, group_of}
 use Rattle.round_rules.specs.Refusals.{IsReEntry, IsRecursion}
 use Rattle.round_rules.specs.Families.{Family, FamilyHas, FamilyHasInst}
-use Rattle.round_rules.specs.Rounds.{Entering, IsAcyclic, AreRanks, AreNeeds, IsRootNeed}
+use Rattle.round_rules.specs.Rounds.{IsEntering, IsAcyclic, AreRanks, AreNeeds, IsRootNeed}
 use Rattle.local_rules.specs.Site.{Task}
 
 -- the instance has this number
@@ -42,7 +42,7 @@ pub record IsEntered (task : Task) (f : Family) (keys : List InstKey) (i : ℕ) 
   pub into : InstKey
   pub from : IsNumber keys i inst
   pub to : IsNumberFor keys e.into into
-  pub entering : Entering task f inst into e.offset
+  pub entering : IsEntering task f inst into e.offset
 
 -- a place of the graph for this node
 pub record HasNodePlace (keys : List InstKey) (gs : List GraphInst) (inst : InstKey) (offset : ℕ) : Type 0 where
@@ -67,7 +67,7 @@ pub record IsGraphOver (task : Task) (f : Family) (keys : List InstKey) (gs : Li
   pub once : (i j : ℕ) (inst : InstKey) → IsNumber keys i inst → IsNumber keys j inst → i ≡ j
   pub numbered : (inst : InstKey) → FamilyHasInst f inst → (i : ℕ) × IsNumber keys i inst
   pub entered : (i : ℕ) (e : Entered) → graph.EntersAlong gs i e → IsEntered task f keys i e
-  pub all_entered : (i j : InstKey) (offset : ℕ) → Entering task f i j offset → HasEntryEdge keys gs i j offset
+  pub all_entered : (i j : InstKey) (offset : ℕ) → IsEntering task f i j offset → HasEntryEdge keys gs i j offset
   pub places : (i : ℕ) (p : Place) → graph.HasPlace gs i p → IsFamilyPlace f keys i p.offset
   pub all_places : (n : Node) (offset : ℕ) → FamilyHas f n → n.key.sp ≡ Closed offset → HasNodePlace keys gs n.key.inst offset
 

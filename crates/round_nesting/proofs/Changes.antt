@@ -5,10 +5,10 @@ use Rattle.std.proofs.lemmas.Bool.{cases_eq}
 use Rattle.std.proofs.lemmas.List.{length-set}
 use Rattle.std.proofs.lemmas.List.Elements.{Contains-push_cases, Contains-push, Contains-append_left}
 use Rattle.std.proofs.lemmas.Option.{same_Some, slice_get_within}
-use Rattle.nesting_bound.specs.declared.graph.Entered.{Entered}
-use Rattle.nesting_bound.specs.declared.graph.GraphInst.{GraphInst}
-use Rattle.nesting_bound.specs.declared.graph.Place.{Place}
-use Rattle.nesting_bound.specs.Graph.{EntersAlong, HasPlace}
+use Rattle.instance_graph.specs.declared.graph.Entered.{Entered}
+use Rattle.instance_graph.specs.declared.graph.GraphInst.{GraphInst}
+use Rattle.instance_graph.specs.declared.graph.Place.{Place}
+use Rattle.instance_graph.specs.Graph.{EntersAlong, HasPlace}
 use Rattle.round_nesting.specs.Drawn.{IsSame, HasPlaced, IsEntranceDrawn}
 
 set_here : {X : Type 0} (xs : List X) (i : ℕ) (y : X) → i < length xs → slice_get (set xs i y) i ≡ Some y

@@ -4,10 +4,10 @@ use Rattle.avr_model.proofs.AllLaws.{devices_are_alike}
 use Rattle.avr_model.specs.declared.device.Device.{Device}
 use Rattle.avr_model.specs.Devices.{device_of, size_of, back_of}
 use Rattle.round_laws.proofs.AllLaws.{reached_lower}
-use Rattle.mask_states.specs.declared.keys.InstKey.{InstKey}
-use Rattle.mask_states.specs.Order.{same_inst}
-use Rattle.mask_states.proofs.AllLaws.{keys_are_ordered}
-use Rattle.round_rules.specs.Rounds.{Entering, AreRanks}
+use Rattle.node_keys.specs.declared.keys.InstKey.{InstKey}
+use Rattle.node_keys.specs.Order.{same_inst}
+use Rattle.node_keys.proofs.AllLaws.{keys_are_ordered}
+use Rattle.round_rules.specs.Rounds.{IsEntering, AreRanks}
 use Rattle.round_nesting.specs.declared.allowances.Allowance.{Allowance}
 use Rattle.round_nesting.specs.declared.verdict.NestingVerdict.TheVariants.{Nests}
 use Rattle.round_nesting.specs.Nestings.{Spot, Entrance, Noted, TellsAll}
@@ -98,7 +98,7 @@ nests device gs n root covers task f sized there nesting = (
     need : InstKey → ℕ
     need i = need_in (allowed gs i)
 
-    allows : (i j : InstKey) (offset : ℕ) → Entering task f i j offset → AllowsEntrance gs (record { from = i; into = j; offset = offset })
+    allows : (i j : InstKey) (offset : ℕ) → IsEntering task f i j offset → AllowsEntrance gs (record { from = i; into = j; offset = offset })
     allows i j offset e = covers.each_entrance (record { from = i; into = j; offset = offset }) ((nesting.entrances (record { from = i; into = j; offset = offset })).1 e)
 
     are_ranks : AreRanks task f rank

@@ -6,12 +6,12 @@ use Rattle.std.proofs.lemmas.Option.{none-some, same_Some}
 use Rattle.basics.specs.Items.{first_in, further_in, first_or_further}
 use Rattle.indexmap.specs.IndexSet.{insert_key}
 use Rattle.indexmap.proofs.CallerLemmas.{Contains-list_any}
-use Rattle.mask_states.specs.declared.keys.InstKey.{InstKey}
-use Rattle.mask_states.specs.declared.keys.NodeKey.{NodeKey}
-use Rattle.mask_states.specs.declared.keys.SpForm.TheVariants.{Closed}
-use Rattle.mask_states.specs.Keys.{root_inst, offset_of}
-use Rattle.mask_states.specs.Order.{same_inst}
-use Rattle.mask_states.proofs.AllLaws.{keys_are_ordered}
+use Rattle.node_keys.specs.declared.keys.InstKey.{InstKey}
+use Rattle.node_keys.specs.declared.keys.NodeKey.{NodeKey}
+use Rattle.node_keys.specs.declared.keys.SpForm.TheVariants.{Closed}
+use Rattle.node_keys.specs.Keys.{root_inst, offset_of}
+use Rattle.node_keys.specs.Order.{same_inst}
+use Rattle.node_keys.proofs.AllLaws.{keys_are_ordered}
 use Rattle.round_nesting.specs.Nestings.{Spot, Entrance, Noted, AreOnce, IsNodeNoted, HasEntrance, AreAlike}
 use Rattle.round_nesting.specs.Drawn.{insts_of, AreOthersApart, HasMore}
 

@@ -6,10 +6,10 @@ use Rattle.std.specs.Set.{is_member}
 use Rattle.std.specs.FinMap.{entries, len, len-entries}
 use Rattle.std.proofs.lemmas.Map.Made.{is_member-Decides, length-le_from_is_member}
 use Rattle.basics.specs.Items.{first_in, further_in}
-use Rattle.mask_states.specs.declared.keys.InstKey.{InstKey}
-use Rattle.mask_states.specs.Order.{same_inst}
-use Rattle.mask_states.specs.Total.{inst_equivalence}
-use Rattle.mask_states.proofs.AllLaws.{keys_are_ordered}
+use Rattle.node_keys.specs.declared.keys.InstKey.{InstKey}
+use Rattle.node_keys.specs.Order.{same_inst}
+use Rattle.node_keys.specs.Total.{inst_equivalence}
+use Rattle.node_keys.proofs.AllLaws.{keys_are_ordered}
 use Rattle.local_rules.specs.declared.local.Node.{Node}
 use Rattle.local_laws.proofs.AllLaws.{in_map}
 use Rattle.round_rules.specs.Families.{Family, node_of, nodes_of}

@@ -5,11 +5,11 @@ use Rattle.std.proofs.lemmas.List.Elements.{Contains-push_cases, Contains-push, 
 use Rattle.std.proofs.lemmas.Option.{none-some, same_Some}
 use Rattle.basics.specs.Items.{none_in}
 use Rattle.avr_model.specs.State.{SIZE}
-use Rattle.mask_states.specs.declared.keys.InstKey.{InstKey}
-use Rattle.nesting_bound.specs.declared.graph.Entered.{Entered}
-use Rattle.nesting_bound.specs.declared.graph.GraphInst.{GraphInst}
-use Rattle.nesting_bound.specs.declared.graph.Place.{Place}
-use Rattle.nesting_bound.specs.Graph.{EntersAlong, HasPlace}
+use Rattle.node_keys.specs.declared.keys.InstKey.{InstKey}
+use Rattle.instance_graph.specs.declared.graph.Entered.{Entered}
+use Rattle.instance_graph.specs.declared.graph.GraphInst.{GraphInst}
+use Rattle.instance_graph.specs.declared.graph.Place.{Place}
+use Rattle.instance_graph.specs.Graph.{EntersAlong, HasPlace}
 use Rattle.round_nesting.specs.Nestings.{Spot, Entrance}
 use Rattle.round_nesting.specs.Drawn.{number_of, HasPlaced, IsEntranceDrawn, IsSpotPlace, IsEdgeOf, HasSpot, HasEntranceEdge, IsDrawn}
 use Rattle.round_nesting.proofs.Numbers.{number_within}

@@ -3,21 +3,21 @@ use Rattle.std.proofs.Common.{◌≡◌, refl, sym, ap, ◌∙◌, subst, List, 
 use Rattle.std.proofs.lemmas.Option.{slice_get_within, slice_get-get_or}
 use Rattle.avr_model.specs.declared.device.Device.{Device}
 use Rattle.avr_model.specs.Devices.{device_of, size_of, back_of}
-use Rattle.mask_states.specs.declared.keys.InstKey.{InstKey}
-use Rattle.mask_states.specs.declared.keys.Kind.TheVariants.{Vector}
-use Rattle.mask_states.specs.declared.keys.SpForm.TheVariants.{Closed}
+use Rattle.node_keys.specs.declared.keys.InstKey.{InstKey}
+use Rattle.node_keys.specs.declared.keys.Kind.TheVariants.{Vector}
+use Rattle.node_keys.specs.declared.keys.SpForm.TheVariants.{Closed}
 use Rattle.local_rules.specs.declared.local.Node.{Node}
 use Rattle.basics.specs.Items.{first_in}
-use Rattle.mask_states.specs.Keys.{root_inst}
+use Rattle.node_keys.specs.Keys.{root_inst}
 use Rattle.edge_rules.specs.Nest.{recurs, enters as by_node}
-use Rattle.nesting_bound.specs.declared.graph.Entered.{Entered}
-use Rattle.nesting_bound.specs.declared.graph.GraphInst.{GraphInst}
-use Rattle.nesting_bound.specs.declared.graph.Place.{Place}
-use Rattle.nesting_bound.specs.Graph as graph
-use Rattle.nesting_bound.specs.Cycle.{IsNamed, group_of}
-use Rattle.nesting_bound.specs.Least.{IsLeast}
+use Rattle.instance_graph.specs.declared.graph.Entered.{Entered}
+use Rattle.instance_graph.specs.declared.graph.GraphInst.{GraphInst}
+use Rattle.instance_graph.specs.declared.graph.Place.{Place}
+use Rattle.instance_graph.specs.Graph as graph
+use Rattle.instance_graph.specs.Cycle.{IsNamed, group_of}
+use Rattle.instance_graph.specs.Least.{IsLeast}
 use Rattle.round_rules.specs.Families.{Family, FamilyHas, FamilyHasInst}
-use Rattle.round_rules.specs.Rounds.{Entering}
+use Rattle.round_rules.specs.Rounds.{IsEntering}
 use Rattle.round_laws.specs.Graphs.{GraphsTell, IsGraphOver, IsNumber, IsNumberFor, IsEntered, HasEntryEdge, IsFamilyPlace as IsPlaceIn, HasNodePlace}
 use Rattle.round_nesting.specs.declared.verdict.NestingVerdict.TheVariants.{Nests, ReEntry, Recursion, TooDeep}
 use Rattle.round_nesting.specs.Nestings.{Noted, AreOnce, IsNestingOf, TellsAll}
@@ -35,7 +35,7 @@ module _ (n : Noted) (others : List InstKey) (gs : List GraphInst) (drawn : IsDr
     number_is inst h = numbered keys inst (subst (λ l. Contains l inst) is ((nesting.insts inst).1 h))
 
     -- the upper instance of an edge is numbered: it has a node, or is the root
-    upper_is : (i j : InstKey) (depth : ℕ) → Entering task f i j depth → IsNumber keys (number_of keys i) i
+    upper_is : (i j : InstKey) (depth : ℕ) → IsEntering task f i j depth → IsNumber keys (number_of keys i) i
     upper_is i j depth (by_node node way back has same at e whole) = number_is i (node, has, same)
     upper_is i j depth (recurs node has same cut top) = subst (λ (k : InstKey). IsNumber keys (number_of keys k) k) (sym top) (numbered keys root_inst (first_in root_inst others))
 
@@ -48,10 +48,10 @@ module _ (n : Noted) (others : List InstKey) (gs : List GraphInst) (drawn : IsDr
           into = x.entrance.into;
           from = subst (λ j. IsNumber keys j x.entrance.from) x.from (upper_is x.entrance.from x.entrance.into x.entrance.offset entering);
           to = subst (λ j. IsNumberFor keys j x.entrance.into) x.into (stands keys x.entrance.into);
-          entering = subst (Entering task f x.entrance.from x.entrance.into) x.at entering;
+          entering = subst (IsEntering task f x.entrance.from x.entrance.into) x.at entering;
         }
 
-    all_entered : (i j : InstKey) (offset : ℕ) → Entering task f i j offset → HasEntryEdge keys gs i j offset
+    all_entered : (i j : InstKey) (offset : ℕ) → IsEntering task f i j offset → HasEntryEdge keys gs i j offset
     all_entered i j offset entering =
         let x = drawn.all_edges (record { from = i; into = j; offset = offset }) ((nesting.entrances (record { from = i; into = j; offset = offset })).1 entering) in
         record {

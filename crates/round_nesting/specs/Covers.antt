@@ -1,9 +1,9 @@
 -- Allowances: ranks and needs with slack, which stay valid while notes grow.
 use Rattle.std.specs.Prelude.{ℕ, ◌+◌, ◌≡◌, ◌<◌, ◌≤◌, Bool, true, List, Option, Some, Contains}
 use Rattle.std.specs.Map.{lookup}
-use Rattle.mask_states.specs.declared.keys.InstKey.{InstKey}
-use Rattle.mask_states.specs.Keys.{root_inst}
-use Rattle.mask_states.specs.Order.{same_inst}
+use Rattle.node_keys.specs.declared.keys.InstKey.{InstKey}
+use Rattle.node_keys.specs.Keys.{root_inst}
+use Rattle.node_keys.specs.Order.{same_inst}
 use Rattle.round_nesting.specs.declared.allowances.Allowance.{Allowance}
 use Rattle.round_nesting.specs.Nestings.{Spot, Entrance}
 use Rattle.round_nesting.specs.Drawn.{AreOthersApart}

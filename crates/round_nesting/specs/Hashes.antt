@@ -6,11 +6,11 @@ use Rattle.std.specs.Cmp.{IsEquivalence, IsPartialEquivalence, partial_equiv_fro
 use Rattle.std.specs.Hash as fed
 use Rattle.std.proofs.lemmas.Cmp.{nat_eq_equiv, on_equiv, and_equiv}
 use Rattle.std.proofs.lemmas.Bool.{and_parts}
-use Rattle.mask_states.specs.declared.keys.InstKey.{InstKey}
-use Rattle.mask_states.specs.Hashes.{inst_hash}
-use Rattle.mask_states.specs.Order.{same_inst}
-use Rattle.mask_states.specs.Total.{inst_equivalence}
-use Rattle.mask_states.proofs.AllLaws.{keys_are_ordered}
+use Rattle.node_keys.specs.declared.keys.InstKey.{InstKey}
+use Rattle.node_keys.specs.Hashes.{inst_hash}
+use Rattle.node_keys.specs.Order.{same_inst}
+use Rattle.node_keys.specs.Total.{inst_equivalence}
+use Rattle.node_keys.proofs.AllLaws.{keys_are_ordered}
 use Rattle.round_nesting.specs.Nestings.{Spot, Entrance}
 
 -- ---- of a spot

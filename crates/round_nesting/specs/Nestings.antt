@@ -3,13 +3,13 @@ use Rattle.std.specs.Prelude.{ℕ, ◌≡◌, ◌<◌, ◌≤◌, ◌↔◌, ◌
 use Rattle.std.specs.FinMap.{len}
 use Rattle.avr_model.specs.declared.device.Device.{Device}
 use Rattle.avr_model.specs.Devices.{device_of, size_of}
-use Rattle.mask_states.specs.declared.keys.InstKey.{InstKey}
-use Rattle.mask_states.specs.declared.keys.NodeKey.{NodeKey}
-use Rattle.mask_states.specs.declared.keys.SpForm.TheVariants.{Closed}
-use Rattle.mask_states.specs.Keys.{root_inst}
+use Rattle.node_keys.specs.declared.keys.InstKey.{InstKey}
+use Rattle.node_keys.specs.declared.keys.NodeKey.{NodeKey}
+use Rattle.node_keys.specs.declared.keys.SpForm.TheVariants.{Closed}
+use Rattle.node_keys.specs.Keys.{root_inst}
 use Rattle.local_rules.specs.declared.local.Node.{Node}
 use Rattle.round_rules.specs.Families.{Family, FamilyHas, FamilyHasInst}
-use Rattle.round_rules.specs.Rounds.{Entering, IsAcyclic, IsRootNeed, IsShallow}
+use Rattle.round_rules.specs.Rounds.{IsEntering, IsAcyclic, IsRootNeed, IsShallow}
 use Rattle.round_rules.specs.Refusals.{IsReEntry, IsRecursion}
 use Rattle.round_nesting.specs.declared.verdict.NestingVerdict.{NestingVerdict}
 use Rattle.round_nesting.specs.declared.verdict.NestingVerdict.TheVariants.{Nests, ReEntry, Recursion, TooDeep}
@@ -72,7 +72,7 @@ pub record IsSpotOf (f : Family) (s : Spot) : Type 0 where
 pub record IsNestingOf (task : Task) (f : Family) (n : Noted) : Type 0 where
   pub insts : (inst : InstKey) → Contains n.insts inst ↔ FamilyHasInst f inst
   pub spots : (s : Spot) → Contains n.spots s ↔ IsSpotOf f s
-  pub entrances : (e : Entrance) → Contains n.entrances e ↔ Entering task f e.from e.into e.offset
+  pub entrances : (e : Entrance) → Contains n.entrances e ↔ IsEntering task f e.from e.into e.offset
 
 -- ---- what it tells
 

@@ -6,8 +6,8 @@ use crate::drawing::number;
 use crate::notes::{NotedEntrance, NotedSpot};
 use avr_model::device::Device;
 use indexmap::{IndexMap, IndexSet};
-use mask_states::InstKey;
-use nesting_bound::Composed;
+use instance_graph::Composed;
+use node_keys::InstKey;
 use std::alloc::{AllocError, Global};
 
 // An instance's allowance: a rank above those of all that it enters, and a need that covers its offsets and entries.

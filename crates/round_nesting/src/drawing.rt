@@ -2,15 +2,15 @@
 
 ghost use Rattle.std.specs.Prelude.{◌≡◌, ◌+◌, ◌≤◌, ◌∷◌, [], List, length, IfOk, OnOk};
 ghost use Rattle.indexmap.specs.IndexSet.{index_set_len};
-ghost use Rattle.mask_states.specs.Keys.{root_inst};
+ghost use Rattle.node_keys.specs.Keys.{root_inst};
 ghost use Rattle.round_nesting.specs.Nestings.{Spot};
 ghost use Rattle.round_nesting.specs.Drawn.{number_of, IsDrawn};
 
 use crate::notes::{NotedEntrance, NotedSpot};
 use avr_model::listed::Listed;
 use indexmap::IndexSet;
-use mask_states::{EdgeKind, InstKey};
-use nesting_bound::{Entered, Graph, GraphInst, Place, Way};
+use instance_graph::{Entered, Graph, GraphInst, GraphWay, Place};
+use node_keys::{EdgeKind, InstKey};
 use std::alloc::{AllocError, Global};
 
 // The number of an instance: 0 for the root, by order for the others, and the number behind all for one without a note.
@@ -90,7 +90,7 @@ fn draw_entrances(
         instances[from].entered.push(Entered {
             node: 0,
             offset: entrance.offset(),
-            way: Way::Enters(EdgeKind::Call),
+            way: GraphWay::Enters(EdgeKind::Call),
             into,
         })?;
     }

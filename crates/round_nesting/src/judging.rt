@@ -3,8 +3,8 @@
 ghost use Rattle.std.specs.Prelude.{◌≤◌, IfOk, true};
 ghost use Rattle.indexmap.specs.IndexSet.{index_set_len};
 ghost use Rattle.avr_model.specs.declared.device.Device as device_type;
-ghost use Rattle.nesting_bound.specs.Graph.{IsGraph};
-ghost use Rattle.nesting_bound.specs.Cycle.{IsNamed};
+ghost use Rattle.instance_graph.specs.Graph.{IsGraph};
+ghost use Rattle.instance_graph.specs.Cycle.{IsNamed};
 ghost use Rattle.round_nesting.specs.Drawn.{insts_of, AreOthersApart, GraphTells};
 ghost use Rattle.round_nesting.specs.Nestings.{TellsAll};
 
@@ -14,8 +14,8 @@ use crate::notes::{NotedEntrance, NotedSpot};
 use crate::verdict::NestingVerdict;
 use avr_model::device::Device;
 use indexmap::IndexSet;
-use mask_states::{InstKey, Kind};
-use nesting_bound::{ComposeFault, Graph, GraphInst, compose};
+use instance_graph::{ComposeFault, Graph, GraphInst, compose};
+use node_keys::{InstKey, Kind};
 use round_laws::laws::graphs_tell;
 use std::alloc::{AllocError, Global};
 

@@ -2,7 +2,7 @@
 
 ghost use Rattle.std.specs.Prelude.{◌≡◌, ◌≤◌, length, IfOk, OnOk};
 ghost use Rattle.avr_model.specs.State.{SIZE};
-ghost use Rattle.mask_states.specs.Keys.{offset_of};
+ghost use Rattle.node_keys.specs.Keys.{offset_of};
 ghost use Rattle.round_nesting.specs.Nestings.{Noted, nothing, AreOnce, IsNodeNoted, HasEntrance, AreAlike, TellsAll};
 ghost use Rattle.round_nesting.specs.Drawn.{insts_of, AreOthersApart, HasMore};
 
@@ -12,7 +12,7 @@ use crate::notes::{NotedEntrance, NotedSpot};
 use crate::verdict::NestingVerdict;
 use avr_model::device::Device;
 use indexmap::IndexSet;
-use mask_states::{InstKey, NodeKey, SpForm};
+use node_keys::{InstKey, NodeKey, SpForm};
 use std::alloc::{AllocError, Global};
 use std::marker::Model;
 

@@ -4,7 +4,7 @@ ghost use Rattle.std.specs.Prelude.{◌≡◌, ◌≤◌};
 ghost use Rattle.avr_model.specs.State.{SIZE};
 ghost use Rattle.round_nesting.specs.Hashes.{same_spot, spots_equivalence, same_entrance, entrances_equivalence, spot_hash, spot_alike, entrance_hash, entrance_alike};
 
-use mask_states::InstKey;
+use node_keys::InstKey;
 use std::hash::{Hash, Hasher};
 use std::marker::Model;
 

@@ -6,9 +6,9 @@ pub enum NestingVerdict {
     /// No instance is on a cycle, and the root's need is at most the size of the device's SRAM.
     Nests,
     /// An instance of this vector, the least on a cycle, is entered again; it begins at this word.
-    ReEntry(u8, u16),
+    ReEntry(u8, u32),
     /// No vector's instance is on a cycle, but one that begins at this word, the least such, is.
-    Recursion(u16),
+    Recursion(u32),
     /// No instance is on a cycle, and the root's need, given here, exceeds the size of the device's SRAM.
     TooDeep(u32),
 }

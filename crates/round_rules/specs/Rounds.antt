@@ -4,9 +4,9 @@ use Rattle.std.specs.FinMap.{insert, empty}
 use Rattle.avr_model.specs.declared.assumption.Entry.{Entry}
 use Rattle.avr_model.specs.Assumptions.{has_pairs}
 use Rattle.avr_model.specs.Devices.{device_of, size_of, back_of}
-use Rattle.mask_states.specs.declared.keys.InstKey.{InstKey}
-use Rattle.mask_states.specs.declared.keys.SpForm.TheVariants.{Closed}
-use Rattle.mask_states.specs.Keys.{root_inst, entry_key}
+use Rattle.node_keys.specs.declared.keys.InstKey.{InstKey}
+use Rattle.node_keys.specs.declared.keys.SpForm.TheVariants.{Closed}
+use Rattle.node_keys.specs.Keys.{root_inst, entry_key}
 use Rattle.local_rules.specs.declared.local.Node.{Node}
 use Rattle.edge_rules.specs.Nest.{NestEdge}
 use Rattle.edge_rules.specs.Roots.{root_of}
@@ -16,26 +16,26 @@ use Rattle.local_rules.specs.Site.{Task}
 -- ---- which instance lies below which
 
 -- the second instance lies below the first in the nest of the family, at this depth
-abbrev pub Entering : Task → Family → InstKey → InstKey → ℕ → Type 0
-Entering task f i j depth = NestEdge task (FamilyHas f) i j depth
+abbrev pub IsEntering : Task → Family → InstKey → InstKey → ℕ → Type 0
+IsEntering task f i j depth = NestEdge task (FamilyHas f) i j depth
 
 -- one or more edges of the nest lead from the first instance to the second
 pub data Reaches (task : Task) (f : Family) : InstKey → InstKey → Type 0 where
-  once : (i j : InstKey) (offset : ℕ) → Entering task f i j offset → Reaches task f i j
-  more : (i j k : InstKey) (offset : ℕ) → Entering task f i j offset → Reaches task f j k → Reaches task f i k
+  once : (i j : InstKey) (offset : ℕ) → IsEntering task f i j offset → Reaches task f i j
+  more : (i j k : InstKey) (offset : ℕ) → IsEntering task f i j offset → Reaches task f j k → Reaches task f i k
 
 abbrev pub IsAcyclic : Task → Family → Type 0
 IsAcyclic task f = (i : InstKey) → Reaches task f i i → ⊥
 
 -- an instance's rank is above that of each instance that lies below it
 abbrev pub AreRanks : Task → Family → (InstKey → ℕ) → Type 0
-AreRanks task f rank = (i j : InstKey) (offset : ℕ) → Entering task f i j offset → rank j < rank i
+AreRanks task f rank = (i j : InstKey) (offset : ℕ) → IsEntering task f i j offset → rank j < rank i
 
 -- An instance's need is at least the offset of each of its closed nodes, and at least the need of each instance below it plus its depth
 -- and the bytes of a return address. An instance without nodes may have any need.
 pub record AreNeeds (task : Task) (f : Family) (need : InstKey → ℕ) : Type 0 where
   pub offsets : (n : Node) (offset : ℕ) → FamilyHas f n → n.key.sp ≡ Closed offset → offset ≤ need n.key.inst
-  pub entered : (i j : InstKey) (offset : ℕ) → Entering task f i j offset → offset + back_of (device_of task.flash) + need j ≤ need i
+  pub entered : (i j : InstKey) (offset : ℕ) → IsEntering task f i j offset → offset + back_of (device_of task.flash) + need j ≤ need i
 
 -- the least need of the root
 pub record IsRootNeed (task : Task) (f : Family) (d : ℕ) : Type 0 where

@@ -1,7 +1,7 @@
 -- The nodes of a solved family that are written without states. Source: own.
 use Rattle.std.specs.Prelude.{ℕ, ◌≡◌, ◌<◌, ◌↔◌, List, Some, Contains, slice_get}
-use Rattle.mask_states.specs.declared.keys.NodeKey.{NodeKey}
-use Rattle.mask_states.specs.declared.keys.EdgeKind.TheVariants as kind
+use Rattle.node_keys.specs.declared.keys.NodeKey.{NodeKey}
+use Rattle.node_keys.specs.declared.keys.EdgeKind.TheVariants as kind
 use Rattle.local_rules.specs.declared.local.Node.{Node}
 use Rattle.edge_rules.specs.declared.edge.Edge.{Edge}
 use Rattle.edge_rules.specs.declared.seeded.NodeForm.{NodeForm}

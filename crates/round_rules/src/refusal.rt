@@ -13,9 +13,9 @@ pub enum Refusal {
     /// Never with the one for want of memory.
     Node(NodeFault),
     /// The function that begins at this word is recursive, possibly through other calls.
-    Recursion(u16),
+    Recursion(u32),
     /// The handler of this vector, which begins at this word, may be entered again before it returns.
-    ReEntry(u8, u16),
+    ReEntry(u8, u32),
     /// There are more nodes or cells than a certificate may have.
     TooLarge(Limit),
     /// The rounds do not end within this many steps.

@@ -10,9 +10,9 @@ use Rattle.local_laws.proofs.AllLaws.{in_map, each_in_map}
 use Rattle.edge_rules.specs.declared.edge.Edge.{Edge}
 use Rattle.edge_rules.specs.Edges.{IsFaultless, IsEdge, AreEdges, target}
 use Rattle.edge_laws.proofs.AllLaws.{edges_lead_to_nodes}
-use Rattle.call_graph.specs.Ways.{ways_of}
-use Rattle.call_graph.specs.Next.{gathered, edges_with, next_by, next_of}
-use Rattle.call_graph.proofs.AllLaws.{local_parts_are_edges, answer_edges, each_gathered, gathered_in}
+use Rattle.family_edges.specs.Ways.{ways_of}
+use Rattle.family_edges.specs.Next.{gathered, edges_with, next_by, next_of}
+use Rattle.family_edges.proofs.AllLaws.{local_parts_are_edges, answer_edges, each_gathered, gathered_in}
 use Rattle.round_rules.specs.Families.{Family, nodes_of, FamilyHas, AreFormed, HasNoFault}
 use Rattle.round_laws.specs.Steps.{IsRoundOf}
 use Rattle.round_laws.specs.Closed.{HaveRounds}

@@ -6,11 +6,11 @@ use Rattle.basics.specs.Items.{none_in, first_in, further_in, first_or_further, 
 use Rattle.basics.specs.Lists.{get_inside}
 use Rattle.edge_laws.proofs.AllLaws.{part_of}
 use Rattle.abs_state.specs.declared.state.AbsState.{AbsState}
-use Rattle.mask_states.specs.declared.keys.NodeKey.{NodeKey}
-use Rattle.mask_states.specs.declared.keys.EdgeKind.TheVariants as kind
-use Rattle.mask_states.specs.Keys.{root_inst, entry_key}
-use Rattle.mask_states.specs.Order.{node_cmp, same_node}
-use Rattle.mask_states.proofs.AllLaws.{keys_are_ordered}
+use Rattle.node_keys.specs.declared.keys.NodeKey.{NodeKey}
+use Rattle.node_keys.specs.declared.keys.EdgeKind.TheVariants as kind
+use Rattle.node_keys.specs.Keys.{root_inst, entry_key}
+use Rattle.node_keys.specs.Order.{node_cmp, same_node}
+use Rattle.node_keys.proofs.AllLaws.{keys_are_ordered}
 use Rattle.local_rules.specs.declared.local.Node.{Node}
 use Rattle.local_rules.specs.Local.{joined_onto}
 use Rattle.edge_rules.specs.declared.edge.Edge.{Edge}

@@ -9,34 +9,34 @@ use Rattle.family_graph.proofs.Graphs.{keys_long}
 use Rattle.avr_model.specs.Assumptions.{has_pairs}
 use Rattle.avr_model.specs.Devices.{device_of}
 use Rattle.abs_state.specs.Frames.{entered}
-use Rattle.mask_states.specs.declared.keys.EdgeKind.{EdgeKind}
-use Rattle.mask_states.specs.declared.keys.InstKey.{InstKey}
-use Rattle.mask_states.specs.declared.keys.Kind.{Kind}
-use Rattle.mask_states.specs.declared.keys.Kind.TheVariants.{Root, Call, Vector}
-use Rattle.mask_states.specs.declared.keys.NodeKey.{NodeKey}
-use Rattle.mask_states.specs.declared.keys.SpForm.TheVariants.{Closed}
-use Rattle.mask_states.specs.Keys.{root_inst, entry_key, offset_of}
-use Rattle.mask_states.specs.Order.{inst_cmp}
+use Rattle.node_keys.specs.declared.keys.EdgeKind.{EdgeKind}
+use Rattle.node_keys.specs.declared.keys.InstKey.{InstKey}
+use Rattle.node_keys.specs.declared.keys.Kind.{Kind}
+use Rattle.node_keys.specs.declared.keys.Kind.TheVariants.{Root, Call, Vector}
+use Rattle.node_keys.specs.declared.keys.NodeKey.{NodeKey}
+use Rattle.node_keys.specs.declared.keys.SpForm.TheVariants.{Closed}
+use Rattle.node_keys.specs.Keys.{root_inst, entry_key, offset_of}
+use Rattle.node_keys.specs.Order.{inst_cmp}
 use Rattle.local_rules.specs.declared.local.Node.{Node}
 use Rattle.edge_rules.specs.declared.edge.Edge.{Edge}
 use Rattle.edge_rules.specs.Edges.{IsFaultless, Enters, by_call, by_interrupt, entering}
 use Rattle.edge_rules.specs.Nest.{recurs, enters as by_node}
 use Rattle.edge_rules.specs.Views.{AreShown}
 use Rattle.edge_laws.specs.Laws.{with_state}
-use Rattle.nesting_bound.specs.declared.graph.Entered.{Entered}
-use Rattle.nesting_bound.specs.declared.graph.GraphInst.{GraphInst}
-use Rattle.nesting_bound.specs.declared.graph.Place.{Place}
-use Rattle.nesting_bound.specs.declared.graph.Way.TheVariants.{Recur}
-use Rattle.nesting_bound.specs.declared.graph.Way.TheVariants.{Enters as Enters_by}
-use Rattle.nesting_bound.specs.Graph as graph
-use Rattle.nesting_bound.specs.Cycle.{IsNamed, group_of}
+use Rattle.instance_graph.specs.declared.graph.Entered.{Entered}
+use Rattle.instance_graph.specs.declared.graph.GraphInst.{GraphInst}
+use Rattle.instance_graph.specs.declared.graph.Place.{Place}
+use Rattle.instance_graph.specs.declared.graph.GraphWay.TheVariants.{Recur}
+use Rattle.instance_graph.specs.declared.graph.GraphWay.TheVariants.{Enters as Enters_by}
+use Rattle.instance_graph.specs.Graph as graph
+use Rattle.instance_graph.specs.Cycle.{IsNamed, group_of}
 use Rattle.family_graph.specs.Graphs.{insts_of, IsPeopled, IsGraphOf}
 use Rattle.round_laws.specs.Graphs as told
 use Rattle.round_laws.specs.Graphs.{IsNumber}
 use Rattle.round_laws.proofs.GraphLaws.{graphs_tell}
 use Rattle.certificate.specs.Valid.{reset_node}
 use Rattle.round_rules.specs.Families.{Family, node_of, nodes_of, FamilyHas, FamilyHasInst}
-use Rattle.round_rules.specs.Rounds.{Entering}
+use Rattle.round_rules.specs.Rounds.{IsEntering}
 use Rattle.round_rules.specs.Refusals.{IsSolved}
 use Rattle.round_laws.proofs.AllLaws.{has_member, member_has, formed_nodes, comes_root}
 use Rattle.round_solutions.specs.Laws.{SolvedFamiliesAreShown, GraphsAreAcyclic}
@@ -119,7 +119,7 @@ module _ (task : Task) (n : ℕ) (f : Family) (solved : IsSolved task n f) where
           ];
         }
 
-    all_entered : (i j : InstKey) (offset : ℕ) → Entering task f i j offset → told.HasEntryEdge keys gs i j offset
+    all_entered : (i j : InstKey) (offset : ℕ) → IsEntering task f i j offset → told.HasEntryEdge keys gs i j offset
     all_entered i j offset (by_node n way back has is_i at e whole) =
         let member = member_has f n has in
         let from = numbered i (n, has, is_i) in

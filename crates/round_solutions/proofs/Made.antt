@@ -18,10 +18,10 @@ use Rattle.avr_model.specs.Vectors.{enable_count}
 use Rattle.avr_model.proofs.AllLaws.{devices_are_alike}
 use Rattle.abs_state.specs.declared.state.AbsState.{AbsState}
 use Rattle.vector_table.specs.Entries.{AreEntries, fits_device}
-use Rattle.mask_states.specs.declared.keys.InstKey.{InstKey}
-use Rattle.mask_states.specs.declared.keys.NodeKey.{NodeKey}
-use Rattle.mask_states.specs.Keys.{root_inst}
-use Rattle.mask_states.specs.Order.{inst_cmp, node_cmp, same_inst}
+use Rattle.node_keys.specs.declared.keys.InstKey.{InstKey}
+use Rattle.node_keys.specs.declared.keys.NodeKey.{NodeKey}
+use Rattle.node_keys.specs.Keys.{root_inst}
+use Rattle.node_keys.specs.Order.{inst_cmp, node_cmp, same_inst}
 use Rattle.local_rules.specs.declared.local.Node.{Node}
 use Rattle.local_rules.specs.Cover.{IsNodeIn}
 use Rattle.edge_rules.specs.declared.seeded.NodeForm.{NodeForm}
@@ -29,14 +29,14 @@ use Rattle.edge_rules.specs.declared.seeded.NodeForm.TheVariants.{State, From}
 use Rattle.edge_rules.specs.Expansion.{Seeds, IsFilled}
 use Rattle.edge_rules.specs.Views.{key_of}
 use Rattle.edge_laws.proofs.ExpansionLaws.{filled_or_missing}
-use Rattle.nesting_bound.specs.declared.graph.GraphInst.{GraphInst}
+use Rattle.instance_graph.specs.declared.graph.GraphInst.{GraphInst}
 use Rattle.family_graph.specs.Graphs.{insts_of}
 use Rattle.round_laws.specs.Graphs.{IsGraphOver, valued}
 use Rattle.round_laws.proofs.GraphLaws.{graphs_tell, valued_at}
 use Rattle.certificate.specs.declared.instance.Inst.{Inst}
 use Rattle.certificate.specs.Insts.{fits_kind, IsInst, inst_keys, rank_in, need_in}
 use Rattle.certificate.specs.Versions.{written_by, is_first, is_third, AreOf}
-use Rattle.certificate.specs.Claims.{node_keys, cells_of, FitsAt, AreFrom, Belongs, IsClaim}
+use Rattle.certificate.specs.Claims.{seed_keys, cells_of, FitsAt, AreFrom, Belongs, IsClaim}
 use Rattle.round_rules.specs.Families.{Family, node_of, nodes_of, FamilyHasInst}
 use Rattle.round_rules.specs.Rounds.{AreRanks, AreNeeds, IsRootNeed}
 use Rattle.round_rules.specs.Refusals.{IsSolved}
@@ -230,7 +230,7 @@ module _ (task : Task) (n : ℕ) (f : Family) (insts : List Inst) (seeds : Seeds
   filled_nodes : IsFilled task seeds (nodes_of f)
   filled_nodes = filled task n f solved seeds parts.forms
 
-  are_node_keys : node_keys seeds ≡ map key_of (nodes_of f)
+  are_node_keys : seed_keys seeds ≡ map key_of (nodes_of f)
   are_node_keys = sym (filled_or_missing.keys task seeds (nodes_of f) filled_nodes)
 
   form_fits : (at : ℕ) (m : Node) (form : NodeForm) → IsNodeIn (device_of task.flash) (has_pairs task.assumptions) m.key m.state → IsForm task (nodes_of f) at m form → FitsAt (device_of task.flash) (has_pairs task.assumptions) at m.key form

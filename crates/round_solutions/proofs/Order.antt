@@ -18,11 +18,11 @@ use Rattle.basics.specs.Booleans.{less_if_so, split_tests}
 use Rattle.edge_laws.proofs.AllLaws.{not_below_itself}
 use Rattle.family_graph.proofs.Alike.{not_less}
 use Rattle.abs_state.specs.declared.state.AbsState.{AbsState}
-use Rattle.mask_states.specs.declared.keys.InstKey.{InstKey}
-use Rattle.mask_states.specs.declared.keys.NodeKey.{NodeKey}
-use Rattle.mask_states.specs.Keys.{root_inst, entry_key, form_numbers, pick_numbers, inst_numbers, node_numbers}
-use Rattle.mask_states.specs.Order.{inst_cmp, node_cmp}
-use Rattle.mask_states.proofs.AllLaws.{keys_are_ordered, form_length, inst_length}
+use Rattle.node_keys.specs.declared.keys.InstKey.{InstKey}
+use Rattle.node_keys.specs.declared.keys.NodeKey.{NodeKey}
+use Rattle.node_keys.specs.Keys.{root_inst, entry_key, form_numbers, pick_numbers, inst_numbers, node_numbers}
+use Rattle.node_keys.specs.Order.{inst_cmp, node_cmp}
+use Rattle.node_keys.proofs.AllLaws.{keys_are_ordered, form_length, inst_length}
 use Rattle.local_rules.specs.declared.local.Node.{Node}
 use Rattle.edge_rules.specs.Views.{key_of}
 use Rattle.round_rules.specs.Families.{Family, node_of, nodes_of}

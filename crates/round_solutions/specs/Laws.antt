@@ -5,17 +5,17 @@ use Rattle.std.specs.FinMap.{get}
 use Rattle.avr_model.specs.Devices.{device_of, size_of}
 use Rattle.abs_state.specs.declared.state.AbsState.{AbsState}
 use Rattle.vector_table.specs.Entries.{AreEntries, fits_device}
-use Rattle.mask_states.specs.declared.keys.EdgeKind.TheVariants.{Local}
-use Rattle.mask_states.specs.declared.keys.NodeKey.{NodeKey}
-use Rattle.mask_states.specs.Keys.{root_inst, entry_key}
+use Rattle.node_keys.specs.declared.keys.EdgeKind.TheVariants.{Local}
+use Rattle.node_keys.specs.declared.keys.NodeKey.{NodeKey}
+use Rattle.node_keys.specs.Keys.{root_inst, entry_key}
 use Rattle.local_rules.specs.declared.local.Node.{Node}
 use Rattle.edge_rules.specs.declared.edge.Edge.{Edge}
 use Rattle.edge_rules.specs.Edges.{IsFaultless, IsEdge}
 use Rattle.edge_rules.specs.Expansion.{Seeds, IsFilled}
 use Rattle.edge_rules.specs.Views.{AreShown}
-use Rattle.nesting_bound.specs.declared.graph.GraphInst.{GraphInst}
-use Rattle.nesting_bound.specs.Graph.{IsGraph}
-use Rattle.nesting_bound.specs.Cycle.{IsNamed}
+use Rattle.instance_graph.specs.declared.graph.GraphInst.{GraphInst}
+use Rattle.instance_graph.specs.Graph.{IsGraph}
+use Rattle.instance_graph.specs.Cycle.{IsNamed}
 use Rattle.family_graph.specs.Graphs.{IsPeopled, IsGraphOf}
 use Rattle.certificate.specs.declared.instance.Inst.{Inst}
 use Rattle.certificate.specs.Claims.{IsClaim}

@@ -6,11 +6,11 @@ use Rattle.std.proofs.lemmas.List.Elements.{Contains-append_left, Contains-push,
 use Rattle.basics.specs.Items.{none_in}
 use Rattle.std.specs.Option.{is_some}
 use Rattle.avr_model.specs.declared.assumption.Entry.{Entry}
-use Rattle.mask_states.specs.Keys.{root_inst, cut_at}
-use Rattle.mask_states.specs.declared.keys.InstKey.{InstKey}
-use Rattle.mask_states.specs.declared.keys.NodeKey.{NodeKey}
+use Rattle.node_keys.specs.Keys.{root_inst, cut_at}
+use Rattle.node_keys.specs.declared.keys.InstKey.{InstKey}
+use Rattle.node_keys.specs.declared.keys.NodeKey.{NodeKey}
 use Rattle.local_rules.specs.declared.local.Exit.{Exit}
-use Rattle.call_graph.specs.declared.ways.Way.{Way}
+use Rattle.family_edges.specs.declared.ways.Way.{Way}
 use Rattle.round_table.specs.declared.crossings.Crossing.{Crossing}
 use Rattle.round_table.specs.Crossings.{Groups, IsCrossingAdded}
 use Rattle.round_nesting.specs.Nestings.{Noted, Entrance, IsNodeNoted, HasEntrance}

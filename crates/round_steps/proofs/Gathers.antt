@@ -9,17 +9,17 @@ use Rattle.avr_model.specs.declared.device.Device.{Device}
 use Rattle.abs_state.specs.declared.state.AbsState.{AbsState}
 use Rattle.abs_state.specs.Order.{IsStateWithin}
 use Rattle.abs_state.proofs.AllLaws.{states_are_ordered}
-use Rattle.mask_states.specs.declared.keys.NodeKey.{NodeKey}
-use Rattle.mask_states.specs.Order.{node_cmp}
+use Rattle.node_keys.specs.declared.keys.NodeKey.{NodeKey}
+use Rattle.node_keys.specs.Order.{node_cmp}
 use Rattle.local_rules.specs.declared.local.Node.{Node}
 use Rattle.local_rules.specs.Cover.{IsNodeIn}
 use Rattle.local_laws.specs.Laws.{AreNodesIn}
 use Rattle.local_laws.proofs.AllLaws.{each_of}
-use Rattle.call_graph.specs.Next.{gathered}
+use Rattle.family_edges.specs.Next.{gathered}
 use Rattle.round_rules.specs.Families.{Family, nodes_of, FamilyHas, Lands, AreFormed}
 use Rattle.round_laws.specs.Steps.{joined_with, raised, AreJoined}
 use Rattle.round_laws.proofs.AllLaws.{families_are_their_nodes, rounds_are_joins, lands_up, lands_covered, at_keys, get_other}
-use Rattle.round_steps.specs.Gathers.{IsOwn, AreOwn, AreOwnNodes, IsTargetGathered, AreTargetsGathered, AreBeyond}
+use Rattle.round_steps.specs.Gathers.{IsOwnState, AreOwn, AreOwnNodes, IsTargetGathered, AreTargetsGathered, AreBeyond}
 
 pub on_ok : {V E P Q : Type 0} (r : Result V E) → OnOk r P → (P → Q) → OnOk r Q
 on_ok (Ok v) p f = f p
@@ -30,7 +30,7 @@ if_ok (Ok v) p f = f v p
 if_ok (Err e) p f = p
 
 -- a node's state determines whether it follows pairs
-pub own_node : {device : Device} {followed : Bool} (k : NodeKey) (s : AbsState) → IsNodeIn device followed k s → IsOwn k s
+pub own_node : {device : Device} {followed : Bool} (k : NodeKey) (s : AbsState) → IsNodeIn device followed k s → IsOwnState k s
 own_node {device = device} k s node = (device, subst (λ (m : Bool). IsNodeIn device m k s) (sym node.mode) node)
 
 pub formed_own : {device : Device} {followed : Bool} (f : Family) → AreFormed device followed f → AreOwn f

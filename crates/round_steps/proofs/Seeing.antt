@@ -6,16 +6,16 @@ use Rattle.std.specs.Prelude.{if◌then◌else◌, ◌||◌, ◌&&◌, ◌==◌,
 use Rattle.std.specs.FinMap.{get}
 use Rattle.basics.specs.Items.{none_in}
 use Rattle.abs_state.specs.declared.state.AbsState.{AbsState}
-use Rattle.mask_states.specs.declared.keys.NodeKey.{NodeKey}
+use Rattle.node_keys.specs.declared.keys.NodeKey.{NodeKey}
 use Rattle.local_rules.specs.declared.local.NodeFault.{NodeFault}
 use Rattle.local_rules.specs.declared.local.NodeFault.TheVariants.{Memory}
 use Rattle.local_rules.specs.Local.{local}
 use Rattle.local_rules.specs.Faults.{cause_of, fault_offset, is_less}
-use Rattle.call_graph.specs.Ways.{ways_of}
+use Rattle.family_edges.specs.Ways.{ways_of}
 use Rattle.round_rules.specs.Families.{Family}
 use Rattle.round_rules.specs.Refusals.{IsFaultNoLater, word_of}
 use Rattle.round_steps.specs.declared.looking.Look.{Look}
-use Rattle.round_steps.specs.declared.looking.Seen.{Seen}
+use Rattle.round_steps.specs.declared.looking.SeenState.{SeenState}
 use Rattle.round_steps.specs.Looks.{IsLook, AreSeen, IsFaultSeen, IsSeenBesides, IsWorst}
 use Rattle.local_rules.specs.Site.{Task}
 
@@ -63,7 +63,7 @@ some_state : (x y : AbsState) (o : Option AbsState) → o ≡ Some x → o ≡ S
 some_state x y o a b = cc
 
 module _ (task : Task) (f : Family) where
-  pub seen_none : (seen : Seen) → seen.looks.items ≡ [] → seen.worst ≡ None → AreSeen task f [] seen
+  pub seen_none : (seen : SeenState) → seen.looks.items ≡ [] → seen.worst ≡ None → AreSeen task f [] seen
   seen_none seen looks worst = record {
     looks = λ x i. absurd (none_in x (subst (λ (l : List Look). Contains l x) looks i));
     each = λ k s i has. absurd (none_in k i);
@@ -71,14 +71,14 @@ module _ (task : Task) (f : Family) where
   }
 
   -- the family has no such node
-  pub seen_nothing : (keys : List NodeKey) (k : NodeKey) (seen : Seen) → AreSeen task f keys seen → get f k ≡ None → AreSeen task f (keys ++ k ∷ []) seen
+  pub seen_nothing : (keys : List NodeKey) (k : NodeKey) (seen : SeenState) → AreSeen task f keys seen → get f k ≡ None → AreSeen task f (keys ++ k ∷ []) seen
   seen_nothing keys k seen are none = record {
     looks = are.looks;
     each = λ q t i has. ⊎_elim (λ j. are.each q t j has) (λ e. let at = ap (get f) e in absurd (let never = sym none ∙ at ∙ has in cc)) (Contains-push_cases keys k q i);
     fault = are.fault;
   }
 
-  module _ (keys : List NodeKey) (k : NodeKey) (s : AbsState) (old new : Seen) (are : AreSeen task f keys old) (has : get f k ≡ Some s) where
+  module _ (keys : List NodeKey) (k : NodeKey) (s : AbsState) (old new : SeenState) (are : AreSeen task f keys old) (has : get f k ≡ Some s) where
     look_more : (x : Look) → x.key ≡ k → local task k s ≡ Ok x.part → x.ways.items ≡ ways_of task k x.part.calls → new.looks.items ≡ old.looks.items ++ x ∷ []
         → new.worst ≡ old.worst → AreSeen task f (keys ++ k ∷ []) new
     look_more x key leads entered looks worst =

@@ -2,7 +2,7 @@
 use Rattle.std.specs.Prelude.{Bool, ◌≡◌, ◌⊎◌, List, Contains}
 use Rattle.avr_model.specs.declared.device.Device.{Device}
 use Rattle.abs_state.specs.declared.state.AbsState.{AbsState}
-use Rattle.mask_states.specs.declared.keys.NodeKey.{NodeKey}
+use Rattle.node_keys.specs.declared.keys.NodeKey.{NodeKey}
 use Rattle.local_rules.specs.declared.local.Node.{Node}
 use Rattle.local_laws.specs.Laws.{AreNodesIn}
 use Rattle.edge_rules.specs.Families.{IsCovered}
@@ -11,15 +11,15 @@ use Rattle.round_rules.specs.Families.{Family, FamilyHas, Lands, Below, AreForme
 use Rattle.round_laws.specs.Steps.{raised, HaveOwnKeys}
 
 -- a node of the analysis of some device, which follows pairs if its state does
-abbrev pub IsOwn : NodeKey → AbsState → Type 0
-IsOwn k s = (device : Device) × IsOwnNode device k s
+abbrev pub IsOwnState : NodeKey → AbsState → Type 0
+IsOwnState k s = (device : Device) × IsOwnNode device k s
 
 -- such nodes: of a family, and of a list
 abbrev pub AreOwn : Family → Type 0
-AreOwn f = (n : Node) → FamilyHas f n → IsOwn n.key n.state
+AreOwn f = (n : Node) → FamilyHas f n → IsOwnState n.key n.state
 
 abbrev pub AreOwnNodes : List Node → Type 0
-AreOwnNodes ns = (n : Node) → Contains ns n → IsOwn n.key n.state
+AreOwnNodes ns = (n : Node) → Contains ns n → IsOwnState n.key n.state
 
 -- joins the node into the gathered ones, unless it lands in the family f
 abbrev pub IsTargetGathered : Family → Family → Node → Family → Type 0

@@ -2,7 +2,7 @@
 use Rattle.std.specs.Prelude.{ℕ, Bool, ◌+◌, ◌≡◌, ◌≤◌, List, ◌++◌, map, length, Contains}
 use Rattle.std.specs.FinMap.{get}
 use Rattle.avr_model.specs.declared.device.Device.{Device}
-use Rattle.mask_states.specs.declared.keys.NodeKey.{NodeKey}
+use Rattle.node_keys.specs.declared.keys.NodeKey.{NodeKey}
 use Rattle.local_rules.specs.declared.local.Node.{Node}
 use Rattle.local_laws.specs.Laws.{AreNodesIn}
 use Rattle.round_rules.specs.Families.{Family, Lands, AreFormed, cells}

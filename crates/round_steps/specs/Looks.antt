@@ -2,15 +2,15 @@
 use Rattle.std.specs.Prelude.{◌≡◌, ◌≢◌, ◌⊎◌, List, [], ◌∷◌, ◌++◌, Option, Some, Result, Ok, Err, Contains}
 use Rattle.std.specs.FinMap.{get}
 use Rattle.abs_state.specs.declared.state.AbsState.{AbsState}
-use Rattle.mask_states.specs.declared.keys.NodeKey.{NodeKey}
+use Rattle.node_keys.specs.declared.keys.NodeKey.{NodeKey}
 use Rattle.local_rules.specs.declared.local.NodeFault.{NodeFault}
 use Rattle.local_rules.specs.declared.local.NodeFault.TheVariants.{Memory}
 use Rattle.local_rules.specs.Local.{local}
-use Rattle.call_graph.specs.Ways.{ways_of}
+use Rattle.family_edges.specs.Ways.{ways_of}
 use Rattle.round_rules.specs.Families.{Family}
 use Rattle.round_rules.specs.Refusals.{FaultAt, IsFaultNoLater}
 use Rattle.round_steps.specs.declared.looking.Look.{Look}
-use Rattle.round_steps.specs.declared.looking.Seen.{Seen}
+use Rattle.round_steps.specs.declared.looking.SeenState.{SeenState}
 use Rattle.local_rules.specs.Site.{Task}
 
 -- the look is at a node of the family, and has its successors
@@ -35,7 +35,7 @@ pub record HasFault (task : Task) (worst : Option NodeFault) (k : NodeKey) (s : 
   pub no_later : IsFaultNoLater first fault
 
 -- each of these nodes of the family was visited or has a fault, and the worst fault is the least of theirs
-pub record AreSeen (task : Task) (f : Family) (keys : List NodeKey) (seen : Seen) : Type 0 where
+pub record AreSeen (task : Task) (f : Family) (keys : List NodeKey) (seen : SeenState) : Type 0 where
   pub looks : (x : Look) → Contains seen.looks.items x → IsLook task f x
   pub each : (k : NodeKey) (s : AbsState) → Contains keys k → get f k ≡ Some s → HasLook seen.looks.items k ⊎ HasFault task seen.worst k s
   pub fault : (x : NodeFault) → seen.worst ≡ Some x → FaultAt task f x
@@ -48,13 +48,13 @@ pub record IsWorst (before : Option NodeFault) (fault now : NodeFault) : Type 0 
   pub kept : (x : NodeFault) → before ≡ Some x → IsFaultNoLater now x
   pub either : (now ≡ fault) ⊎ (before ≡ Some now)
 
-pub record IsFaultSeen (old : Seen) (fault : NodeFault) (new : Seen) : Type 0 where
+pub record IsFaultSeen (old : SeenState) (fault : NodeFault) (new : SeenState) : Type 0 where
   pub real : fault ≢ Memory
   pub worst : NodeFault
   pub is : new.worst ≡ Some worst
   pub of : IsWorst old.worst fault worst
   pub looks : new.looks.items ≡ old.looks.items
 
-abbrev pub IsSeenBesides : Result Look NodeFault → Seen → Seen → Type 0
+abbrev pub IsSeenBesides : Result Look NodeFault → SeenState → SeenState → Type 0
 IsSeenBesides (Ok x) old new = (new.looks.items ≡ old.looks.items ++ x ∷ []) × (new.worst ≡ old.worst)
 IsSeenBesides (Err fault) old new = IsFaultSeen old fault new

@@ -3,18 +3,18 @@ use Rattle.std.specs.Prelude.{List, [], ◌∷◌, ◌++◌, map, Option, Some, 
 use Rattle.std.specs.FinMap.{get}
 use Rattle.abs_state.specs.declared.state.AbsState.{AbsState}
 use Rattle.abs_state.specs.Frames.{entered}
-use Rattle.mask_states.specs.declared.keys.InstKey.{InstKey}
-use Rattle.mask_states.specs.Keys.{entry_key}
+use Rattle.node_keys.specs.declared.keys.InstKey.{InstKey}
+use Rattle.node_keys.specs.Keys.{entry_key}
 use Rattle.local_rules.specs.declared.local.Exit.{Exit}
 use Rattle.local_rules.specs.declared.local.Node.{Node}
-use Rattle.call_graph.specs.declared.ways.Way.{Way}
-use Rattle.call_graph.specs.Next.{gathered, returned_node}
+use Rattle.family_edges.specs.declared.ways.Way.{Way}
+use Rattle.family_edges.specs.Next.{gathered, returned_node}
 use Rattle.round_table.specs.declared.crossings.Crossing.{Crossing}
 use Rattle.round_table.specs.Crossings.{Groups, crossings_at}
 use Rattle.round_rules.specs.Families.{Family}
 use Rattle.round_steps.specs.declared.looking.Look.{Look}
 use Rattle.round_steps.specs.declared.noting.Notes.{Notes}
-use Rattle.call_graph.specs.Next.{node_of}
+use Rattle.family_edges.specs.Next.{node_of}
 
 -- into an instance
 abbrev pub entry_node : AbsState → Way → Node

@@ -5,12 +5,12 @@ ghost use Rattle.avr_model.specs.declared.device.Device.{Device};
 ghost use Rattle.local_laws.specs.Laws.{AreNodesIn};
 ghost use Rattle.round_rules.specs.Families.{AreFormed, cells};
 ghost use Rattle.round_laws.specs.Steps.{raised, raised_all, HaveOwnKeys, weight};
-ghost use Rattle.round_steps.specs.Gathers.{IsOwn};
+ghost use Rattle.round_steps.specs.Gathers.{IsOwnState};
 ghost use Rattle.round_steps.specs.Joins.{keys_of, AreNew, FitTogether, KeptBut};
-ghost use Rattle.call_graph.specs.Clauses.{Grows};
+ghost use Rattle.family_edges.specs.Clauses.{Grows};
 
 use local_rules::Node;
-use mask_states::NodeKey;
+use node_keys::NodeKey;
 use round_table::Table;
 use std::alloc::{AllocError, Global};
 
@@ -23,7 +23,7 @@ fn join_one(
     node: Node,
 ) -> Result<(), AllocError>
     requires count { counted.old ≡ cells table.old }
-    requires node { IsOwn node.key node.state }
+    requires node { IsOwnState node.key node.state }
     ensures joined { OnOk result (table.new ≡ raised table.old node) }
     ensures count { OnOk result (counted.new ≡ cells table.new) }
     ensures key { Grows result changed.old.items changed.new.items (node.key ∷ []) }

@@ -8,5 +8,5 @@ pub mod noting;
 pub mod targets;
 
 pub use joining::join_all;
-pub use looking::{Look, Seen, look_all};
+pub use looking::{Look, SeenState, look_all};
 pub use noting::Notes;

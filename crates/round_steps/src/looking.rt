@@ -1,24 +1,24 @@
 //! Visits of nodes.
 
 ghost use Rattle.std.specs.Prelude.{◌≡◌, ◌≢◌, ◌++◌, ◌∷◌, [], List, Ok, Err, IfOk, IfErr, OnOk};
-ghost use Rattle.mask_states.specs.declared.keys.NodeKey as key_type;
+ghost use Rattle.node_keys.specs.declared.keys.NodeKey as key_type;
 ghost use Rattle.local_rules.specs.declared.local.NodeFault.TheVariants.{Memory};
 ghost use Rattle.avr_model.specs.Devices.{device_of};
 ghost use Rattle.avr_model.specs.Assumptions.{has_pairs};
 ghost use Rattle.local_rules.specs.Cover.{IsNodeIn};
 ghost use Rattle.local_rules.specs.Local as rows;
-ghost use Rattle.call_graph.specs.Ways.{ways_of};
+ghost use Rattle.family_edges.specs.Ways.{ways_of};
 ghost use Rattle.round_rules.specs.Families.{AreFormed};
 ghost use Rattle.round_rules.specs.Refusals.{word_of};
 ghost use Rattle.round_steps.specs.Looks.{IsWorst, IsSeenBesides, AreSeen};
-ghost use Rattle.call_graph.specs.Tasks.{task_of};
+ghost use Rattle.family_edges.specs.Tasks.{task_of};
 
 use abs_state::AbsState;
 use abs_step::local;
-use call_graph::Task;
-use call_graph::ways::{Way, ways};
+use family_edges::Task;
+use family_edges::ways::{Way, ways};
 use local_rules::{Local, NodeFault};
-use mask_states::NodeKey;
+use node_keys::NodeKey;
 use round_table::Table;
 use std::alloc::AllocError;
 
@@ -35,7 +35,7 @@ pub struct Look {
 
 /// The results of visits: those of nodes without a fault, and the least fault of the others.
 #[derive(Drop)]
-pub struct Seen {
+pub struct SeenState {
     /// The results for nodes without a fault.
     pub looks: Vec<Look>,
     /// The fault that counts, if a node has one.
@@ -60,7 +60,7 @@ fn found_at(task: &Task<'_>, key: &NodeKey, state: &AbsState) -> Result<Look, No
 }
 
 // The word of a fault.
-fn word(fault: &NodeFault) -> u16
+fn word(fault: &NodeFault) -> u32
     ensures { result ≡ word_of fault.now }
 {
     match *fault {
@@ -92,7 +92,7 @@ fn worse(worst: Option<NodeFault>, fault: NodeFault) -> NodeFault
 }
 
 // Adds one more result.
-fn see(seen: &mut Seen, found: Result<Look, NodeFault>) -> Result<(), AllocError>
+fn see(seen: &mut SeenState, found: Result<Look, NodeFault>) -> Result<(), AllocError>
     ensures { OnOk result (IsSeenBesides found seen.old seen.new) }
 {
     match found {
@@ -109,7 +109,12 @@ fn see(seen: &mut Seen, found: Result<Look, NodeFault>) -> Result<(), AllocError
 }
 
 // Visits one more node, if the family has it.
-fn look_at(seen: &mut Seen, task: &Task<'_>, table: &Table, key: &NodeKey) -> Result<(), AllocError>
+fn look_at(
+    seen: &mut SeenState,
+    task: &Task<'_>,
+    table: &Table,
+    key: &NodeKey,
+) -> Result<(), AllocError>
     requires { AreFormed (device_of task.now.flash.now) (has_pairs task.now.assumptions.now) table.now }
     ensures { (keys : List key_type.NodeKey) → AreSeen (task_of task.now) table.now keys seen.old → OnOk result (AreSeen (task_of task.now) table.now (keys ++ key.now ∷ []) seen.new) }
 {
@@ -121,11 +126,11 @@ fn look_at(seen: &mut Seen, task: &Task<'_>, table: &Table, key: &NodeKey) -> Re
 }
 
 /// Visits these nodes of a family: their results, or the fault that counts.
-pub fn look_all(task: &Task<'_>, table: &Table, keys: &[NodeKey]) -> Result<Seen, AllocError>
+pub fn look_all(task: &Task<'_>, table: &Table, keys: &[NodeKey]) -> Result<SeenState, AllocError>
     requires { AreFormed (device_of task.now.flash.now) (has_pairs task.now.assumptions.now) table.now }
     ensures { IfOk result (λ seen. AreSeen (task_of task.now) table.now keys.now seen) }
 {
-    let mut seen = Seen {
+    let mut seen = SeenState {
         looks: Vec::new(task.alloc),
         worst: None,
     };

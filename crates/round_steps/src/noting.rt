@@ -2,16 +2,16 @@
 
 ghost use Rattle.std.specs.Prelude.{◌≡◌, ◌≤◌, OnOk, Contains};
 ghost use Rattle.avr_model.specs.State.{SIZE};
-ghost use Rattle.mask_states.specs.Keys.{offset_of};
+ghost use Rattle.node_keys.specs.Keys.{offset_of};
 ghost use Rattle.round_nesting.specs.Nestings.{AreOnce};
 ghost use Rattle.round_steps.specs.Notings.{blank, HasCallers, HasLeaver, HasEntrances, EntersBy, EnterBy, RecursBy, IsNoted, AreNoted};
 ghost use Rattle.round_steps.specs.declared.looking.Look as look_type;
 
 use crate::looking::Look;
-use call_graph::Task;
-use call_graph::ways::Way;
+use family_edges::Task;
+use family_edges::ways::Way;
 use local_rules::Exit;
-use mask_states::{EdgeKind, InstKey, NodeKey};
+use node_keys::{EdgeKind, InstKey, NodeKey};
 use round_nesting::Nesting;
 use round_table::{Crossing, Crossings};
 use std::alloc::{AllocError, Global};

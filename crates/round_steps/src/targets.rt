@@ -7,24 +7,24 @@ ghost use Rattle.abs_state.specs.Formed.{NamesRegister};
 ghost use Rattle.local_rules.specs.declared.local.Node as node_type;
 ghost use Rattle.local_laws.specs.Laws.{AreNodesIn};
 ghost use Rattle.round_steps.specs.Targets.{entry_node, returned_to, back_at, backs_in, all_backs, onward_at, onwards_if, crossings_of, targets_of, all_targets};
-ghost use Rattle.round_steps.specs.Gathers.{IsOwn, AreOwn, AreOwnNodes, IsTargetGathered, AreTargetsGathered, AreBeyond};
-ghost use Rattle.call_graph.specs.Clauses.{Grows};
-ghost use Rattle.call_graph.specs.Callers.{caller_node};
-ghost use Rattle.call_graph.specs.Next.{node_of};
+ghost use Rattle.round_steps.specs.Gathers.{IsOwnState, AreOwn, AreOwnNodes, IsTargetGathered, AreTargetsGathered, AreBeyond};
+ghost use Rattle.family_edges.specs.Clauses.{Grows};
+ghost use Rattle.family_edges.specs.Callers.{caller_node};
+ghost use Rattle.family_edges.specs.Next.{node_of};
 
 use crate::looking::Look;
 use crate::noting::Notes;
 use abs_state::AbsState;
-use call_graph::ways::Way;
-use call_graph::{Caller, returned};
+use family_edges::ways::Way;
+use family_edges::{Caller, returned};
 use local_rules::{Exit, Node};
-use mask_states::{InstKey, NodeKey};
+use node_keys::{InstKey, NodeKey};
 use round_table::{Crossing, GatheredStates, Table};
 use std::alloc::{AllocError, Global};
 
 // A family of nodes, and its notes.
 #[derive(Clone, Copy)]
-struct Family<'a> {
+struct NotedFamily<'a> {
     alloc: Global,
     table: &'a Table,
     notes: &'a Notes,
@@ -79,7 +79,7 @@ fn add_return(
 
 fn add_back(
     targets: &mut Vec<Node>,
-    family: &Family<'_>,
+    family: &NotedFamily<'_>,
     caller: &Caller<'_>,
     leaver: &Crossing,
 ) -> Result<(), AllocError>
@@ -94,7 +94,7 @@ fn add_back(
 
 fn add_backs(
     targets: &mut Vec<Node>,
-    family: &Family<'_>,
+    family: &NotedFamily<'_>,
     caller: &Caller<'_>,
 ) -> Result<(), AllocError>
     requires { AreOwn family.now.table.now }
@@ -111,7 +111,7 @@ fn add_backs(
 
 fn add_all_backs(
     targets: &mut Vec<Node>,
-    family: &Family<'_>,
+    family: &NotedFamily<'_>,
     key: &NodeKey,
     state: &AbsState,
     ways: &[Way],
@@ -130,7 +130,7 @@ fn add_all_backs(
 
 fn add_onward(
     targets: &mut Vec<Node>,
-    family: &Family<'_>,
+    family: &NotedFamily<'_>,
     leaver: &Leaver<'_>,
     entering: &Crossing,
 ) -> Result<(), AllocError>
@@ -152,7 +152,7 @@ fn add_onward(
 
 fn add_onwards(
     targets: &mut Vec<Node>,
-    family: &Family<'_>,
+    family: &NotedFamily<'_>,
     inst: &InstKey,
     state: &AbsState,
     exit: Option<Exit>,
@@ -178,7 +178,7 @@ fn add_onwards(
 // Entries of other instances, returns from these, and returns from the node's own.
 fn add_crossings(
     targets: &mut Vec<Node>,
-    family: &Family<'_>,
+    family: &NotedFamily<'_>,
     x: &Look,
     state: &AbsState,
 ) -> Result<(), AllocError>
@@ -192,7 +192,7 @@ fn add_crossings(
 }
 
 // `drop` releases the look: a call is one step of the proof, whatever it owns.
-fn add_targets(targets: &mut Vec<Node>, family: &Family<'_>, x: Look) -> Result<(), AllocError>
+fn add_targets(targets: &mut Vec<Node>, family: &NotedFamily<'_>, x: Look) -> Result<(), AllocError>
     requires { AreOwn family.now.table.now }
     ensures { Grows result targets.old.items targets.new.items (targets_of family.now.table.now family.now.notes.now x) }
 {
@@ -211,7 +211,7 @@ fn add_targets(targets: &mut Vec<Node>, family: &Family<'_>, x: Look) -> Result<
 
 // Joins a node into the gathered one of its key, unless it lands in the family.
 fn gather_one(next: &mut GatheredStates, table: &Table, node: Node) -> Result<(), AllocError>
-    requires { IsOwn node.key node.state }
+    requires { IsOwnState node.key node.state }
     ensures { OnOk result (IsTargetGathered table.now next.old node next.new) }
 {
     if table.covers(&node) {
@@ -232,7 +232,11 @@ fn gather(next: &mut GatheredStates, table: &Table, nodes: Vec<Node>) -> Result<
 }
 
 // Gathers the targets of one node.
-fn gather_targets(next: &mut GatheredStates, family: &Family<'_>, x: Look) -> Result<(), AllocError>
+fn gather_targets(
+    next: &mut GatheredStates,
+    family: &NotedFamily<'_>,
+    x: Look,
+) -> Result<(), AllocError>
     requires formed { AreOwn family.now.table.now }
     requires nodes { AreOwnNodes (targets_of family.now.table.now family.now.notes.now x) }
     ensures { (device : Device) (followed : Bool) (before : List node_type.Node) → AreNodesIn device followed (targets_of family.now.table.now family.now.notes.now x) → AreTargetsGathered device followed family.now.table.now before next.old → OnOk result (AreTargetsGathered device followed family.now.table.now (before ++ targets_of family.now.table.now family.now.notes.now x) next.new) }
@@ -259,7 +263,7 @@ pub fn targets(
     requires nodes { AreOwnNodes (all_targets table.now notes.now looks.items) }
     ensures { (device : Device) (followed : Bool) → AreNodesIn device followed (all_targets table.now notes.now looks.items) → IfOk result (λ all. AreBeyond device followed table.now (all_targets table.now notes.now looks.items) all.items) }
 {
-    let family = Family {
+    let family = NotedFamily {
         alloc,
         table,
         notes,

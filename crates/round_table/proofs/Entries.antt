@@ -9,19 +9,19 @@ use Rattle.std.specs.Ordering.{is_lt, ordering_reverse}
 use Rattle.std.specs.List.Sorted.{IsSorted}
 use Rattle.std.specs.Prelude.{T, ◌&&◌}
 use Rattle.std.specs.FinMap.Entries.{is_sorted, below_all, same_entries}
-use Rattle.mask_states.proofs.AllLaws.{keys_are_ordered}
+use Rattle.node_keys.proofs.AllLaws.{keys_are_ordered}
 use Rattle.std.specs.FinMap.{get, insert, from_entries, entries, get-entries, entries_sorted, len, same_map, get-insert, get-from_entries, len-insert, len-empty}
 use Rattle.std.specs.FinMap.Entries.{find}
 use Rattle.abs_state.specs.declared.state.AbsState.{AbsState}
-use Rattle.mask_states.specs.declared.keys.NodeKey.{NodeKey}
-use Rattle.mask_states.specs.Order.{node_cmp, same_node}
-use Rattle.mask_states.specs.Total.{node_total, node_equal, node_equivalence}
+use Rattle.node_keys.specs.declared.keys.NodeKey.{NodeKey}
+use Rattle.node_keys.specs.Order.{node_cmp, same_node}
+use Rattle.node_keys.specs.Total.{node_total, node_equal, node_equivalence}
 use Rattle.abs_state.specs.Order.{state_join}
 use Rattle.local_rules.specs.declared.local.Node.{Node}
 use Rattle.round_table.specs.Families.{Family, joined_with, raised}
 use Rattle.std.specs.Prelude.{OnOk, OnErr}
 use Rattle.basics.specs.Booleans.{join_tests, less_if_so, so_if_less}
-use Rattle.mask_states.specs.Keys.{offset_of}
+use Rattle.node_keys.specs.Keys.{offset_of}
 use Rattle.round_table.specs.Sized.{AreStatesSized}
 use Rattle.round_laws.proofs.AllLaws.{node_exact}
 use Rattle.round_table.proofs.Families.{insert_sized}

@@ -11,11 +11,11 @@ use Rattle.std.proofs.lemmas.Map.Made.{lookup-map_values}
 use Rattle.std.proofs.lemmas.Option.{none-some, same_Some}
 use Rattle.indexmap.specs.IndexSet.{IndexSet, insert_key}
 use Rattle.indexmap.proofs.CallerLemmas.{Contains-list_any}
-use Rattle.mask_states.specs.declared.keys.EdgeKind.{EdgeKind}
-use Rattle.mask_states.specs.declared.keys.InstKey.{InstKey}
-use Rattle.mask_states.specs.contracts.keys.EdgeKindPartialEq.TheImpl as kinds
-use Rattle.mask_states.specs.Order.{same_inst, same_node}
-use Rattle.mask_states.proofs.AllLaws.{keys_are_ordered}
+use Rattle.node_keys.specs.declared.keys.EdgeKind.{EdgeKind}
+use Rattle.node_keys.specs.declared.keys.InstKey.{InstKey}
+use Rattle.node_keys.specs.contracts.keys.EdgeKindPartialEq.TheImpl as kinds
+use Rattle.node_keys.specs.Order.{same_inst, same_node}
+use Rattle.node_keys.proofs.AllLaws.{keys_are_ordered}
 use Rattle.local_rules.specs.declared.local.Exit.{Exit}
 use Rattle.local_rules.specs.contracts.local.ExitPartialEq.TheImpl as exits
 use Rattle.round_table.specs.declared.crossings.Crossing.{Crossing}

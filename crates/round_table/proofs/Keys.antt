@@ -5,9 +5,9 @@ use Rattle.std.specs.Option.{option_map}
 use Rattle.std.specs.FinMap.{get, from_entries}
 use Rattle.basics.specs.Items.{first_in, further_in}
 use Rattle.abs_state.specs.declared.state.AbsState.{AbsState}
-use Rattle.mask_states.specs.declared.keys.NodeKey.{NodeKey}
-use Rattle.mask_states.specs.Order.{node_cmp, same_node}
-use Rattle.mask_states.proofs.AllLaws.{keys_are_ordered}
+use Rattle.node_keys.specs.declared.keys.NodeKey.{NodeKey}
+use Rattle.node_keys.specs.Order.{node_cmp, same_node}
+use Rattle.node_keys.proofs.AllLaws.{keys_are_ordered}
 use Rattle.state_pool.specs.Uses.{Uses}
 use Rattle.state_pool.specs.Counts.{state_at}
 use Rattle.round_table.specs.Families.{Family}

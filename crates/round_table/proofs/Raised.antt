@@ -9,9 +9,9 @@ use Rattle.indexmap.specs.IndexMap.{insert_entry}
 use Rattle.abs_state.specs.declared.state.AbsState.{AbsState}
 use Rattle.abs_state.specs.Order.{state_join}
 use Rattle.local_rules.specs.declared.local.Node.{Node}
-use Rattle.mask_states.specs.declared.keys.NodeKey.{NodeKey}
-use Rattle.mask_states.specs.Keys.{offset_of}
-use Rattle.mask_states.specs.Order.{node_cmp, same_node}
+use Rattle.node_keys.specs.declared.keys.NodeKey.{NodeKey}
+use Rattle.node_keys.specs.Keys.{offset_of}
+use Rattle.node_keys.specs.Order.{node_cmp, same_node}
 use Rattle.state_pool.specs.Uses.{Uses, IsStateHeld}
 use Rattle.state_pool.specs.Counts.{state_at, IsUsedMore}
 use Rattle.round_table.specs.Families.{Family, raised}

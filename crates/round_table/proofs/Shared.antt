@@ -14,8 +14,8 @@ use Rattle.std.proofs.lemmas.List.Sorted.{sum_by-IsPermutation}
 use Rattle.indexmap.specs.IndexMap.{insert_entry}
 use Rattle.abs_state.specs.declared.state.AbsState.{AbsState}
 use Rattle.local_rules.specs.declared.local.Node.{Node}
-use Rattle.mask_states.specs.declared.keys.NodeKey.{NodeKey}
-use Rattle.mask_states.specs.Order.{node_cmp, same_node}
+use Rattle.node_keys.specs.declared.keys.NodeKey.{NodeKey}
+use Rattle.node_keys.specs.Order.{node_cmp, same_node}
 use Rattle.state_pool.specs.Uses.{Uses, AreBelow}
 use Rattle.state_pool.specs.Counts.{held_count, state_at, count_at, share, one_if, IsUsedMore, IsUsedLess}
 use Rattle.state_pool.specs.SameState.{same_state}

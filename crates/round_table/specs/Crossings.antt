@@ -2,8 +2,8 @@
 use Rattle.std.specs.Prelude.{ℕ, ◌≡◌, ◌↔◌, ◌⊎◌, List, [], map, Some, slice_get, Contains, unwrap_or}
 use Rattle.std.specs.Map.{lookup}
 use Rattle.indexmap.specs.IndexSet.{IndexSet}
-use Rattle.mask_states.specs.declared.keys.InstKey.{InstKey}
-use Rattle.mask_states.specs.Order.{same_inst}
+use Rattle.node_keys.specs.declared.keys.InstKey.{InstKey}
+use Rattle.node_keys.specs.Order.{same_inst}
 use Rattle.round_table.specs.declared.crossings.Crossing.{Crossing}
 
 -- the crossings of each instance, in order of first use

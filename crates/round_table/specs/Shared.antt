@@ -4,8 +4,8 @@ use Rattle.std.specs.List.{IsDistinct}
 use Rattle.std.specs.Map.{keys_of}
 use Rattle.std.specs.FinMap.{from_entries}
 use Rattle.abs_state.specs.declared.state.AbsState.{AbsState}
-use Rattle.mask_states.specs.declared.keys.NodeKey.{NodeKey}
-use Rattle.mask_states.specs.Order.{same_node}
+use Rattle.node_keys.specs.declared.keys.NodeKey.{NodeKey}
+use Rattle.node_keys.specs.Order.{same_node}
 use Rattle.state_pool.specs.Uses.{Uses}
 use Rattle.state_pool.specs.Counts.{state_at, count_at, share}
 use Rattle.round_table.specs.Sized.{AreStatesSized}

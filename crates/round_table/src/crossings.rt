@@ -1,13 +1,13 @@
 //! Crossings by instance: the nodes that enter or leave it.
 
 ghost use Rattle.std.specs.Prelude.{◌≡◌, ◌∷◌, [], IfSome, IfNone, IfOk, OnOk};
-ghost use Rattle.mask_states.specs.Hashes.{node_hash};
-ghost use Rattle.mask_states.specs.Hashes.{first_alike};
+ghost use Rattle.node_keys.specs.Hashes.{node_hash};
+ghost use Rattle.node_keys.specs.Hashes.{first_alike};
 ghost use Rattle.round_table.specs.Crossings.{crossings_at, IsCrossingAdded, AreCrossingsOnce};
 
 use indexmap::{IndexMap, IndexSet};
 use local_rules::Exit;
-use mask_states::{EdgeKind, InstKey, NodeKey};
+use node_keys::{EdgeKind, InstKey, NodeKey};
 use std::alloc::{AllocError, Global};
 use std::hash::{Hash, Hasher};
 use std::marker::Model;
@@ -20,7 +20,7 @@ pub struct Crossing {
     /// How it enters the instance, or `Return` if it leaves its own.
     pub kind: EdgeKind,
     /// Its return address, or its own word if it leaves its own instance.
-    pub back: u16,
+    pub back: u32,
     /// Its exit, if it leaves its own instance.
     pub exit: Exit,
 }

@@ -3,13 +3,13 @@
 ghost use Rattle.std.specs.Prelude.{◌≡◌, length, IfOk, OnOk};
 ghost use Rattle.std.specs.Prelude.{map as list_map};
 ghost use Rattle.std.specs.FinMap.{empty};
-ghost use Rattle.mask_states.specs.Keys.{offset_of};
+ghost use Rattle.node_keys.specs.Keys.{offset_of};
 ghost use Rattle.round_table.specs.Families.{raised, nodes_of, node_of};
 
 use abs_state::AbsState;
 use indexmap::IndexMap;
 use local_rules::Node;
-use mask_states::NodeKey;
+use node_keys::NodeKey;
 use std::alloc::{AllocError, Global};
 use std::marker::Model;
 
@@ -22,11 +22,11 @@ pub struct GatheredStates {
 
 impl Model for GatheredStates {
     ghost use Rattle.std.specs.FinMap.{FinMap, from_entries, code};
-    ghost use Rattle.mask_states.specs.contracts.keys.NodeKey as node_key;
+    ghost use Rattle.node_keys.specs.contracts.keys.NodeKey as node_key;
     ghost use Rattle.abs_state.specs.contracts.state.AbsState as abs_state;
     ghost use Rattle.std.specs.List.{IsDistinct};
     ghost use Rattle.std.specs.Map.{keys_of};
-    ghost use Rattle.mask_states.specs.Order.{node_cmp, same_node};
+    ghost use Rattle.node_keys.specs.Order.{node_cmp, same_node};
     ghost use Rattle.abs_state.specs.declared.state.AbsState.{AbsState};
     ghost use Rattle.round_table.specs.Sized.{AreStatesSized};
 

@@ -2,12 +2,12 @@
 
 ghost use Rattle.std.specs.Prelude.{◌≡◌, ◌≢◌, ◌<◌, ◌↔◌, length, Contains, Some, IsTrue, IfOk, OnOk, OnErr, ◌++◌};
 ghost use Rattle.std.specs.Map.{keys_of};
-ghost use Rattle.mask_states.specs.declared.keys.NodeKey as node_key;
+ghost use Rattle.node_keys.specs.declared.keys.NodeKey as node_key;
 ghost use Rattle.abs_state.specs.declared.state.AbsState as abs_state;
 ghost use Rattle.std.specs.Prelude.{map as list_map};
 ghost use Rattle.std.specs.Option.{option_copied};
 ghost use Rattle.std.specs.FinMap.{get, empty, len};
-ghost use Rattle.mask_states.specs.Keys.{offset_of};
+ghost use Rattle.node_keys.specs.Keys.{offset_of};
 ghost use Rattle.state_pool.specs.Uses.{AreBelow};
 ghost use Rattle.state_pool.specs.Counts.{state_at, count_at, IsUsedLess};
 ghost use Rattle.round_table.specs.Families.{Lands, raised, nodes_of, node_of};
@@ -16,7 +16,7 @@ ghost use Rattle.round_table.specs.Shared.{stated, AreCounted, IsMoved, joined_a
 use abs_state::AbsState;
 use indexmap::IndexMap;
 use local_rules::Node;
-use mask_states::NodeKey;
+use node_keys::NodeKey;
 use state_pool::Pool;
 use state_pool::laws::uses_are_counted;
 use std::alloc::{AllocError, Global};
@@ -37,10 +37,10 @@ pub struct Table {
 
 impl Model for Table {
     ghost use Rattle.std.specs.FinMap.{FinMap, from_entries, code};
-    ghost use Rattle.mask_states.specs.contracts.keys.NodeKey as node_key;
+    ghost use Rattle.node_keys.specs.contracts.keys.NodeKey as node_key;
     ghost use Rattle.abs_state.specs.contracts.state.AbsState as abs_state;
     ghost use Rattle.std.specs.Map.{keys_of};
-    ghost use Rattle.mask_states.specs.Order.{node_cmp};
+    ghost use Rattle.node_keys.specs.Order.{node_cmp};
     ghost use Rattle.abs_state.specs.declared.state.AbsState.{AbsState};
     ghost use Rattle.round_table.specs.Shared.{stated, IsShared};
 

@@ -2,13 +2,13 @@
 //! repeated, and is no fault.
 
 ghost use Rattle.std.specs.Prelude.{None, IfOk, IfSome, length, ◌≡◌, ◌≤◌};
-ghost use Rattle.sb_base.specs.Outside.{Untold, Unsaid};
+ghost use Rattle.text_base.specs.Outside.{Untold, Unsaid};
 
-use sb_base::{FileFault, Files, Sink, SinkFault};
 use std::alloc::Global;
 use std::fs::File;
 use std::io::{ErrorKind, Read, Write};
 use std::{fs, io};
+use text_base::{FileFault, Files, Sink, SinkFault};
 
 /// Files on disk. They report neither their contents nor whose read failed.
 #[derive(Drop)]

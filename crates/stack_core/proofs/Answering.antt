@@ -3,11 +3,11 @@ use Rattle.std.proofs.Common.{◌≡◌, ◌≢◌, inl, inr, ℕ, Bool, true, f
 use Rattle.std.specs.Prelude.{IfOk, MatchResult}
 use Rattle.avr_model.specs.declared.assumption.Entry.{Entry}
 use Rattle.avr_model.specs.declared.device.Device.{Device}
-use Rattle.avr_model.specs.Devices.{Program, device_of}
-use Rattle.sb_base.specs.Lines.{Place, TextLine}
-use Rattle.sb_base.specs.Outside.{Held, Blamed, grown}
-use Rattle.indirect_targets.specs.declared.fault.AssumeText.{AssumeText}
-use Rattle.indirect_targets.specs.Reading.{entries_in}
+use Rattle.avr_model.specs.Devices.{Image, device_of}
+use Rattle.text_base.specs.Lines.{Position, TextLine}
+use Rattle.text_base.specs.Outside.{Held, Blamed, grown}
+use Rattle.assumption_files.specs.declared.fault.AssumeText.{AssumeText}
+use Rattle.assumption_files.specs.Reading.{entries_in}
 use Rattle.witness_replay.specs.Spelling.{Plan}
 use Rattle.witness_replay.specs.Reading.{schedule_in}
 use Rattle.witness_replay.specs.Replay.{Report as Replayed, replay_of}
@@ -21,9 +21,9 @@ use Rattle.cert_check.specs.declared.verdict.Judgement.{Judgement}
 use Rattle.cert_check.specs.declared.verdict.Judgement.TheVariants.{Accepted, Rejected}
 use Rattle.clear_laws.specs.declared.verdict.ClearVerdict.{ClearVerdict}
 use Rattle.clear_laws.specs.declared.verdict.ClearVerdict.TheVariants as clear
-use Rattle.device_hooks.specs.declared.devices.DevicesFault.{DevicesFault}
-use Rattle.device_hooks.specs.Spelling.{Setup}
-use Rattle.device_hooks.specs.Reading.{setup_in}
+use Rattle.peripherals.specs.declared.devices.DevicesFault.{DevicesFault}
+use Rattle.peripherals.specs.Spelling.{Setup}
+use Rattle.peripherals.specs.Reading.{setup_in}
 use Rattle.commands.specs.Commands.{Work, Check, Analyse, Run, Report, Explain, Clear, Premises, Attain, Simulate, Command, On, Demo, About, Firmware, Second, Assumptions, name_of}
 use Rattle.replies.specs.declared.status.Status.{Status}
 use Rattle.replies.specs.declared.status.Status.TheVariants as exit
@@ -135,9 +135,9 @@ certificate_apart task next (Ok c) f s t h = verdict_apart task next c h.verdict
 accepted_apart : (text : Claim → List ℕ) (c : Claim) → IsPlainApart (Says exit.Done (text c))
 accepted_apart text c s t h = at exit.Done s done_plain h.0
 
-clear_apart : (words : Program) (c : Claim) (v : ClearVerdict) → IsPlainApart (ClearSays words c v)
-clear_apart words c clear.Clear s t h = at exit.Done s done_plain h.0
-clear_apart words c (clear.Unclear node pc) s t h = at exit.Unclear s unclear_plain h.0
+clear_apart : (image : Image) (c : Claim) (v : ClearVerdict) → IsPlainApart (ClearSays image c v)
+clear_apart image c clear.Clear s t h = at exit.Done s done_plain h.0
+clear_apart image c (clear.Unclear node pc) s t h = at exit.Unclear s unclear_plain h.0
 
 simulate_apart : (task : Task) (steps : ℕ) (x : Result Setup DevicesFault) → IsPlainApart (SimulateReply task steps x)
 simulate_apart task steps (Err fault) s t h = refuses_apart exit.BadDevices devices_plain (devices_refused fault) s t h
@@ -163,17 +163,17 @@ demo_apart : (size : ℕ) → IsPlainApart (DemoReply size)
 demo_apart size s t (inl h) = at exit.Done s done_plain h.says.0
 demo_apart size s t (inr h) = why_not_apart (bare (demo_program size)) None s t h
 
-run_apart : (x : Result Replayed ℕ) → IsPlainApart (RunReply x)
-run_apart (Err step) s t h = at exit.BadSchedule s schedule_plain h.0
-run_apart (Ok r) s t h = at exit.Done s done_plain h.0
+run_apart : (device : Device) (x : Result Replayed ℕ) → IsPlainApart (RunReply device x)
+run_apart device (Err step) s t h = at exit.BadSchedule s schedule_plain h.0
+run_apart device (Ok r) s t h = at exit.Done s done_plain h.0
 
 ends_apart : (ls : List TextLine) (place : ℕ) (reply : Reply) → IsPlainApart reply → IsPlainApart (EndsBefore ls place reply)
 ends_apart [] place reply f s t h = f s t h
 ends_apart (l ∷ ls) place reply f s t h = at exit.BadSchedule s schedule_plain h.0
 
-schedule_apart : (task : Task) (x : Result (Plan × Place) ℕ) → IsPlainApart (ScheduleReply task x)
+schedule_apart : (task : Task) (x : Result (Plan × Position) ℕ) → IsPlainApart (ScheduleReply task x)
 schedule_apart task (Err place) s t h = at exit.BadSchedule s schedule_plain h.0
-schedule_apart task (Ok r) s t h = ends_apart r.1.rest r.1.at (RunReply (replay_of task.flash task.assumptions r.0)) (run_apart (replay_of task.flash task.assumptions r.0)) s t h
+schedule_apart task (Ok r) s t h = ends_apart r.1.rest r.1.at (RunReply (device_of task.flash) (replay_of task.flash task.assumptions r.0)) (run_apart (device_of task.flash) (replay_of task.flash task.assumptions r.0)) s t h
 
 flash_apart : (device : Device) (work : Work) (firmware bytes : List ℕ) (task : Task) → IsPlainApart (FlashReply device work firmware bytes task)
 flash_apart device (Check k) firmware bytes task = certificate_apart task (AcceptedReply device (Check k) firmware task) (certificate_in (device_of task.flash) bytes) (accepted_apart (told_of device (Check k) firmware))
@@ -231,10 +231,10 @@ module _ (hold : AcceptingRepliesHold) (exact : RepliesAreExact) where
       → AreBytes c holds firmware second list × (after ≡ before)
       → WorkReply c firmware second list status text → (status ≡ exit.Done → HasWords c firmware)
       → IsOutcome (Some c) holds before after blamed status text
-  worked c holds before after blamed firmware second list status text read work words =
+  worked c holds before after blamed firmware second list status text read work image =
       let seen = seen_whole c firmware second list in
       let reply = whole_reply c firmware second list status text read.0.with_firmware read.0.with_second read.0.with_list work in
-      let has : status ≡ exit.Done → ReadsWords c seen = λ zero fw e. subst (λ b. HasWords c b) (seen_is (name_of c Firmware) firmware fw e) (words zero) in
+      let has : status ≡ exit.Done → ReadsWords c seen = λ zero fw e. subst (λ b. HasWords c b) (seen_is (name_of c Firmware) firmware fw e) (image zero) in
       inl (settle c holds before after status text read.1
       (record {
         seen = seen;
@@ -248,8 +248,8 @@ module _ (hold : AcceptingRepliesHold) (exact : RepliesAreExact) where
       → AreBytes c holds firmware second list × (after ≡ before)
       → IfOk x (λ r. WorkReply c firmware second list r.status r.text.items) → IfOk x (λ r. r.status ≡ exit.Done → HasWords c firmware)
       → MatchResult x (λ r. IsOutcome (Some c) holds before after blamed r.status r.text.items) (λ e. IsCutOff (Some c) holds before after blamed)
-  worked_result c holds before after blamed firmware second list (Ok r) read work words = worked c holds before after blamed firmware second list r.status r.text.items read work words
-  worked_result c holds before after blamed firmware second list (Err e) read work words = inl read.1
+  worked_result c holds before after blamed firmware second list (Ok r) read work image = worked c holds before after blamed firmware second list r.status r.text.items read work image
+  worked_result c holds before after blamed firmware second list (Err e) read work image = inl read.1
 
 pub failed : (o : Option Command) (holds : List ℕ → Held) (before after : ℕ) (blamed : Blamed) (name : List ℕ) (status : Status) (text : List ℕ)
     → IsReadFault o holds before after blamed name → status ≡ exit.ReadFault → text ≡ read_fault name → IsOutcome o holds before after blamed status text

@@ -1,6 +1,6 @@
 -- Answers to held bytes.
 use Rattle.std.proofs.Common.{◌≡◌, ◌≤◌, ◌<◌, ℕ, List, [], length, Option, Some, None, refl, sym, ap, ◌∙◌, subst, arith}
-use Rattle.sb_base.specs.Outside.{Held, Bytes, Gives, MayExceed}
+use Rattle.text_base.specs.Outside.{Held, Bytes, Gives, MayExceed}
 use Rattle.avr_model.specs.declared.device.Device.{Device}
 use Rattle.commands.specs.Commands.{Work, Analyse, Simulate, Request, Command, On, Firmware, Second, Assumptions, file_of, assume_of}
 use Rattle.replies.specs.declared.status.Status.{Status}

@@ -7,9 +7,9 @@ use denote.Ref.{Bor}
 use Rattle.avr_model.specs.declared.assumption.Entry.{Entry}
 use Rattle.avr_model.specs.declared.device.Device.{Device}
 use Rattle.avr_model.specs.Devices.{device_of}
-use Rattle.indirect_targets.specs.declared.fault.AssumeText.{AssumeText}
-use Rattle.indirect_targets.specs.declared.fault.AssumeText.TheVariants as assume
-use Rattle.indirect_targets.specs.Reading.{entries_in}
+use Rattle.assumption_files.specs.declared.fault.AssumeText.{AssumeText}
+use Rattle.assumption_files.specs.declared.fault.AssumeText.TheVariants as assume
+use Rattle.assumption_files.specs.Reading.{entries_in}
 use Rattle.witness_replay.specs.Spelling.{Plan}
 use Rattle.witness_replay.specs.Replay.{replay_of}
 use Rattle.flash_image.specs.Naming.{Named, SayTheSame}
@@ -20,7 +20,7 @@ use Rattle.commands.specs.Commands.{Work, Check, Analyse, Run, Report, Explain, 
 use Rattle.certificate.specs.Valid.{IsAttained, IsValid}
 use Rattle.cert_format.specs.declared.fault.CertFault.{CertFault}
 use Rattle.cert_format.specs.Reading.{certificate_in}
-use Rattle.call_graph.specs.declared.worked.Worked.{Worked}
+use Rattle.family_edges.specs.declared.worked.WorkedOut.{WorkedOut}
 use Rattle.cert_check.specs.declared.verdict.Reason.{Reason}
 use Rattle.cert_check.specs.declared.verdict.Judgement.{Judgement}
 use Rattle.cert_check.specs.Verdict.{IsFamilyOf, IsReason}
@@ -35,7 +35,7 @@ use Rattle.replies.specs.Headline.{PlacesSayTheSame, CausesSayTheSame}
 use Rattle.cert_words.specs.Text.{text_of}
 use Rattle.guided_trials.specs.Attaining.{IsCompleted}
 use Rattle.replies.proofs.AllLaws.{attained_by, witness_zero, by_none}
-use Rattle.stack_core.specs.Answering.{GivesOn, ReadsAs, IsJudgedAs, LoadedReply}
+use Rattle.stack_core.specs.Answering.{GivesOn, ListingReadsAs, IsJudgedAs, LoadedReply}
 use Rattle.stack_core.specs.declared.reply.Reply.{Reply as Answered}
 use Rattle.stack_core.specs.declared.judging.Judged.{Judged}
 use Rattle.stack_core.specs.declared.loading.Listing.TheVariants.{Unlisted}
@@ -55,7 +55,7 @@ missed_reply task next bound (Some plan) text a t =
     by_missing next (attains bound (replay_of task.flash task.assumptions plan)) text (false_from_ne_true (attains bound (replay_of task.flash task.assumptions plan)) (λ h. a (attained_by bound (replay_of task.flash task.assumptions plan) h))) t
 
 -- a certificate whose schedule misses its bound
-pub missed_judged : (task : Task) (next : Claim → Reply) (c : Claim) (family : Worked) (text : List ℕ) → IsFamilyOf task c family
+pub missed_judged : (task : Task) (next : Claim → Reply) (c : Claim) (family : WorkedOut) (text : List ℕ) → IsFamilyOf task c family
     → (b : Bool) → (IsTrue b ↔ IsAttained task c.bound c.witness) → b ≡ false → text ≡ witness_rejected → JudgedReply task next c exit.Rejected text
 missed_judged task next c family text f b told missed t =
     record {
@@ -127,7 +127,7 @@ refused_by n o status text s t = subst (λ x. Refuses n x status text) (sym t) (
 
 -- ---- an assumption file
 
-pub unlisted : (device : Device) (bytes : List ℕ) (f : AssumeText) (r : Answered) → (f ≢ assume.Memory → entries_in device bytes ≡ Err f) → r.status ≡ exit.BadAssumptions → assumptions_refused f ≡ Some r.text.items → ReadsAs device bytes (Unlisted r)
+pub unlisted : (device : Device) (bytes : List ℕ) (f : AssumeText) (r : Answered) → (f ≢ assume.Memory → entries_in device bytes ≡ Err f) → r.status ≡ exit.BadAssumptions → assumptions_refused f ≡ Some r.text.items → ListingReadsAs device bytes (Unlisted r)
 unlisted device bytes (assume.Malformed line) r e s t = (assume.Malformed line, e (λ w. cc), s, t)
 unlisted device bytes (assume.Order line) r e s t = (assume.Order line, e (λ w. cc), s, t)
 unlisted device bytes assume.Memory r e s t = absurd (let wrong = t in cc)

@@ -1,10 +1,10 @@
 -- The top call.
 use Rattle.std.specs.Prelude.{◌≡◌, ◌≢◌, ◌⊎◌, ◌↔◌, ◌≤◌, ℕ, Bool, List, length, Option, Some, None}
 use Rattle.avr_model.specs.declared.device.Device.{Device}
-use Rattle.sb_base.specs.Outside.{Held, Bytes, Blamed, Rose, grown, GrewByPrefix}
+use Rattle.text_base.specs.Outside.{Held, Bytes, Blamed, Rose, grown, GrewByPrefix}
 use Rattle.certificate.specs.Claims.{Claim}
-use Rattle.device_hooks.specs.Spelling.{Setup}
-use Rattle.device_hooks.specs.Exact.{IsSetupReading as IsDevices}
+use Rattle.peripherals.specs.Spelling.{Setup}
+use Rattle.peripherals.specs.Exact.{IsSetupReading as IsDevices}
 use Rattle.commands.specs.Commands.{Work, Check, Analyse, Report, Explain, Clear, Premises, Attain, Simulate, Request, Command, On, assume_of}
 use Rattle.replies.specs.declared.status.Status.{Status}
 use Rattle.replies.specs.declared.status.Status.TheVariants as exit

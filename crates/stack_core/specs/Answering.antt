@@ -8,12 +8,12 @@ use Rattle.avr_model.specs.Devices.{device_of, limit_of}
 use Rattle.flash_image.specs.Naming.{SayTheSame}
 use Rattle.elf_load.specs.Elf.{is_elf}
 use Rattle.elf_load.specs.declared.Loaded.{Loaded as Firmware}
-use Rattle.indirect_targets.specs.declared.fault.AssumeText.{AssumeText}
-use Rattle.indirect_targets.specs.Reading.{entries_in}
+use Rattle.assumption_files.specs.declared.fault.AssumeText.{AssumeText}
+use Rattle.assumption_files.specs.Reading.{entries_in}
 use Rattle.witness_replay.specs.Spelling.{Plan}
 use Rattle.certificate.specs.Claims.{Claim}
 use Rattle.certificate.specs.Valid.{IsAttained, IsValid}
-use Rattle.call_graph.specs.declared.worked.Worked.{Worked}
+use Rattle.family_edges.specs.declared.worked.WorkedOut.{WorkedOut}
 use Rattle.cert_check.specs.Verdict.{IsFamilyOf}
 use Rattle.cert_words.specs.Text.{text_of}
 use Rattle.cert_format.specs.declared.fault.CertFault.{CertFault}
@@ -24,8 +24,8 @@ use Rattle.replies.specs.Texts.{assumptions_refused}
 use Rattle.replies.specs.Firmware.{words_by, fault_by, names_by, end_by, outside_fault, firmware_image, firmware_fault, firmware_names, firmware_end}
 use Rattle.replies.specs.Analysis.{TrialsFind}
 use Rattle.replies.specs.Reply.{Reply, Says, report_by, ExplainReply, PlacesReply, CertificateReply, FlashReply}
-use Rattle.stack_core.specs.declared.loading.Image.{Image}
-use Rattle.stack_core.specs.declared.loading.Image.TheVariants.{Loaded, Refused}
+use Rattle.stack_core.specs.declared.loading.Loading.{Loading}
+use Rattle.stack_core.specs.declared.loading.Loading.TheVariants.{Loaded, Refused}
 use Rattle.stack_core.specs.declared.loading.Listing.{Listing}
 use Rattle.stack_core.specs.declared.loading.Listing.TheVariants.{Listed, Unlisted}
 use Rattle.stack_core.specs.declared.judging.Judged.{Judged}
@@ -42,15 +42,15 @@ pub record GivesAs (device : Device) (elf : Bool) (bytes : List ℕ) (loaded : F
   pub static_end : loaded.static_end ≡ end_by device elf bytes
 
 -- a firmware that was loaded, or its refusal
-abbrev pub LoadsBy : Device → Bool → List ℕ → Image → Type 0
+abbrev pub LoadsBy : Device → Bool → List ℕ → Loading → Type 0
 LoadsBy device elf bytes (Loaded loaded) = GivesAs device elf bytes loaded
 LoadsBy device elf bytes (Refused r) = (r.status ≡ exit.BadFirmware) × (fault_by device elf bytes ≡ Some r.text.items)
 
-abbrev pub LoadsAs : Device → List ℕ → Image → Type 0
+abbrev pub LoadsAs : Device → List ℕ → Loading → Type 0
 LoadsAs device bytes image = LoadsBy device (is_elf bytes) bytes image
 
 -- the same firmware on a device, or its refusal if it has a word behind the device's flash
-abbrev pub NarrowedTo : Device → Firmware → Image → Type 0
+abbrev pub NarrowedTo : Device → Firmware → Loading → Type 0
 NarrowedTo device before (Loaded after) =
     IsNarrowed device before.flash.words after.flash × ((after.names ≡ before.names) × (after.static_end ≡ before.static_end))
 NarrowedTo device before (Refused r) = (r.status ≡ exit.BadFirmware) × (outside_fault device before.flash.words ≡ Some r.text.items)
@@ -63,20 +63,20 @@ pub record GivesOn (device : Device) (bytes : List ℕ) (loaded : Firmware) : Ty
   pub static_end : loaded.static_end ≡ firmware_end device bytes
 
 -- a firmware that was loaded for a device, or its refusal
-abbrev pub LoadsOn : Device → List ℕ → Image → Type 0
+abbrev pub LoadsOn : Device → List ℕ → Loading → Type 0
 LoadsOn device bytes (Loaded loaded) = GivesOn device bytes loaded
 LoadsOn device bytes (Refused r) = (r.status ≡ exit.BadFirmware) × (firmware_fault device bytes ≡ Some r.text.items)
 
 -- a list that was read, or its refusal
-abbrev pub ReadsAs : Device → List ℕ → Listing → Type 0
-ReadsAs device bytes (Listed A) = entries_in device bytes ≡ Ok A
-ReadsAs device bytes (Unlisted r) = (fault : AssumeText) × (entries_in device bytes ≡ Err fault) × (r.status ≡ exit.BadAssumptions) × (assumptions_refused fault ≡ Some r.text.items)
+abbrev pub ListingReadsAs : Device → List ℕ → Listing → Type 0
+ListingReadsAs device bytes (Listed A) = entries_in device bytes ≡ Ok A
+ListingReadsAs device bytes (Unlisted r) = (fault : AssumeText) × (entries_in device bytes ≡ Err fault) × (r.status ≡ exit.BadAssumptions) × (assumptions_refused fault ≡ Some r.text.items)
 
 -- the list of an optional file, or its refusal; without a file the list is empty
 abbrev pub ListsAs : Device → Option (List ℕ) → Listing → Type 0
 ListsAs device None (Listed A) = A ≡ []
 ListsAs device None (Unlisted r) = ⊥
-ListsAs device (Some bytes) listing = ReadsAs device bytes listing
+ListsAs device (Some bytes) listing = ListingReadsAs device bytes listing
 
 -- no answer
 abbrev pub nothing : Claim → Reply
@@ -88,7 +88,7 @@ IsJudgedAs task x (Accepted c family) = ((x ≡ Ok c) × IsValid task c) × IsFa
 IsJudgedAs task x (judged.Refused r) = CertificateReply task nothing x r.status r.text.items
 
 -- a certificate is accepted with its family, unless a line refuses it
-abbrev pub judged_by : Claim → Result Worked (Vec ℕ) → Judged
+abbrev pub judged_by : Claim → Result WorkedOut (Vec ℕ) → Judged
 judged_by c (Ok family) = Accepted c family
 judged_by c (Err text) = judged.Refused (record { status = exit.Rejected; text = text })
 

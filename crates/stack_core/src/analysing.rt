@@ -6,16 +6,16 @@ ghost use Rattle.certificate.specs.Valid.{IsSound};
 ghost use Rattle.replies.specs.Texts.{why_not_status, why_not_text, demo_text};
 ghost use Rattle.replies.specs.Reply.{Refuses, AnalyseReply, DemoReply};
 ghost use Rattle.stack_core.specs.Answering.{IsWitnessedText};
-ghost use Rattle.call_graph.specs.Tasks.{task_of};
+ghost use Rattle.family_edges.specs.Tasks.{task_of};
 ghost use Rattle.stack_core.specs.Clauses.{Returns};
 
 use crate::reply::Reply;
-use call_graph::Task;
 use cert_check::{Judgement, judge};
 use cert_writing::write;
 use certificate::Certificate;
 use commands::Size;
 use demo_image::demo_image;
+use family_edges::Task;
 use fixpoint::{Refusal, solve};
 use flash_image::Flash;
 use replies::status::Status;

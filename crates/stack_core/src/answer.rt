@@ -14,8 +14,8 @@ use commands::Command;
 use replies::laws::replies_are_claims;
 use replies::status::Status;
 use replies::texts;
-use sb_base::Files;
 use std::alloc::{AllocError, Global};
+use text_base::Files;
 
 // The answer to a command.
 fn answer_to<F: Files>(

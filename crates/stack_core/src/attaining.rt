@@ -4,15 +4,15 @@ ghost use Rattle.std.specs.Prelude.{IfOk};
 ghost use Rattle.certificate.specs.Valid.{IsValid};
 ghost use Rattle.cert_format.specs.Reading.{certificate_in};
 ghost use Rattle.replies.specs.Reply.{AttainReply, CertificateReply};
-ghost use Rattle.call_graph.specs.Tasks.{task_of};
+ghost use Rattle.family_edges.specs.Tasks.{task_of};
 ghost use Rattle.stack_core.specs.Clauses.{Returns};
 
 use crate::judging::{Judged, judge_text};
 use crate::reply::Reply;
-use call_graph::Task;
 use cert_check::laws::sound_certificates_bound_every_run;
 use cert_format::Certificate;
 use cert_writing::write;
+use family_edges::Task;
 use local_rules::laws::words_have_16_bits;
 use replies::status::Status;
 use std::alloc::AllocError;

@@ -1,7 +1,7 @@
 //! The call that the program makes.
 
 ghost use Rattle.std.specs.Prelude.{◌≡◌, ◌≢◌, ◌⊎◌, ◌↔◌, ℕ, List, None};
-ghost use Rattle.sb_base.specs.Outside.{Rose, grown};
+ghost use Rattle.text_base.specs.Outside.{Rose, grown};
 ghost use Rattle.replies.specs.Texts.{read_fault};
 ghost use Rattle.stack_core.specs.Answer.{IsReplyWritten, IsReadFault, HeldHeadline, IsHeldExact, HeldLeast, IsHeldEnd, HeldSimulated, AreHeldDevices, Cuts};
 ghost use Rattle.stack_core.specs.Clauses.{IfNoneFailed, called};
@@ -9,8 +9,8 @@ ghost use Rattle.stack_core.specs.Clauses.{IfNoneFailed, called};
 use crate::answer::answer;
 use crate::laws::written_answers_hold;
 use replies::status::Status;
-use sb_base::{Files, Sink, SinkFault, put_all};
 use std::alloc::Global;
+use text_base::{Files, Sink, SinkFault, put_all};
 
 /// Does all that the program does: answers the words of the command line, over the given files and sink. Statuses and texts are those of
 /// docs/FORMATS.md.

@@ -4,14 +4,14 @@ ghost use Rattle.std.specs.Prelude.{◌≡◌, [], IfOk};
 ghost use Rattle.cert_check.specs.Verdict.{IsFamilyOf};
 ghost use Rattle.cert_format.specs.Reading.{certificate_in};
 ghost use Rattle.replies.specs.Reply.{ClearReply, PlacesReply, CertificateReply};
-ghost use Rattle.call_graph.specs.Tasks.{task_of};
+ghost use Rattle.family_edges.specs.Tasks.{task_of};
 ghost use Rattle.local_rules.specs.Site.{bare};
 ghost use Rattle.stack_core.specs.Clauses.{Returns};
 
 use crate::judging::{Judged, judge_text};
 use crate::reply::Reply;
-use call_graph::{Task, Worked};
 use cert_format::Certificate;
+use family_edges::{Task, WorkedOut};
 use flash_image::{Flash, Names};
 use replies::places::{self, Program};
 use replies::status::Status;
@@ -22,7 +22,11 @@ use store_clear::{
 use vector_table::Assumptions;
 
 // The answer by whether all nodes of an accepted certificate with this family are clear.
-fn cleared(task: &Task<'_>, certificate: &Certificate, family: &Worked) -> Result<Reply, AllocError>
+fn cleared(
+    task: &Task<'_>,
+    certificate: &Certificate,
+    family: &WorkedOut,
+) -> Result<Reply, AllocError>
     requires none { task.now.assumptions.now ≡ [] }
     requires family { IsFamilyOf (task_of task.now) certificate.now family.now }
     ensures { IfOk result (λ r. ClearReply task.now.flash.now certificate.now r.status r.text.items) }
@@ -60,7 +64,7 @@ fn told(
     task: &Task<'_>,
     names: &Names,
     certificate: &Certificate,
-    family: &Worked,
+    family: &WorkedOut,
     why: bool,
 ) -> Result<Reply, AllocError>
     requires { IsFamilyOf (task_of task.now) certificate.now family.now }

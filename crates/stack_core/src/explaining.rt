@@ -4,14 +4,14 @@ ghost use Rattle.std.specs.Prelude.{IfOk};
 ghost use Rattle.cert_check.specs.Verdict.{IsFamilyOf};
 ghost use Rattle.cert_format.specs.Reading.{certificate_in};
 ghost use Rattle.replies.specs.Reply.{ExplainReply, CertificateReply};
-ghost use Rattle.call_graph.specs.Tasks.{task_of};
+ghost use Rattle.family_edges.specs.Tasks.{task_of};
 ghost use Rattle.stack_core.specs.Clauses.{Returns};
 
 use crate::judging::{Judged, judge_text};
 use crate::reply::Reply;
-use call_graph::{Task, Worked};
 use cert_format::Certificate;
 use chain_explain::explain_family;
+use family_edges::{Task, WorkedOut};
 use flash_image::Names;
 use replies::status::Status;
 use reports::explanation_text;
@@ -22,7 +22,7 @@ fn explained(
     task: &Task<'_>,
     names: &Names,
     certificate: &Certificate,
-    family: &Worked,
+    family: &WorkedOut,
 ) -> Result<Reply, AllocError>
     requires { IsFamilyOf (task_of task.now) certificate.now family.now }
     ensures { IfOk result (λ r. ExplainReply names.now (task_of task.now) certificate.now r.status r.text.items) }

@@ -6,14 +6,14 @@ ghost use Rattle.cert_format.specs.Reading.{certificate_in};
 ghost use Rattle.replies.specs.Texts.{accepted};
 ghost use Rattle.replies.specs.Reply.{Says, report_by, CertificateReply};
 ghost use Rattle.stack_core.specs.Answering.{IsJudgedAs, judged_by};
-ghost use Rattle.call_graph.specs.Tasks.{task_of};
+ghost use Rattle.family_edges.specs.Tasks.{task_of};
 ghost use Rattle.stack_core.specs.Clauses.{Returns};
 
 use crate::reply::Reply;
-use call_graph::{Task, Worked};
 use cert_check::{Judgement, is_attained, judge_family};
 use cert_format::{Certificate, read as read_certificate};
 use elf_load::Loaded;
+use family_edges::{Task, WorkedOut};
 use flash_image::Device;
 use replies::status::Status;
 use replies::texts;
@@ -23,7 +23,7 @@ use std::alloc::{AllocError, Global};
 /// An accepted certificate with its family, or the answer to one that isn't accepted.
 #[derive(Drop)]
 pub enum Judged {
-    Accepted(Certificate, Worked),
+    Accepted(Certificate, WorkedOut),
     Refused(Reply),
 }
 
@@ -64,7 +64,7 @@ fn reported(
 fn weighed(
     task: &Task<'_>,
     certificate: &Certificate,
-) -> Result<Result<Worked, Vec<u8>>, AllocError>
+) -> Result<Result<WorkedOut, Vec<u8>>, AllocError>
     ensures { IfOk result (λ w. IsJudgedAs (task_of task.now) (Ok certificate.now) (judged_by certificate.now w)) }
 {
     match judge_family(task, certificate)? {

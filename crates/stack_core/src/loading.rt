@@ -6,10 +6,10 @@ ghost use Rattle.command_files.specs.Reading.{bytes_of};
 ghost use Rattle.stack_core.specs.Answering.{LoadsBy, LoadsAs, NarrowedTo, LoadsOn, ListsAs};
 
 use crate::reply::Reply;
+use assumption_files::read as read_list;
 use elf_load::{Loaded, is_elf, load};
 use flash_image::laws::{narrowing_is_exact, raw_images_are_their_words};
 use flash_image::{Device, Flash, Names, Outside, RawFault};
-use indirect_targets::read as read_list;
 use replies::raw::RawRefusal;
 use replies::status::Status;
 use replies::texts;
@@ -18,7 +18,7 @@ use vector_table::Assumptions;
 
 /// The result of loading a firmware file: flash with names and the end of static data, or a refusal.
 #[derive(Drop)]
-pub enum Image {
+pub enum Loading {
     Loaded(Loaded),
     Refused(Reply),
 }
@@ -31,21 +31,21 @@ pub enum Listing {
 }
 
 // The flash of a raw file, which has no names and no static data.
-fn raw_image(alloc: Global, device: Device, bytes: &[u8]) -> Result<Image, AllocError>
+fn raw_image(alloc: Global, device: Device, bytes: &[u8]) -> Result<Loading, AllocError>
     ensures { IfOk result (λ i. LoadsBy device false bytes.now i) }
 {
     raw_images_are_their_words();
     match Flash::from_raw(alloc, device, bytes) {
-        Ok(flash) => Ok(Image::Loaded(Loaded {
+        Ok(flash) => Ok(Loading::Loaded(Loaded {
             flash,
             names: Names::new(alloc),
             static_end: None,
         })),
-        Err(RawFault::OddLength) => Ok(Image::Refused(Reply {
+        Err(RawFault::OddLength) => Ok(Loading::Refused(Reply {
             status: Status::BadFirmware,
             text: texts::raw_fault(alloc, RawRefusal::OddLength)?,
         })),
-        Err(RawFault::TooLong) => Ok(Image::Refused(Reply {
+        Err(RawFault::TooLong) => Ok(Loading::Refused(Reply {
             status: Status::BadFirmware,
             text: texts::raw_fault(alloc, RawRefusal::TooLong)?,
         })),
@@ -54,15 +54,15 @@ fn raw_image(alloc: Global, device: Device, bytes: &[u8]) -> Result<Image, Alloc
 }
 
 // The firmware of a file for a device, before it is narrowed.
-fn whole(alloc: Global, device: Device, bytes: &[u8]) -> Result<Image, AllocError>
+fn whole(alloc: Global, device: Device, bytes: &[u8]) -> Result<Loading, AllocError>
     ensures { IfOk result (λ i. LoadsAs device bytes.now i) }
 {
     if !is_elf(bytes) {
         return raw_image(alloc, device, bytes);
     }
     match load(alloc, device, bytes) {
-        Ok(loaded) => Ok(Image::Loaded(loaded)),
-        Err(fault) => Ok(Image::Refused(Reply {
+        Ok(loaded) => Ok(Loading::Loaded(loaded)),
+        Err(fault) => Ok(Loading::Refused(Reply {
             status: Status::BadFirmware,
             text: texts::elf_refused(alloc, &fault)?,
         })),
@@ -86,7 +86,7 @@ pub fn marked(mut loaded: Loaded, assumptions: &Assumptions) -> Result<Loaded, A
 }
 
 // The same firmware on a device.
-fn narrowed(alloc: Global, device: Device, loaded: Loaded) -> Result<Image, AllocError>
+fn narrowed(alloc: Global, device: Device, loaded: Loaded) -> Result<Loading, AllocError>
     requires { length loaded.flash.words ≡ limit_of device }
     ensures { IfOk result (λ i. NarrowedTo device loaded i) }
 {
@@ -97,26 +97,26 @@ fn narrowed(alloc: Global, device: Device, loaded: Loaded) -> Result<Image, Allo
         static_end,
     } = loaded;
     match flash.narrow(device) {
-        Ok(flash) => Ok(Image::Loaded(Loaded {
+        Ok(flash) => Ok(Loading::Loaded(Loaded {
             flash,
             names,
             static_end,
         })),
-        Err(Outside(word)) => Ok(Image::Refused(Reply {
+        Err(Outside(word)) => Ok(Loading::Refused(Reply {
             status: Status::BadFirmware,
-            text: texts::firmware_outside(alloc, word)?,
+            text: texts::firmware_outside(alloc, device, word)?,
         })),
     }
 }
 
 /// The firmware of a file for a device.
-pub fn loaded(alloc: Global, device: Device, bytes: &[u8]) -> Result<Image, AllocError>
+pub fn loaded(alloc: Global, device: Device, bytes: &[u8]) -> Result<Loading, AllocError>
     ensures { IfOk result (λ i. LoadsOn device bytes.now i) }
 {
     narrowing_is_exact();
     match whole(alloc, device, bytes)? {
-        Image::Loaded(loaded) => narrowed(alloc, device, loaded),
-        Image::Refused(reply) => Ok(Image::Refused(reply)),
+        Loading::Loaded(loaded) => narrowed(alloc, device, loaded),
+        Loading::Refused(reply) => Ok(Loading::Refused(reply)),
     }
 }
 

@@ -1,30 +1,30 @@
 //! Replays of schedules, for `run`.
 
 ghost use Rattle.std.specs.Prelude.{◌≡◌, IfOk};
-ghost use Rattle.sb_base.specs.Lines.{lines_of};
+ghost use Rattle.text_base.specs.Lines.{lines_of};
 ghost use Rattle.witness_replay.specs.Reading.{schedule_in};
 ghost use Rattle.witness_replay.specs.Replay.{replay_of};
 ghost use Rattle.replies.specs.Texts as told;
 ghost use Rattle.replies.specs.Reply.{RunReply, ScheduleReply};
-ghost use Rattle.call_graph.specs.Tasks.{task_of};
+ghost use Rattle.family_edges.specs.Tasks.{task_of};
 ghost use Rattle.stack_core.specs.Clauses.{Returns};
 
 use crate::reply::Reply;
-use call_graph::Task;
+use family_edges::Task;
 use replies::status::Status;
 use replies::texts;
-use sb_base::LineReader;
 use std::alloc::{AllocError, Global};
+use text_base::LineReader;
 use witness_replay::{IllegalChoice, Schedule, ScheduleFault, replay};
 
 // The answer to a schedule that was read.
 fn replayed(task: &Task<'_>, schedule: &Schedule) -> Result<Reply, AllocError>
-    ensures { Returns result (RunReply (replay_of task.now.flash.now task.now.assumptions.now schedule.now)) }
+    ensures { Returns result (RunReply task.now.flash.now.device (replay_of task.now.flash.now task.now.assumptions.now schedule.now)) }
 {
     match replay(task.flash, task.assumptions, schedule) {
         Ok(report) => Ok(Reply {
             status: Status::Done,
-            text: texts::run_text(task.alloc, &report)?,
+            text: texts::run_text(task.alloc, task.flash.device(), &report)?,
         }),
         Err(IllegalChoice(step)) => Ok(Reply {
             status: Status::BadSchedule,

@@ -1,24 +1,24 @@
 //! Runs that devices choose, for `simulate`.
 
 ghost use Rattle.std.specs.Prelude.{◌≡◌, IfOk};
-ghost use Rattle.device_hooks.specs.Reading.{setup_in};
-ghost use Rattle.device_hooks.specs.Simulating.{simulation_of};
+ghost use Rattle.peripherals.specs.Reading.{setup_in};
+ghost use Rattle.peripherals.specs.Simulating.{simulation_of};
 ghost use Rattle.replies.specs.Texts.{run_text};
 ghost use Rattle.replies.specs.Reply.{SimulateReply};
-ghost use Rattle.call_graph.specs.Tasks.{task_of};
+ghost use Rattle.family_edges.specs.Tasks.{task_of};
 ghost use Rattle.stack_core.specs.Clauses.{Returns};
 
 use crate::reply::Reply;
-use call_graph::Task;
 use commands::ChoiceCount;
-use device_hooks::{Devices, simulation};
+use family_edges::Task;
+use peripherals::{Devices, simulation};
 use replies::status::Status;
 use replies::texts;
 use std::alloc::AllocError;
 
 // The report of the run that devices choose.
 fn simulated(task: &Task<'_>, steps: ChoiceCount, devices: &Devices) -> Result<Vec<u8>, AllocError>
-    ensures { IfOk result (λ v. v.items ≡ run_text (simulation_of task.now.flash.now task.now.assumptions.now devices.now steps)) }
+    ensures { IfOk result (λ v. v.items ≡ run_text task.now.flash.now.device (simulation_of task.now.flash.now task.now.assumptions.now devices.now steps)) }
 {
     let report = simulation(
         task.alloc,
@@ -27,7 +27,7 @@ fn simulated(task: &Task<'_>, steps: ChoiceCount, devices: &Devices) -> Result<V
         task.assumptions,
         steps.get(),
     )?;
-    texts::run_text(task.alloc, &report)
+    texts::run_text(task.alloc, task.flash.device(), &report)
 }
 
 /// The answer to the text of devices. Not inlined, as `attain` is not: its machine would stay in the frame of all commands.

@@ -16,13 +16,13 @@ use crate::attaining::attain;
 use crate::clearing::{clear, premises};
 use crate::explaining::explain;
 use crate::judging::{check, report};
-use crate::loading::{Image, Listing, listed, loaded, marked};
+use crate::loading::{Listing, Loading, listed, loaded, marked};
 use crate::reply::Reply;
 use crate::running::run;
 use crate::simulating::simulate;
-use call_graph::Task;
 use commands::{Command, Request, Work, about_text};
 use elf_load::Loaded;
+use family_edges::Task;
 use local_rules::laws::words_have_16_bits;
 use replies::laws::same_names_give_same_places;
 use replies::status::Status;
@@ -96,12 +96,12 @@ fn on_image(
     same_names_give_same_reports();
     same_names_give_same_places();
     match loaded(alloc, request.device, firmware)? {
-        Image::Loaded(loaded) => {
+        Loading::Loaded(loaded) => {
             words_have_16_bits(loaded.flash.words());
             let reply = under_list(alloc, request, loaded, second, list)?;
             Ok(reply)
         }
-        Image::Refused(reply) => Ok(reply),
+        Loading::Refused(reply) => Ok(reply),
     }
 }
 

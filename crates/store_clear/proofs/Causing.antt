@@ -18,7 +18,7 @@ use Rattle.avr_model.specs.Step.{is_pointer_store, is_indirect, is_call}
 use Rattle.avr_model.specs.Assumptions.{is_fixed_site}
 use Rattle.avr_model.specs.Devices.{io_end, device_of}
 use Rattle.abs_state.specs.declared.state.AbsState.{AbsState}
-use Rattle.mask_states.specs.declared.keys.NodeKey.{NodeKey}
+use Rattle.node_keys.specs.declared.keys.NodeKey.{NodeKey}
 use Rattle.local_rules.specs.declared.local.Node.{Node}
 use Rattle.edge_rules.specs.Families.{RankedFamily}
 use Rattle.edge_laws.proofs.ExpansionLaws.{filled_or_missing}
@@ -37,7 +37,7 @@ use Rattle.store_clear.specs.Takes.{AreMarkedBeside}
 use Rattle.store_clear.specs.Causing.{IsProtectedBelow, is_unclear_at, PassesBelow, IsProtectedAt, may_happen, HappensAt, ArePlacesOf}
 use Rattle.store_clear.specs.declared.causes.Other.{Other}
 use Rattle.store_clear.specs.declared.causes.Other.TheVariants.{Live, Moves}
-use Rattle.store_clear.specs.ByWord.{IsNext}
+use Rattle.store_clear.specs.ByWord.{IsNextAsk}
 use Rattle.store_clear.proofs.Marked.{placed, placing, ascending}
 use Rattle.store_clear.proofs.Linked.{skipped, reached}
 use Rattle.store_clear.proofs.Taken.{marks_none, marks_one, marks_both, marks_as}
@@ -116,7 +116,7 @@ module _ (task : Task) (nodes : List Node) (asks : List Asks) (pc : ℕ) (instr 
         (marks_as (IsProtectedBelow task (store_at pc s instr) (io_end (device_of task.flash) + 1)) (From k s ask) mid new (λ a t. (e, t)) (λ a t. t.1) one)
 
   -- those that come next
-  pub nodes_skipped : (start at : ℕ) (old new : List Bool) → IsNext nodes asks pc start at → AreMarkedBeside (At start) old new → AreMarkedBeside (At at) old new
+  pub nodes_skipped : (start at : ℕ) (old new : List Bool) → IsNextAsk nodes asks pc start at → AreMarkedBeside (At start) old new → AreMarkedBeside (At at) old new
   nodes_skipped start at old new next so =
       marks_as (At start) (At at) old new (λ a t. (t.0, reached nodes asks pc start at next (λ (n : Node). may_write_protected task (store_at pc n.state instr) a) t.1))
       (λ a t. (t.0, skipped nodes asks pc start at next (λ (n : Node). may_write_protected task (store_at pc n.state instr) a) t.1)) so
@@ -174,7 +174,7 @@ module _ (task : Task) (bound : ℕ) (other : Other) (nodes : List Node) (asks :
   happens_none t = let lt = t.below in omega (arith, lt)
 
   -- none among those that come next
-  pub happens_skipped : (start at : ℕ) → IsNext nodes asks pc start at → (Happens start → ⊥) → Happens at → ⊥
+  pub happens_skipped : (start at : ℕ) → IsNextAsk nodes asks pc start at → (Happens start → ⊥) → Happens at → ⊥
   happens_skipped start at next none t = none (skipped nodes asks pc start at next passing t)
 
   -- none at all, once the walk is at the end

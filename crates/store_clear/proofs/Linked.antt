@@ -10,16 +10,16 @@ use Rattle.basics.specs.Lists.{one_at}
 use Rattle.basics.specs.Numbers.{equals_itself}
 use Rattle.avr_model.proofs.AllLaws.{devices_are_alike}
 use Rattle.avr_model.specs.Image.{WORDS}
-use Rattle.mask_states.specs.declared.keys.NodeKey.{NodeKey}
+use Rattle.node_keys.specs.declared.keys.NodeKey.{NodeKey}
 use Rattle.local_rules.specs.declared.local.Node.{Node}
-use Rattle.call_graph.specs.Shown.{AreOfSomeDevice}
+use Rattle.family_edges.specs.Shown.{AreOfSomeDevice}
 use Rattle.certificate.specs.Claims.{Claim}
 use Rattle.certificate.specs.Valid.{family_of}
 use Rattle.clear_laws.specs.Clear.{MayBeFlagged}
 use Rattle.clear_laws.specs.declared.slots.Asks.{Asks}
 use Rattle.store_clear.specs.Settling.{ask_at, passes}
 use Rattle.store_clear.specs.Causing.{is_unclear_at, PassesBelow}
-use Rattle.store_clear.specs.ByWord.{IsNext, AreLinked, IsChain, IsOnChain}
+use Rattle.store_clear.specs.ByWord.{IsNextAsk, AreLinked, IsAskChain, IsOnChain}
 use Rattle.local_rules.specs.Site.{Task}
 
 passing_clear : (pc : ℕ) (k : NodeKey) (a : Asks) → passes a ≡ true → is_unclear_at pc k a ≡ true → ⊥
@@ -39,11 +39,11 @@ module _ (nodes : List Node) (asks : List Asks) where
         inside = omega arith;
         words = words;
         each = each;
-        first_is = λ pc lt. subst (IsNext nodes asks pc (length asks)) (sym (none pc lt)) (none_further pc);
+        first_is = λ pc lt. subst (IsNextAsk nodes asks pc (length asks)) (sym (none pc lt)) (none_further pc);
         later_is = λ i n le e fails. absurd (let inside = slice_get_within nodes i n e in omega (arith, inside, le, same));
       }
     where
-      none_further : (pc : ℕ) → IsNext nodes asks pc (length asks) (length asks)
+      none_further : (pc : ℕ) → IsNextAsk nodes asks pc (length asks) (length asks)
       none_further pc =
           record {
             beyond = omega arith;
@@ -57,7 +57,7 @@ module _ (nodes : List Node) (asks : List Asks) where
     here i m same e = one_at nodes at m n (subst (λ k. slice_get nodes k ≡ Some m) same e) is
 
     -- a node is put before the others that isn't one of the word's
-    next_before : (pc p : ℕ) → (is_unclear_at pc n.key (ask_at asks at) ≡ true → ⊥) → IsNext nodes asks pc (at + 1) p → IsNext nodes asks pc at p
+    next_before : (pc p : ℕ) → (is_unclear_at pc n.key (ask_at asks at) ≡ true → ⊥) → IsNextAsk nodes asks pc (at + 1) p → IsNextAsk nodes asks pc at p
     next_before pc p differs next =
         record {
           beyond = let b = next.beyond in omega (arith, b);
@@ -91,7 +91,7 @@ module _ (nodes : List Node) (asks : List Asks) where
         unclear : is_unclear_at n.key.pc n.key (ask_at asks at) ≡ true
         unclear = and_from (not (passes (ask_at asks at))) (n.key.pc == n.key.pc) (ap not fails) (equals_itself n.key.pc)
 
-        now_first : IsNext nodes asks n.key.pc at at
+        now_first : IsNextAsk nodes asks n.key.pc at at
         now_first =
             record {
               beyond = omega arith;
@@ -100,25 +100,25 @@ module _ (nodes : List Node) (asks : List Asks) where
               none = λ i m le lt e u. omega (arith, le, lt);
             }
 
-        first_same : (pc : ℕ) → pc ≡ n.key.pc → IsNext nodes asks pc at (get_or (set first n.key.pc at) pc 0)
+        first_same : (pc : ℕ) → pc ≡ n.key.pc → IsNextAsk nodes asks pc at (get_or (set first n.key.pc at) pc 0)
         first_same pc e =
-            subst (λ w. IsNext nodes asks w at (get_or (set first n.key.pc at) w 0)) (sym e)
-            (subst (IsNext nodes asks n.key.pc at) (sym (get_or-set_same first n.key.pc at 0 (let size = l.words in omega (arith, word, size)))) now_first)
+            subst (λ w. IsNextAsk nodes asks w at (get_or (set first n.key.pc at) w 0)) (sym e)
+            (subst (IsNextAsk nodes asks n.key.pc at) (sym (get_or-set_same first n.key.pc at 0 (let size = l.words in omega (arith, word, size)))) now_first)
 
-        first_other : (pc : ℕ) → pc < WORDS → (pc ≡ n.key.pc → ⊥) → IsNext nodes asks pc at (get_or (set first n.key.pc at) pc 0)
+        first_other : (pc : ℕ) → pc < WORDS → (pc ≡ n.key.pc → ⊥) → IsNextAsk nodes asks pc at (get_or (set first n.key.pc at) pc 0)
         first_other pc lt ne =
-            subst (IsNext nodes asks pc at) (sym (get_or-set_other first n.key.pc pc at 0 ne))
+            subst (IsNextAsk nodes asks pc at) (sym (get_or-set_other first n.key.pc pc at 0 ne))
             (next_before pc (get_or first pc 0) (λ u. ne (sym (eqb-true n.key.pc pc (and_parts (not (passes (ask_at asks at))) (n.key.pc == pc) u).1))) (l.first_is pc lt))
 
-        later_same : (i : ℕ) (m : Node) → i ≡ at → slice_get nodes i ≡ Some m → IsNext nodes asks m.key.pc (i + 1) (get_or (set later at value) i 0)
+        later_same : (i : ℕ) (m : Node) → i ≡ at → slice_get nodes i ≡ Some m → IsNextAsk nodes asks m.key.pc (i + 1) (get_or (set later at value) i 0)
         later_same i m same e =
-            subst (λ k. IsNext nodes asks m.key.pc (k + 1) (get_or (set later at value) k 0)) (sym same)
-            (subst (λ (x : Node). IsNext nodes asks x.key.pc (at + 1) (get_or (set later at value) at 0)) (sym (here i m same e))
-            (subst (IsNext nodes asks n.key.pc (at + 1)) (sym (get_or-set_same later at value 0 (let size = l.each in omega (arith, below, size)))) (l.first_is n.key.pc word)))
+            subst (λ k. IsNextAsk nodes asks m.key.pc (k + 1) (get_or (set later at value) k 0)) (sym same)
+            (subst (λ (x : Node). IsNextAsk nodes asks x.key.pc (at + 1) (get_or (set later at value) at 0)) (sym (here i m same e))
+            (subst (IsNextAsk nodes asks n.key.pc (at + 1)) (sym (get_or-set_same later at value 0 (let size = l.each in omega (arith, below, size)))) (l.first_is n.key.pc word)))
 
-        later_other : (i : ℕ) (m : Node) → at < i → slice_get nodes i ≡ Some m → passes (ask_at asks i) ≡ false → IsNext nodes asks m.key.pc (i + 1) (get_or (set later at value) i 0)
+        later_other : (i : ℕ) (m : Node) → at < i → slice_get nodes i ≡ Some m → passes (ask_at asks i) ≡ false → IsNextAsk nodes asks m.key.pc (i + 1) (get_or (set later at value) i 0)
         later_other i m further e too =
-            subst (IsNext nodes asks m.key.pc (i + 1)) (sym (get_or-set_other later at i value 0 (λ same. omega (arith, same, further))))
+            subst (IsNextAsk nodes asks m.key.pc (i + 1)) (sym (get_or-set_other later at i value 0 (λ same. omega (arith, same, further))))
             (l.later_is i m (omega (arith, further)) e too)
 
         pub linked_here : AreLinked nodes asks at (set first n.key.pc at) (set later at value)
@@ -133,24 +133,24 @@ module _ (nodes : List Node) (asks : List Asks) where
 
   -- ---- as they are followed
 
-  chain_of : (pc : ℕ) (first later : List ℕ) → pc < WORDS → AreLinked nodes asks 0 first later → IsChain nodes asks pc (get_or first pc 0) later
+  chain_of : (pc : ℕ) (first later : List ℕ) → pc < WORDS → AreLinked nodes asks 0 first later → IsAskChain nodes asks pc (get_or first pc 0) later
   chain_of pc first later lt l =
       record {
         each = l.each;
         first_is = l.first_is pc lt;
         later_is = λ i n e u.
             let parts = and_parts (not (passes (ask_at asks i))) (n.key.pc == pc) u in
-            subst (λ w. IsNext nodes asks w (i + 1) (get_or later i 0)) (eqb-true n.key.pc pc parts.1)
+            subst (λ w. IsNextAsk nodes asks w (i + 1) (get_or later i 0)) (eqb-true n.key.pc pc parts.1)
             (l.later_is i n (omega arith) e (not-true (passes (ask_at asks i)) parts.0));
       }
 
   -- as it is read
-  pub chain_read : (pc at value : ℕ) (first later read : List ℕ) → pc < WORDS → AreLinked nodes asks 0 first later → at ≡ pc → value ≡ get_or first at value → read ≡ later → IsChain nodes asks pc value read
+  pub chain_read : (pc at value : ℕ) (first later read : List ℕ) → pc < WORDS → AreLinked nodes asks 0 first later → at ≡ pc → value ≡ get_or first at value → read ≡ later → IsAskChain nodes asks pc value read
   chain_read pc at value first later read lt l same is whole =
-      subst (λ v. IsChain nodes asks pc v read) (sym (is ∙ ap (λ k. get_or first k value) same ∙ get_or_default_zero first pc value (let size = l.words in omega (arith, lt, size))))
-      (subst (IsChain nodes asks pc (get_or first pc 0)) (sym whole) (chain_of pc first later lt l))
+      subst (λ v. IsAskChain nodes asks pc v read) (sym (is ∙ ap (λ k. get_or first k value) same ∙ get_or_default_zero first pc value (let size = l.words in omega (arith, lt, size))))
+      (subst (IsAskChain nodes asks pc (get_or first pc 0)) (sym whole) (chain_of pc first later lt l))
 
-  module _ (pc start at : ℕ) (next : IsNext nodes asks pc start at) where
+  module _ (pc start at : ℕ) (next : IsNextAsk nodes asks pc start at) where
     pub on_chain : IsOnChain nodes asks pc at
     on_chain = record { within = next.within; is = next.is }
 

@@ -14,10 +14,10 @@ use Rattle.basics.specs.Lists.{one_at}
 use Rattle.basics.specs.Numbers.{before_or_last}
 use Rattle.avr_model.proofs.AllLaws.{devices_are_alike}
 use Rattle.avr_model.specs.Image.{WORDS}
-use Rattle.mask_states.specs.declared.keys.NodeKey.{NodeKey}
+use Rattle.node_keys.specs.declared.keys.NodeKey.{NodeKey}
 use Rattle.local_rules.specs.declared.local.Node.{Node}
 use Rattle.edge_rules.specs.Views.{key_of}
-use Rattle.call_graph.specs.Shown.{AreOfSomeDevice}
+use Rattle.family_edges.specs.Shown.{AreOfSomeDevice}
 use Rattle.clear_laws.specs.Reach.{is_on}
 use Rattle.clear_laws.specs.declared.slots.Asks.{Asks}
 use Rattle.store_clear.specs.Settling.{ask_at, passes, IsWordOf, AreWordsMarked, places_from}

@@ -9,9 +9,9 @@ use Rattle.basics.specs.Lists.{get_inside}
 use Rattle.basics.specs.Numbers.{before_or_last}
 use Rattle.store_clear.proofs.Marks.{none_on}
 use Rattle.avr_model.specs.declared.assumption.Entry.{Entry}
-use Rattle.avr_model.specs.Devices.{Program, device_of}
+use Rattle.avr_model.specs.Devices.{Image, device_of}
 use Rattle.avr_model.specs.Vectors.{vector_word}
-use Rattle.mask_states.specs.declared.keys.NodeKey.{NodeKey}
+use Rattle.node_keys.specs.declared.keys.NodeKey.{NodeKey}
 use Rattle.local_rules.specs.declared.local.Node.{Node}
 use Rattle.edge_rules.specs.Views.{key_of}
 use Rattle.certificate.specs.Claims.{Claim}
@@ -132,12 +132,12 @@ module _ (task : Task) (c : Claim) (nodes : List Node) (asks given : List Asks) 
 
 -- ---- what follows
 
-module _ (words : Program) (c : Claim) (verdict : ClearVerdict) (is : IsClearVerdict words c verdict) where
-  pub clear_both : (verdict ≡ Clear) ↔ AreAllClear (bare words) c
-  clear_both = (λ e. subst (IsClearVerdict words c) e is, λ all. clear_verdicts_are_one words c verdict Clear is all)
+module _ (image : Image) (c : Claim) (verdict : ClearVerdict) (is : IsClearVerdict image c verdict) where
+  pub clear_both : (verdict ≡ Clear) ↔ AreAllClear (bare image) c
+  clear_both = (λ e. subst (IsClearVerdict image c) e is, λ all. clear_verdicts_are_one image c verdict Clear is all)
 
-  pub unclear_both : (j pc : ℕ) → (verdict ≡ Unclear j pc) ↔ IsFirstUnclear (bare words) c j pc
-  unclear_both j pc = (λ e. subst (IsClearVerdict words c) e is, λ first. clear_verdicts_are_one words c verdict (Unclear j pc) is first)
+  pub unclear_both : (j pc : ℕ) → (verdict ≡ Unclear j pc) ↔ IsFirstUnclear (bare image) c j pc
+  unclear_both j pc = (λ e. subst (IsClearVerdict image c) e is, λ first. clear_verdicts_are_one image c verdict (Unclear j pc) is first)
 
 -- if all are read behind references
 pub sites_told : (nodes : List Node) (asks : List Asks) (old first new last : List Bool) (many : ℕ) (sites : List ℕ) → old ≡ replicate many false → first ≡ old

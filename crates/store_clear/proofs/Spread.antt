@@ -8,18 +8,18 @@ use Rattle.basics.specs.Booleans.{never_both}
 use Rattle.basics.specs.Items.{none_in, first_in, only_one_in, contained_in_join, each_of_join, inside_if_contained}
 use Rattle.basics.specs.Lists.{one_at, get_inside}
 use Rattle.basics.specs.Numbers.{before_or_last}
-use Rattle.call_graph.proofs.AllLaws.{if_from}
-use Rattle.mask_states.specs.declared.keys.EdgeKind.{EdgeKind}
-use Rattle.mask_states.specs.declared.keys.EdgeKind.TheVariants as kind
-use Rattle.mask_states.specs.Keys.{offset_of}
+use Rattle.family_edges.proofs.AllLaws.{if_from}
+use Rattle.node_keys.specs.declared.keys.EdgeKind.{EdgeKind}
+use Rattle.node_keys.specs.declared.keys.EdgeKind.TheVariants as kind
+use Rattle.node_keys.specs.Keys.{offset_of}
 use Rattle.local_rules.specs.declared.local.Node.{Node}
 use Rattle.edge_rules.specs.declared.edge.Edge.{Edge}
 use Rattle.edge_rules.specs.Edges.{IsEdge, is_entry}
 use Rattle.edge_rules.specs.Places.{found_at}
 use Rattle.edge_rules.specs.Views.{place_of}
-use Rattle.mask_states.specs.declared.keys.NodeKey.{NodeKey}
-use Rattle.call_graph.specs.declared.landing.Landing.{Landing}
-use Rattle.call_graph.specs.Landings.{AreLandingsOf, AreLandings}
+use Rattle.node_keys.specs.declared.keys.NodeKey.{NodeKey}
+use Rattle.family_edges.specs.declared.landing.Landing.{Landing}
+use Rattle.family_edges.specs.Landings.{AreLandingsOf, AreLandings}
 use Rattle.clear_laws.specs.Held.{StaysInFrame, is_guarded_push}
 use Rattle.clear_laws.specs.declared.slots.SlotSeed.{SlotSeed}
 use Rattle.clear_laws.specs.Reach.{links_of}

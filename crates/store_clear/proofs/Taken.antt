@@ -15,7 +15,7 @@ use Rattle.avr_model.specs.Assumptions.{is_never}
 use Rattle.avr_model.specs.Devices.{device_of}
 use Rattle.avr_model.specs.Image.{WORDS}
 use Rattle.avr_model.specs.Vectors.{is_enabled, last_vector, enable_count, vector_word}
-use Rattle.mask_states.specs.declared.keys.NodeKey.{NodeKey}
+use Rattle.node_keys.specs.declared.keys.NodeKey.{NodeKey}
 use Rattle.local_rules.specs.declared.local.Node.{Node}
 use Rattle.edge_rules.specs.Expansion.{IsFilled}
 use Rattle.certificate.specs.Claims.{Claim}

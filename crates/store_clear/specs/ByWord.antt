@@ -7,7 +7,7 @@ use Rattle.store_clear.specs.Settling.{ask_at, passes}
 use Rattle.store_clear.specs.Causing.{is_unclear_at}
 
 -- this is the first node from that number on that isn't clear and lies at the word, or the number of all nodes
-pub record IsNext (nodes : List Node) (asks : List Asks) (pc start at : ℕ) : Type 0 where
+pub record IsNextAsk (nodes : List Node) (asks : List Asks) (pc start at : ℕ) : Type 0 where
   pub beyond : start ≤ at
   pub within : at ≤ length asks
   pub is : (n : Node) → slice_get nodes at ≡ Some n → is_unclear_at pc n.key (ask_at asks at) ≡ true
@@ -18,14 +18,14 @@ pub record AreLinked (nodes : List Node) (asks : List Asks) (start : ℕ) (first
   pub inside : start ≤ length asks
   pub words : length first ≡ WORDS
   pub each : length later ≡ length asks
-  pub first_is : (pc : ℕ) → pc < WORDS → IsNext nodes asks pc start (get_or first pc 0)
-  pub later_is : (i : ℕ) (n : Node) → start ≤ i → slice_get nodes i ≡ Some n → passes (ask_at asks i) ≡ false → IsNext nodes asks n.key.pc (i + 1) (get_or later i 0)
+  pub first_is : (pc : ℕ) → pc < WORDS → IsNextAsk nodes asks pc start (get_or first pc 0)
+  pub later_is : (i : ℕ) (n : Node) → start ≤ i → slice_get nodes i ≡ Some n → passes (ask_at asks i) ≡ false → IsNextAsk nodes asks n.key.pc (i + 1) (get_or later i 0)
 
 -- the first node of the word that isn't clear, and after each of them the next
-pub record IsChain (nodes : List Node) (asks : List Asks) (pc first : ℕ) (later : List ℕ) : Type 0 where
+pub record IsAskChain (nodes : List Node) (asks : List Asks) (pc first : ℕ) (later : List ℕ) : Type 0 where
   pub each : length later ≡ length asks
-  pub first_is : IsNext nodes asks pc 0 first
-  pub later_is : (i : ℕ) (n : Node) → slice_get nodes i ≡ Some n → is_unclear_at pc n.key (ask_at asks i) ≡ true → IsNext nodes asks pc (i + 1) (get_or later i 0)
+  pub first_is : IsNextAsk nodes asks pc 0 first
+  pub later_is : (i : ℕ) (n : Node) → slice_get nodes i ≡ Some n → is_unclear_at pc n.key (ask_at asks i) ≡ true → IsNextAsk nodes asks pc (i + 1) (get_or later i 0)
 
 -- the walk along the word's nodes is at one of them, or at their end
 pub record IsOnChain (nodes : List Node) (asks : List Asks) (pc at : ℕ) : Type 0 where

@@ -1,12 +1,12 @@
 -- Conditions of nodes that remain, slot by slot, and the words of nodes with some. Definitions for the contracts of internal functions.
 use Rattle.std.specs.Prelude.{ℕ, ◌+◌, ◌≡◌, ◌<◌, ◌≤◌, ◌↔◌, ◌⊎◌, ⊤, ◌==◌, Bool, true, false, not, if◌then◌else◌, List, [], ◌∷◌, length, Option, Some, None, Contains, slice_get, slice_index_or}
 use Rattle.std.specs.List.{flat_map}
-use Rattle.mask_states.specs.declared.keys.EdgeKind.{EdgeKind}
-use Rattle.mask_states.specs.declared.keys.EdgeKind.TheVariants as kind
+use Rattle.node_keys.specs.declared.keys.EdgeKind.{EdgeKind}
+use Rattle.node_keys.specs.declared.keys.EdgeKind.TheVariants as kind
 use Rattle.local_rules.specs.declared.local.Node.{Node}
 use Rattle.edge_rules.specs.Edges.{is_entry}
 use Rattle.edge_rules.specs.Expansion.{IsFilled}
-use Rattle.call_graph.specs.declared.landing.Landing.{Landing}
+use Rattle.family_edges.specs.declared.landing.Landing.{Landing}
 use Rattle.certificate.specs.Claims.{Claim}
 use Rattle.certificate.specs.Valid.{family_of}
 use Rattle.clear_laws.specs.Clear.{IsClear, is_clear}

@@ -1,7 +1,7 @@
 -- A store as the definitions see it: its task, and its place with the state and the instruction.
 use Rattle.local_rules.specs.Site.{Task}
 use Rattle.clear_laws.specs.Clear.{Store}
-use Rattle.store_clear.specs.declared.store.Store.{Store as GivenStore}
+use Rattle.store_clear.specs.declared.store.GivenStore.{GivenStore}
 
 abbrev pub task_in : GivenStore → Task
 task_in store = record { flash = store.flash.now; assumptions = store.assumptions.now }

@@ -3,7 +3,7 @@ use Rattle.std.specs.Prelude.{ℕ, ◌+◌, ◌≡◌, ◌<◌, ◌↔◌, ◌�
 use Rattle.avr_model.specs.Assumptions.{is_never}
 use Rattle.avr_model.specs.Devices.{device_of}
 use Rattle.avr_model.specs.Vectors.{is_enabled, enable_count, vector_word}
-use Rattle.mask_states.specs.declared.keys.NodeKey.{NodeKey}
+use Rattle.node_keys.specs.declared.keys.NodeKey.{NodeKey}
 use Rattle.local_rules.specs.declared.local.Node.{Node}
 use Rattle.clear_laws.specs.Reach.{is_on}
 use Rattle.local_rules.specs.Site.{Task}

@@ -12,7 +12,7 @@ use local_reads::pointers::{point, step_before};
 use local_rows::registers::pair;
 use local_rows::transfer::{base_register, pointer_register};
 use local_rules::{Pointed, SpView};
-use mask_states::{Kind, NodeKey};
+use node_keys::{Kind, NodeKey};
 
 // The least possible byte of the value.
 fn first_byte(value: AbsByte) -> Option<u8>

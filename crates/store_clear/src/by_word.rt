@@ -29,7 +29,7 @@ fn link_all(told: &ToldNodes<'_>, first: &mut [usize], later: &mut [usize])
     while at > 0 {
         at -= 1;
         if !passes(told.asks[at]) {
-            let word = usize::from(told.nodes.key(at).pc);
+            let word = told.nodes.key(at).pc as usize;
             later[at] = first[word];
             first[word] = at;
         }

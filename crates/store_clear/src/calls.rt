@@ -4,53 +4,53 @@ ghost use Rattle.std.specs.Prelude.{◌≡◌, None, filter};
 ghost use Rattle.std.specs.List.{list_any};
 ghost use Rattle.avr_model.specs.Assumptions.{lists};
 ghost use Rattle.avr_model.specs.Devices.{device_of};
-ghost use Rattle.call_graph.specs.Tasks.{task_of};
+ghost use Rattle.family_edges.specs.Tasks.{task_of};
 ghost use Rattle.clear_laws.specs.Clear.{or_none, is_cut, calls_cut};
-ghost use Rattle.local_rules.specs.Flow.{words_on, targets_by};
-ghost use Rattle.local_rules.specs.Registers as registers;
+ghost use Rattle.local_rules.specs.Flow.{words_on, targets_by, z_with};
 
 use abs_state::AbsState;
+use assumption_files::targets_on;
 use avr_decode::far;
 use avr_model::instruction::{Base, Instr};
-use call_graph::Task;
-use indirect_targets::targets_on;
+use bit_domain::TriByte;
+use family_edges::Task;
 use local_reads::flow::is_target;
 use local_rows::registers::pair;
 use local_rows::transfer::base_register;
-use mask_states::NodeKey;
+use node_keys::NodeKey;
 
 // Whether the word has a `recur` line.
-fn is_cut(task: &Task<'_>, word: u16) -> bool
+fn is_cut(task: &Task<'_>, word: u32) -> bool
     ensures { result ≡ is_cut task.now.assumptions.now word }
 {
     task.assumptions.recur(word).is_some()
 }
 
 // Whether one of these words has.
-fn is_some_cut(task: &Task<'_>, words: &[u16]) -> bool
+fn is_some_cut(task: &Task<'_>, words: &[u32]) -> bool
     ensures { result ≡ list_any (is_cut task.now.assumptions.now) words.now }
 {
     words.iter().any(|word| is_cut(task, *word))
 }
 
-// Whether one of the listed words that the bits of Z permit has.
-fn is_listed_cut(task: &Task<'_>, state: &AbsState, listed: &[u16]) -> bool
-    ensures { result ≡ list_any (is_cut task.now.assumptions.now) (filter (lists (words_on (device_of task.now.flash.now) (registers.bits state.now 30) (registers.bits state.now 31))) listed.now) }
+// Whether one of the listed words that the bits of Z with this third byte permit has.
+fn is_listed_cut(task: &Task<'_>, state: &AbsState, bank: TriByte, listed: &[u32]) -> bool
+    ensures { result ≡ list_any (is_cut task.now.assumptions.now) (filter (lists (words_on (device_of task.now.flash.now) (z_with state.now bank))) listed.now) }
 {
     for word in listed {
-        if is_target(task.flash.device(), state, *word) && is_cut(task, *word) {
+        if is_target(task.flash.device(), state, bank, *word) && is_cut(task, *word) {
             return true;
         }
     }
     false
 }
 
-// Whether one of the words that the bits of Z permit has, if they are few.
-fn is_permitted_cut(task: &Task<'_>, state: &AbsState) -> bool
-    ensures { result ≡ list_any (is_cut task.now.assumptions.now) (or_none (targets_by (device_of task.now.flash.now) None (registers.bits state.now 30) (registers.bits state.now 31))) }
+// Whether one of the words that the bits of Z with this third byte permit has, if they are few.
+fn is_permitted_cut(task: &Task<'_>, state: &AbsState, bank: TriByte) -> bool
+    ensures { result ≡ list_any (is_cut task.now.assumptions.now) (or_none (targets_by (device_of task.now.flash.now) None (z_with state.now bank))) }
 {
     let (low, high) = pair(state, base_register(Base::Z));
-    match targets_on(task.flash.device(), &low.bits, &high.bits) {
+    match targets_on(task.flash.device(), &low.bits, &high.bits, &bank) {
         Ok(words) => is_some_cut(task, words.as_slice()),
         Err(_) => false,
     }
@@ -62,14 +62,13 @@ pub(crate) fn calls_cut(task: &Task<'_>, key: &NodeKey, state: &AbsState, instr:
 {
     let device = task.flash.device();
     match instr {
-        Instr::Call(target) => is_cut(task, device.wrap(u32::from(target.get()))),
+        Instr::Call(target) => is_cut(task, device.wrap(*target)),
         Instr::Rcall(target) => {
-            !task.flash.is_scratch(key.pc)
-                && is_cut(task, device.wrap(u32::from(far(key.pc, target.get()))))
+            !task.flash.is_scratch(key.pc) && is_cut(task, device.wrap(far(key.pc, target.get())))
         }
         Instr::Icall => match task.assumptions.jumps(key.pc) {
-            Some(listed) => is_listed_cut(task, state, listed),
-            None => is_permitted_cut(task, state),
+            Some(listed) => is_listed_cut(task, state, TriByte::of(0), listed),
+            None => is_permitted_cut(task, state, TriByte::of(0)),
         },
         _ => false,
     }

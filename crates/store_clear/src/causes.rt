@@ -11,30 +11,30 @@ ghost use Rattle.clear_laws.specs.Places.{IsPlaceOf};
 ghost use Rattle.store_clear.specs.Settling.{IsTold};
 ghost use Rattle.store_clear.specs.Takes.{AreMarkedBeside};
 ghost use Rattle.store_clear.specs.Causing.{IsProtectedAt, may_happen, HappensAt, ArePlacesOf, IsProtectedWrite, MayAllBeFlagged};
-ghost use Rattle.store_clear.specs.ByWord.{AreLinked, IsChain};
-ghost use Rattle.call_graph.specs.Tasks.{task_of};
+ghost use Rattle.store_clear.specs.ByWord.{AreLinked, IsAskChain};
+ghost use Rattle.family_edges.specs.Tasks.{task_of};
 ghost use Rattle.store_clear.specs.Stores.{task_in, store_of};
 
 use crate::by_word::{ByWord, by_word};
 use crate::moving::may_move;
 use crate::need::is_unfixed;
-use crate::store::Store;
+use crate::store::GivenStore;
 use crate::telling::ToldNodes;
-use crate::words::places;
+use crate::words::addresses;
 use crate::writes::{may_write_live, may_write_protected};
 use abs_state::AbsState;
 use avr_model::instruction::Instr;
 use avr_model::listed::Listed;
-use call_graph::Task;
 use certificate::Certificate;
 use clear_laws::FlaggedPlace;
-use mask_states::NodeKey;
+use family_edges::Task;
+use node_keys::NodeKey;
 use std::alloc::AllocError;
 
 // A word with its instruction, and its nodes that aren't clear: the first, and by the number of each the next.
 #[derive(Clone, Copy)]
 struct WordSite<'a> {
-    pc: u16,
+    pc: u32,
     instr: &'a Instr,
     first: usize,
     later: &'a [usize],
@@ -42,7 +42,7 @@ struct WordSite<'a> {
 
 // Marks the addresses that a store may write and that are flagged as protected.
 #[tactic(auto, using(crate::proofs::Io::most_io))]
-fn mark_addresses(store: &Store<'_>, marks: &mut [bool])
+fn mark_addresses(store: &GivenStore<'_>, marks: &mut [bool])
     requires { length marks.old ≡ io_end (device_of store.now.flash.now) + 1 }
     ensures { AreMarkedBeside (IsProtectedWrite (task_in store.now) (store_of store.now)) marks.old marks.new }
 {
@@ -57,14 +57,14 @@ fn mark_addresses(store: &Store<'_>, marks: &mut [bool])
 // Marks the addresses of all nodes there that aren't clear.
 fn mark_nodes(task: &Task<'_>, told: &ToldNodes<'_>, site: &WordSite<'_>, marks: &mut [bool])
     requires same { length told.now.asks.now ≡ length told.now.nodes.now }
-    requires chain { IsChain told.now.nodes.now told.now.asks.now site.now.pc site.now.first site.now.later.now }
+    requires chain { IsAskChain told.now.nodes.now told.now.asks.now site.now.pc site.now.first site.now.later.now }
     requires all { length marks.old ≡ io_end (device_of task.now.flash.now) + 1 }
     ensures { AreMarkedBeside (IsProtectedAt (task_of task.now) told.now.nodes.now told.now.asks.now site.now.pc site.now.instr.now (length told.now.asks.now)) marks.old marks.new }
 {
     let _count = told.nodes.count();
     let mut at = site.first;
     while at < told.asks.len() {
-        let store = Store {
+        let store = GivenStore {
             flash: task.flash,
             assumptions: task.assumptions,
             pc: site.pc,
@@ -83,14 +83,14 @@ fn protected_of(
     site: &WordSite<'_>,
 ) -> Result<Listed<u16>, AllocError>
     requires same { length told.now.asks.now ≡ length told.now.nodes.now }
-    requires chain { IsChain told.now.nodes.now told.now.asks.now site.now.pc site.now.first site.now.later.now }
+    requires chain { IsAskChain told.now.nodes.now told.now.asks.now site.now.pc site.now.first site.now.later.now }
     ensures exact { IfOk result (λ list. (a : ℕ) → Contains list a ↔ IsProtectedAt (task_of task.now) told.now.nodes.now told.now.asks.now site.now.pc site.now.instr.now (length told.now.asks.now) a) }
     ensures ascending { IfOk result (λ list. IsStrictlySortedBy nat_cmp list) }
 {
     let count = usize::from(task.flash.device().io_end()) + 1;
     let mut marks = vec![in task.alloc; false; count]?;
     mark_nodes(task, told, site, marks.as_mut_slice());
-    places(task.alloc, &marks)
+    addresses(task.alloc, &marks)
 }
 
 // What else may happen at a node than a write of a protected address.
@@ -114,7 +114,7 @@ fn may_happen(
     requires { bound ≤ size_of (device_of task.now.flash.now) }
     ensures { result ≡ may_happen (task_of task.now) bound other site.now.pc site.now.instr.now (record { key = key.now; state = state.now }) }
 {
-    let store = Store {
+    let store = GivenStore {
         flash: task.flash,
         assumptions: task.assumptions,
         pc: site.pc,
@@ -136,7 +136,7 @@ fn happens_at(
     other: Other,
 ) -> bool
     requires same { length told.now.asks.now ≡ length told.now.nodes.now }
-    requires chain { IsChain told.now.nodes.now told.now.asks.now site.now.pc site.now.first site.now.later.now }
+    requires chain { IsAskChain told.now.nodes.now told.now.asks.now site.now.pc site.now.first site.now.later.now }
     requires small { bound ≤ size_of (device_of task.now.flash.now) }
     ensures { (result ≡ true) ↔ HappensAt (task_of task.now) bound other told.now.nodes.now told.now.asks.now site.now.pc site.now.instr.now (length told.now.asks.now) }
 {
@@ -170,7 +170,7 @@ fn place_at(
     certificate: &Certificate,
     told: &ToldNodes<'_>,
     links: &ByWord,
-    pc: u16,
+    pc: u32,
 ) -> Result<FlaggedPlace, AllocError>
     requires linked { AreLinked told.now.nodes.now told.now.asks.now 0 links.now.first.items links.now.later.items }
     requires small { certificate.now.bound ≤ size_of (device_of task.now.flash.now) }
@@ -192,7 +192,7 @@ fn place_at(
             let site = WordSite {
                 pc,
                 instr: &instr,
-                first: links.first[usize::from(pc)],
+                first: links.first[pc as usize],
                 later: links.later.as_slice(),
             };
             let protected = protected_of(task, told, &site)?;
@@ -216,7 +216,7 @@ fn places_by(
     certificate: &Certificate,
     told: &ToldNodes<'_>,
     links: &ByWord,
-    sites: &[u16],
+    sites: &[u32],
 ) -> Result<Listed<FlaggedPlace>, AllocError>
     requires linked { AreLinked told.now.nodes.now told.now.asks.now 0 links.now.first.items links.now.later.items }
     requires small { certificate.now.bound ≤ size_of (device_of task.now.flash.now) }
@@ -237,7 +237,7 @@ pub(crate) fn places_at(
     task: &Task<'_>,
     certificate: &Certificate,
     told: &ToldNodes<'_>,
-    sites: &[u16],
+    sites: &[u32],
 ) -> Result<Listed<FlaggedPlace>, AllocError>
     requires small { certificate.now.bound ≤ size_of (device_of task.now.flash.now) }
     requires told { IsTold (task_of task.now) certificate.now told.now.nodes.now told.now.asks.now }

@@ -2,13 +2,13 @@
 
 ghost use Rattle.std.specs.Prelude.{◌≡◌, ◌↔◌, [], IfOk};
 ghost use Rattle.edge_rules.specs.Expansion.{IsFilled};
-ghost use Rattle.call_graph.specs.Landings.{AreLandings};
+ghost use Rattle.family_edges.specs.Landings.{AreLandings};
 ghost use Rattle.certificate.specs.Valid.{IsSound, MeetsConditions};
 ghost use Rattle.clear_laws.specs.declared.verdict.ClearVerdict.TheVariants as verdicts;
 ghost use Rattle.clear_laws.specs.CertificateLaws.{IsBoundedAndClear, FlaggedRunsEndAt, FlaggedRunsEndAsTold, IsNeverFlagged};
 ghost use Rattle.clear_laws.specs.Places.{ArePlaces, AllTellCauses};
 ghost use Rattle.clear_laws.specs.Verdict.{AreAllClear, IsClearVerdict, AreSites, AreNevers, NamesFirstUnclear};
-ghost use Rattle.call_graph.specs.Tasks.{task_of};
+ghost use Rattle.family_edges.specs.Tasks.{task_of};
 ghost use Rattle.local_rules.specs.Site.{bare};
 
 use crate::causes::places_at;
@@ -17,9 +17,9 @@ use crate::telling::{ToldNodes, tell};
 use crate::words::{first_unclear, places, sites_of};
 use avr_model::device::WORDS;
 use avr_model::listed::Listed;
-use call_graph::{Filled, Task, Worked};
 use certificate::Certificate;
 use clear_laws::{ClearVerdict, FlaggedPlace};
+use family_edges::{Filled, Task, WorkedOut};
 use family_graph::worked_of;
 use flash_image::Flash;
 use local_rules::laws::words_have_16_bits;
@@ -32,7 +32,7 @@ use std::alloc::{AllocError, Global};
 pub fn clear_family(
     task: &Task<'_>,
     certificate: &Certificate,
-    family: &Worked,
+    family: &WorkedOut,
 ) -> Result<ClearVerdict, AllocError>
     requires none { task.now.assumptions.now ≡ [] }
     requires filled { IsFilled (task_of task.now) certificate.now.nodes family.now.nodes }
@@ -59,8 +59,8 @@ pub fn clear_family(
 pub fn flagged_sites_in(
     task: &Task<'_>,
     certificate: &Certificate,
-    family: &Worked,
-) -> Result<Listed<u16>, AllocError>
+    family: &WorkedOut,
+) -> Result<Listed<u32>, AllocError>
     requires filled { IsFilled (task_of task.now) certificate.now.nodes family.now.nodes }
     requires meets { MeetsConditions (task_of task.now) certificate.now family.now.nodes }
     requires landings { AreLandings (task_of task.now) family.now.nodes family.now.landings }
@@ -86,7 +86,7 @@ pub fn flagged_sites_in(
 pub fn flagged_places_in(
     task: &Task<'_>,
     certificate: &Certificate,
-    family: &Worked,
+    family: &WorkedOut,
 ) -> Result<Listed<FlaggedPlace>, AllocError>
     requires filled { IsFilled (task_of task.now) certificate.now.nodes family.now.nodes }
     requires meets { MeetsConditions (task_of task.now) certificate.now family.now.nodes }
@@ -108,7 +108,7 @@ pub fn flagged_places_in(
 
 /// The word addresses of vectors that are assumed never to be taken and that some of these nodes may take, ascending and without repeats,
 /// for whichever certificate has these nodes. Taking such a vector is flagged. Fails if memory runs out. Source: own.
-pub fn never_takes_in(task: &Task<'_>, nodes: &Filled) -> Result<Listed<u16>, AllocError>
+pub fn never_takes_in(task: &Task<'_>, nodes: &Filled) -> Result<Listed<u32>, AllocError>
     ensures exact { IfOk result (λ l. (c : _) → IsFilled (task_of task.now) c.nodes nodes.now → AreNevers (task_of task.now) c l) }
 {
     let mut marks = vec![in task.alloc; false; WORDS as usize]?;
@@ -146,7 +146,7 @@ pub fn clear_sites(
 /// under these assumptions, if all conditions hold but that on its schedule. Every run from reset that ends flagged ends at one of them,
 /// or by taking a vector that is assumed never to be taken; without either, no run is flagged. Fails if memory runs out. Each edge is
 /// visited once, and once more for each slot that a condition names. Source: own.
-pub fn flagged_sites(task: &Task<'_>, certificate: &Certificate) -> Result<Listed<u16>, AllocError>
+pub fn flagged_sites(task: &Task<'_>, certificate: &Certificate) -> Result<Listed<u32>, AllocError>
     requires { IsSound (task_of task.now) certificate.now }
     ensures exact { IfOk result (λ sites. AreSites (task_of task.now) certificate.now sites) }
     ensures told { IfOk result (FlaggedRunsEndAt (task_of task.now) certificate.now) }
@@ -180,7 +180,7 @@ pub fn flagged_places(
 
 /// The word addresses of vectors that are assumed never to be taken and that some node of a certificate may take, ascending and without
 /// repeats, if all conditions hold but that on its schedule. Taking such a vector is flagged. Fails if memory runs out. Source: own.
-pub fn never_takes(task: &Task<'_>, certificate: &Certificate) -> Result<Listed<u16>, AllocError>
+pub fn never_takes(task: &Task<'_>, certificate: &Certificate) -> Result<Listed<u32>, AllocError>
     requires { IsSound (task_of task.now) certificate.now }
     ensures exact { IfOk result (λ nevers. AreNevers (task_of task.now) certificate.now nevers) }
 {

@@ -3,7 +3,7 @@
 ghost use Rattle.std.specs.Prelude.{◌≡◌, ◌<◌, Some};
 ghost use Rattle.bit_domain.specs.Tri.{permits};
 ghost use Rattle.bit_domain.specs.TriByte.{tri_at};
-ghost use Rattle.call_graph.specs.Tasks.{task_of};
+ghost use Rattle.family_edges.specs.Tasks.{task_of};
 ghost use Rattle.clear_laws.specs.Clear.{may_reach, written_bits, may_set, may_move};
 ghost use Rattle.local_rules.specs.Writes as writes;
 
@@ -14,13 +14,13 @@ use avr_model::device::Device;
 use avr_model::instruction::Instr;
 use avr_model::rows::Ivsel;
 use bit_domain::{Tri, TriByte};
-use call_graph::Task;
+use family_edges::Task;
 use local_reads::flow::port;
 use local_reads::pointers::{point, step_before};
 use local_rows::registers::bits;
 use local_rows::transfer::{base_register, pointer_register};
 use local_rules::SpView;
-use mask_states::NodeKey;
+use node_keys::NodeKey;
 
 // Whether the slot is one of a running frame with this offset.
 fn is_own_slot(slot: Option<u16>, offset: u16) -> bool

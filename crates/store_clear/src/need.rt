@@ -7,27 +7,27 @@ ghost use Rattle.avr_model.specs.Sites.{instruction_at};
 ghost use Rattle.avr_model.specs.Step as steps;
 ghost use Rattle.clear_laws.specs.Clear.{stored_bits, is_guarded, is_flagged_address, is_address_harmless, is_reach_harmless, is_aim_harmless, permits_pair, is_target_listed, are_targets_listed, is_transfer_listed, calls_cut, may_move, is_clear_by, store_at, is_slot_harmless};
 ghost use Rattle.clear_laws.specs.Needs.{meets};
-ghost use Rattle.call_graph.specs.Tasks.{task_of};
+ghost use Rattle.family_edges.specs.Tasks.{task_of};
 ghost use Rattle.store_clear.specs.Stores.{task_in, store_of};
-ghost use Rattle.mask_states.specs.Keys.{offset_of};
+ghost use Rattle.node_keys.specs.Keys.{offset_of};
 
 use crate::aims::aim;
 use crate::calls::calls_cut;
 use crate::moving::may_move;
 use crate::numbers::are_addresses_harmless;
-use crate::store::Store;
+use crate::store::GivenStore;
 use abs_state::AbsState;
 use avr_model::instruction::{Base, Instr, LowRegister};
 use bit_domain::TriByte;
-use call_graph::Task;
 use clear_laws::slots::Asks;
 use clear_laws::stores::{Aim, Reach, Span};
+use family_edges::Task;
 use flash_image::Flash;
 use local_reads::members::permits_number;
 use local_reads::pointers::has;
 use local_rows::registers::{bits, pair};
 use local_rows::transfer::base_register;
-use mask_states::{NodeKey, may_enable_barred};
+use node_keys::{NodeKey, may_enable_barred};
 use vector_table::{is_core, is_protected};
 
 // Whether this is `ijmp` or `icall`.
@@ -41,8 +41,15 @@ pub(crate) fn is_indirect(instr: &Instr) -> bool
     }
 }
 
-// Whether a list has this address.
+// Whether a list has this data address.
 fn lists(items: &[u16], item: u16) -> bool
+    ensures { result ≡ assumed.lists items.now item }
+{
+    items.iter().any(|other| *other == item)
+}
+
+// Whether a list has this word address.
+fn lists_word(items: &[u32], item: u32) -> bool
     ensures { result ≡ assumed.lists items.now item }
 {
     items.iter().any(|other| *other == item)
@@ -60,7 +67,7 @@ pub(crate) fn stored_bits(state: &AbsState, instr: &Instr) -> TriByte
 }
 
 // Whether the instruction is `st` or `std` at a site that isn't fixed.
-pub(crate) fn is_unfixed(store: &Store<'_>) -> bool
+pub(crate) fn is_unfixed(store: &GivenStore<'_>) -> bool
     ensures { result ≡ (steps.is_pointer_store store.now.instr.now && not (assumed.is_fixed_site store.now.flash.now store.now.assumptions.now store.now.pc)) }
 {
     matches!(store.instr, Instr::Std(..) | Instr::St(..))
@@ -68,7 +75,7 @@ pub(crate) fn is_unfixed(store: &Store<'_>) -> bool
 }
 
 // Whether writing the store's byte to this protected address is flagged, at a site that isn't fixed.
-pub(crate) fn is_guarded(store: &Store<'_>, address: u16) -> bool
+pub(crate) fn is_guarded(store: &GivenStore<'_>, address: u16) -> bool
     ensures { result ≡ is_guarded (device_of store.now.flash.now) store.now.assumptions.now store.now.pc (stored_bits store.now.state.now store.now.instr.now) address }
 {
     let assumptions = store.assumptions;
@@ -82,14 +89,14 @@ pub(crate) fn is_guarded(store: &Store<'_>, address: u16) -> bool
 }
 
 // Whether writing this address at this word may be flagged as protected.
-pub(crate) fn is_flagged_address(store: &Store<'_>, address: u16) -> bool
+pub(crate) fn is_flagged_address(store: &GivenStore<'_>, address: u16) -> bool
     ensures { result ≡ is_flagged_address (task_in store.now) (store_of store.now) address }
 {
     is_unfixed(store) && is_guarded(store, address)
 }
 
 // Whether the address is no pushed byte's and a write of it isn't flagged, if the stack takes at most this many bytes.
-pub(crate) fn is_address_harmless(store: &Store<'_>, bound: u16, address: u16) -> bool
+pub(crate) fn is_address_harmless(store: &GivenStore<'_>, bound: u16, address: u16) -> bool
     requires { bound ≤ size_of (device_of store.now.flash.now) }
     ensures { result ≡ is_address_harmless (task_in store.now) bound (store_of store.now) address }
 {
@@ -101,7 +108,7 @@ pub(crate) fn is_address_harmless(store: &Store<'_>, bound: u16, address: u16) -
 }
 
 // Whether a store to one of these addresses writes neither a live byte nor a flagged address.
-fn is_reach_harmless(store: &Store<'_>, bound: u16, reach: Reach) -> bool
+fn is_reach_harmless(store: &GivenStore<'_>, bound: u16, reach: Reach) -> bool
     requires { bound ≤ size_of (device_of store.now.flash.now) }
     ensures { result ≡ is_reach_harmless (task_in store.now) bound (store_of store.now) reach }
 {
@@ -120,7 +127,7 @@ fn is_reach_harmless(store: &Store<'_>, bound: u16, reach: Reach) -> bool
 }
 
 // The condition of a store.
-fn asks_of_aim(store: &Store<'_>, bound: u16, key: &NodeKey, aim: Option<Aim>) -> Asks
+fn asks_of_aim(store: &GivenStore<'_>, bound: u16, key: &NodeKey, aim: Option<Aim>) -> Asks
     requires at { store.now.pc ≡ key.now.pc }
     requires small { bound ≤ size_of (device_of store.now.flash.now) }
     ensures { (held : ℕ → Bool) → is_aim_harmless (task_in store.now) bound (store_at key.now.pc store.now.state.now store.now.instr.now) (is_slot_harmless (offset_of key.now.sp) held) aim ≡ meets result held }
@@ -151,15 +158,15 @@ fn permits_pair(state: &AbsState, r: LowRegister, number: u16) -> bool
 }
 
 // Whether the target of Z with this number is listed, if the number is permitted.
-fn is_target_listed(flash: &Flash, state: &AbsState, listed: &[u16], z: u16) -> bool
+fn is_target_listed(flash: &Flash, state: &AbsState, listed: &[u32], z: u16) -> bool
     ensures { result ≡ is_target_listed (device_of flash.now) state.now listed.now z }
 {
     let permitted = permits_pair(state, base_register(Base::Z), z);
-    !permitted || lists(listed, flash.device().wrap(u32::from(z)))
+    !permitted || lists_word(listed, flash.device().wrap(u32::from(z)))
 }
 
 // Whether all possible targets of Z are listed.
-fn are_targets_listed(flash: &Flash, state: &AbsState, listed: &[u16]) -> bool
+fn are_targets_listed(flash: &Flash, state: &AbsState, listed: &[u32]) -> bool
     ensures { result ≡ are_targets_listed (device_of flash.now) state.now (Some listed.now) }
 {
     for z in 0..65536u32 {
@@ -171,7 +178,7 @@ fn are_targets_listed(flash: &Flash, state: &AbsState, listed: &[u16]) -> bool
 }
 
 // Whether an indirect transfer goes to listed words only.
-fn is_transfer_listed(task: &Task<'_>, pc: u16, state: &AbsState, instr: &Instr) -> bool
+fn is_transfer_listed(task: &Task<'_>, pc: u32, state: &AbsState, instr: &Instr) -> bool
     ensures { result ≡ is_transfer_listed (task_of task.now) pc state.now instr.now }
 {
     if !is_indirect(instr) {
@@ -202,7 +209,7 @@ pub(crate) fn asked_by(task: &Task<'_>, bound: u16, key: &NodeKey, state: &AbsSt
         Some(instr) => {
             let aim = aim(task.flash.device(), key, state, &instr);
             if stays(task, key, state, &instr) {
-                let store = Store {
+                let store = GivenStore {
                     flash: task.flash,
                     assumptions: task.assumptions,
                     pc: key.pc,

@@ -8,14 +8,14 @@ ghost use Rattle.store_clear.specs.Numbers.{is_range_harmless, is_number_harmles
 ghost use Rattle.store_clear.specs.Stores.{task_in, store_of};
 
 use crate::need::is_address_harmless;
-use crate::store::Store;
+use crate::store::GivenStore;
 use avr_model::instruction::{Instr, LowRegister};
 use flash_image::Flash;
 use local_reads::members::permits_bytes;
 use local_reads::pointers::step_before;
 use local_rows::transfer::{base_register, pointer_register};
 use pair_domain::{Interval, PairFacts};
-use pair_told::told::interval_of;
+use pair_rows::told::interval_of;
 
 // Whether the addresses from the first to the last are in SRAM below the stack's reach, or above SRAM. If the last is less than the
 // first, they wrap around the end of data space.
@@ -29,7 +29,13 @@ fn is_range_harmless(flash: &Flash, bound: u16, first: u16, last: u16) -> bool
 }
 
 // Whether the bytes of registers `r` and `r + 1` exclude the number, or the address `up` further is harmless.
-fn is_number_harmless(store: &Store<'_>, bound: u16, r: LowRegister, up: u16, number: u16) -> bool
+fn is_number_harmless(
+    store: &GivenStore<'_>,
+    bound: u16,
+    r: LowRegister,
+    up: u16,
+    number: u16,
+) -> bool
     requires { bound ≤ size_of (device_of store.now.flash.now) }
     ensures { result ≡ is_number_harmless (is_address_harmless (task_in store.now) bound (store_of store.now)) store.now.state.now r up number }
 {
@@ -40,7 +46,7 @@ fn is_number_harmless(store: &Store<'_>, bound: u16, r: LowRegister, up: u16, nu
 // Whether, for each possible number of registers `r` and `r + 1` in an interval, the address `up` further is harmless. Other numbers are
 // impossible.
 fn is_interval_harmless(
-    store: &Store<'_>,
+    store: &GivenStore<'_>,
     bound: u16,
     r: LowRegister,
     up: u16,
@@ -66,7 +72,7 @@ fn is_interval_harmless(
 
 // Whether, for each possible number of registers `r` and `r + 1`, the address `up` further is harmless.
 fn are_numbers_harmless(
-    store: &Store<'_>,
+    store: &GivenStore<'_>,
     bound: u16,
     facts: &PairFacts,
     r: LowRegister,
@@ -81,7 +87,7 @@ fn are_numbers_harmless(
 }
 
 // Whether pairs are followed, and each possible address of a store is harmless, if the stack takes at most this many bytes.
-pub(crate) fn are_addresses_harmless(store: &Store<'_>, bound: u16) -> bool
+pub(crate) fn are_addresses_harmless(store: &GivenStore<'_>, bound: u16) -> bool
     requires { bound ≤ size_of (device_of store.now.flash.now) }
     ensures { result ≡ are_addresses_harmless (task_in store.now) bound (store_of store.now) }
 {

@@ -1,18 +1,18 @@
 //! The edges along which slots spread, by the numbers of nodes.
 
 ghost use Rattle.std.specs.Prelude.{◌≡◌, ◌++◌, map, IfOk, OnOk};
-ghost use Rattle.call_graph.specs.Landings.{AreLandings};
+ghost use Rattle.family_edges.specs.Landings.{AreLandings};
 ghost use Rattle.clear_laws.specs.Held as held;
 ghost use Rattle.clear_laws.specs.Links.{offsets_of};
 ghost use Rattle.store_clear.specs.Settling.{links_by, seeds_by, AreSlotSeeds, SpreadsAlong};
-ghost use Rattle.call_graph.specs.Tasks.{task_of};
+ghost use Rattle.family_edges.specs.Tasks.{task_of};
 
 use avr_model::instruction::Instr;
 use avr_model::listed::Listed;
-use call_graph::{Filled, Landing, Task, Worked};
 use clear_laws::slots::SlotSeed;
 use edge_rules::edge::is_entry;
-use mask_states::EdgeKind;
+use family_edges::{Filled, Landing, Task, WorkedOut};
+use node_keys::EdgeKind;
 use std::alloc::{AllocError, Global};
 
 // The edges along which slots spread, by the numbers of nodes.
@@ -62,7 +62,7 @@ fn offsets_of(alloc: Global, nodes: &Filled) -> Result<Listed<u16>, AllocError>
 }
 
 // Whether this word pushes a guarded byte.
-fn is_guarded_push(task: &Task<'_>, pc: u16) -> bool
+fn is_guarded_push(task: &Task<'_>, pc: u32) -> bool
     ensures { result ≡ held.is_guarded_push (task_of task.now) pc }
 {
     match task.flash.instruction(pc) {
@@ -94,7 +94,7 @@ fn add_seeds(
 }
 
 // The slots that guarded pushes add.
-fn all_seeds(task: &Task<'_>, family: &Worked) -> Result<Listed<SlotSeed>, AllocError>
+fn all_seeds(task: &Task<'_>, family: &WorkedOut) -> Result<Listed<SlotSeed>, AllocError>
     requires { AreLandings (task_of task.now) family.now.nodes family.now.landings }
     ensures { IfOk result (AreSlotSeeds (task_of task.now) family.now.nodes) }
 {
@@ -110,7 +110,7 @@ fn all_seeds(task: &Task<'_>, family: &Worked) -> Result<Listed<SlotSeed>, Alloc
 }
 
 // The edges along which slots spread. No local part is computed.
-pub(crate) fn frames_of(task: &Task<'_>, family: &Worked) -> Result<Frames, AllocError>
+pub(crate) fn frames_of(task: &Task<'_>, family: &WorkedOut) -> Result<Frames, AllocError>
     requires { AreLandings (task_of task.now) family.now.nodes family.now.landings }
     ensures { IfOk result (λ f. SpreadsAlong (task_of task.now) family.now.nodes f.links f.offsets f.seeds) }
 {

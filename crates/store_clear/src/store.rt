@@ -7,13 +7,13 @@ use vector_table::Assumptions;
 
 // An instruction at a word, with the firmware, the assumptions, and the state there.
 #[derive(Clone, Copy)]
-pub(crate) struct Store<'a> {
+pub(crate) struct GivenStore<'a> {
     // The words of flash.
     pub flash: &'a Flash,
     // The assumptions.
     pub assumptions: &'a Assumptions,
     // The word.
-    pub pc: u16,
+    pub pc: u32,
     // The state of a node there.
     pub state: &'a AbsState,
     // The instruction.

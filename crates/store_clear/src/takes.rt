@@ -5,10 +5,10 @@ ghost use Rattle.avr_model.specs.Devices.{device_of};
 ghost use Rattle.avr_model.specs.Image.{WORDS};
 ghost use Rattle.avr_model.specs.Vectors.{last_vector};
 ghost use Rattle.store_clear.specs.Takes.{AreMarkedBeside, is_take, may_take, IsTakenAt, IsTakenAtAll};
-ghost use Rattle.call_graph.specs.Tasks.{task_of};
+ghost use Rattle.family_edges.specs.Tasks.{task_of};
 
-use call_graph::{Filled, Task};
-use mask_states::NodeKey;
+use family_edges::{Filled, Task};
+use node_keys::NodeKey;
 
 // Whether the vector is enabled, and its word has a `never` line.
 fn is_take(task: &Task<'_>, key: &NodeKey, v: u8) -> bool
@@ -28,7 +28,7 @@ fn mark_vectors(task: &Task<'_>, key: &NodeKey, marks: &mut [bool])
     let device = task.flash.device();
     for n in 0..device.last_vector() - 1 {
         if is_take(task, key, n + 2) {
-            marks[usize::from(device.vector_word(n + 2))] = true;
+            marks[device.vector_word(n + 2) as usize] = true;
         }
     }
 }

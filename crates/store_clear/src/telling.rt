@@ -2,16 +2,16 @@
 
 ghost use Rattle.std.specs.Prelude.{◌≡◌, ◌≤◌, IfOk};
 ghost use Rattle.avr_model.specs.Devices.{device_of, size_of};
-ghost use Rattle.call_graph.specs.Landings.{AreLandings};
+ghost use Rattle.family_edges.specs.Landings.{AreLandings};
 ghost use Rattle.store_clear.specs.Settling.{passes, AreAsked, AreTold};
-ghost use Rattle.call_graph.specs.Tasks.{task_of};
+ghost use Rattle.family_edges.specs.Tasks.{task_of};
 
 use crate::need::asked_by;
 use crate::settling::settle;
 use crate::spreading::frames_of;
-use call_graph::{Filled, Task, Worked};
 use certificate::Certificate;
 use clear_laws::slots::Asks;
+use family_edges::{Filled, Task, WorkedOut};
 use std::alloc::AllocError;
 
 // Nodes with the conditions that remain; a node without one is clear.
@@ -50,7 +50,7 @@ fn asked(task: &Task<'_>, bound: u16, nodes: &Filled) -> Result<Vec<Asks>, Alloc
 pub(crate) fn tell(
     task: &Task<'_>,
     certificate: &Certificate,
-    family: &Worked,
+    family: &WorkedOut,
 ) -> Result<Vec<Asks>, AllocError>
     requires small { certificate.now.bound ≤ size_of (device_of task.now.flash.now) }
     requires landings { AreLandings (task_of task.now) family.now.nodes family.now.landings }

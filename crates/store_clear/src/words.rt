@@ -32,27 +32,41 @@ fn mark_words(told: &ToldNodes<'_>, marks: &mut [bool])
     let _count = told.nodes.count();
     for at in 0..told.asks.len() {
         if !passes(told.asks[at]) {
-            marks[usize::from(told.nodes.key(at).pc)] = true;
+            marks[told.nodes.key(at).pc as usize] = true;
         }
     }
 }
 
-// The places of the marks, ascending.
-pub(crate) fn places(alloc: Global, marks: &[bool]) -> Result<Listed<u16>, AllocError>
-    requires { length marks.now ≤ 65536 }
+// The places of the marks of words, ascending.
+pub(crate) fn places(alloc: Global, marks: &[bool]) -> Result<Listed<u32>, AllocError>
+    requires { length marks.now ≤ WORDS }
     ensures { IfOk result (λ places. places ≡ places_of marks.now) }
 {
     let mut places = Listed::empty(alloc);
     for at in 0..marks.len() {
         if marks[at] {
-            places.push(at as u16)?;
+            places.push(at as u32)?;
         }
     }
     Ok(places)
 }
 
+// The places of the marks of data addresses, ascending.
+pub(crate) fn addresses(alloc: Global, marks: &[bool]) -> Result<Listed<u16>, AllocError>
+    requires { length marks.now ≤ 65536 }
+    ensures { IfOk result (λ addresses. addresses ≡ places_of marks.now) }
+{
+    let mut addresses = Listed::empty(alloc);
+    for at in 0..marks.len() {
+        if marks[at] {
+            addresses.push(at as u16)?;
+        }
+    }
+    Ok(addresses)
+}
+
 // The words at which some node isn't clear, ascending and without repeats.
-pub(crate) fn sites_of(alloc: Global, told: &ToldNodes<'_>) -> Result<Listed<u16>, AllocError>
+pub(crate) fn sites_of(alloc: Global, told: &ToldNodes<'_>) -> Result<Listed<u32>, AllocError>
     requires { length told.now.asks.now ≡ length told.now.nodes.now }
     ensures { IfOk result (λ sites. AreSitesTold told.now.nodes.now told.now.asks.now sites) }
 {

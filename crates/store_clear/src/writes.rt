@@ -5,22 +5,22 @@ ghost use Rattle.avr_model.specs.Assumptions as assumed;
 ghost use Rattle.avr_model.specs.Devices.{device_of, size_of};
 ghost use Rattle.avr_model.specs.Step as steps;
 ghost use Rattle.clear_laws.specs.Aims.{may_write};
-ghost use Rattle.call_graph.specs.Tasks.{task_of};
+ghost use Rattle.family_edges.specs.Tasks.{task_of};
 ghost use Rattle.clear_laws.specs.Causes.{may_write_protected, may_write_some_protected, may_write_stack, may_leave, may_write_live};
 ghost use Rattle.store_clear.specs.Stores.{task_in, store_of};
 
 use crate::calls::calls_cut;
 use crate::moving::may_move;
 use crate::need::{is_guarded, is_indirect, is_unfixed};
-use crate::store::Store;
+use crate::store::GivenStore;
 use abs_state::AbsState;
 use avr_model::instruction::Instr;
-use call_graph::Task;
+use family_edges::Task;
 use flash_image::Flash;
 use local_reads::members::permits_number;
 use local_reads::pointers::step_before;
 use local_rows::transfer::{base_register, pointer_register};
-use mask_states::NodeKey;
+use node_keys::NodeKey;
 
 // Whether a store's byte may go to this address.
 pub(crate) fn may_write(state: &AbsState, instr: &Instr, address: u16) -> bool
@@ -43,7 +43,7 @@ pub(crate) fn may_write(state: &AbsState, instr: &Instr, address: u16) -> bool
 // Whether the byte of a store at this word may go to this data address, and the write is flagged as one of a protected address. `unfixed`
 // says whether it is a pointer store at a site that isn't fixed.
 #[tactic(auto, using(crate::proofs::Order::other_order))]
-pub(crate) fn may_write_protected(store: &Store<'_>, unfixed: bool, address: u16) -> bool
+pub(crate) fn may_write_protected(store: &GivenStore<'_>, unfixed: bool, address: u16) -> bool
     requires { unfixed ≡ (steps.is_pointer_store store.now.instr.now && not (assumed.is_fixed_site store.now.flash.now store.now.assumptions.now store.now.pc)) }
     ensures { result ≡ may_write_protected (task_in store.now) (store_of store.now) address }
 {
@@ -52,7 +52,7 @@ pub(crate) fn may_write_protected(store: &Store<'_>, unfixed: bool, address: u16
 
 // Whether some data address is so.
 #[tactic(auto, using(crate::proofs::Io::most_io))]
-fn may_write_some_protected(store: &Store<'_>) -> bool
+fn may_write_some_protected(store: &GivenStore<'_>) -> bool
     ensures { result ≡ may_write_some_protected (task_in store.now) (store_of store.now) }
 {
     let unfixed = is_unfixed(store);
@@ -87,7 +87,12 @@ fn may_leave(task: &Task<'_>, key: &NodeKey, state: &AbsState, instr: &Instr) ->
 
 // Whether a store at this node that isn't harmless may write a pushed byte, if the stack takes at most this many bytes: it may reach the
 // stack, or pairs aren't followed and it has no other cause.
-pub(crate) fn may_write_live(task: &Task<'_>, bound: u16, key: &NodeKey, store: &Store<'_>) -> bool
+pub(crate) fn may_write_live(
+    task: &Task<'_>,
+    bound: u16,
+    key: &NodeKey,
+    store: &GivenStore<'_>,
+) -> bool
     requires small { bound ≤ size_of (device_of task.now.flash.now) }
     requires same { task_in store.now ≡ task_of task.now }
     ensures { result ≡ may_write_live (task_of task.now) bound key.now (store_of store.now) }

@@ -2,5 +2,5 @@
 use Rattle.std.specs.Prelude.{ℕ}
 
 -- the most choices of a trial
-unfoldable pub most_choices : ℕ
-most_choices = 200000
+unfoldable pub most_trial_steps : ℕ
+most_trial_steps = 200000

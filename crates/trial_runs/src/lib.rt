@@ -2,11 +2,11 @@
 #![tactic(auto)]
 
 ghost use Rattle.std.specs.Prelude.{◌≡◌};
-ghost use Rattle.trial_runs.specs.Length.{most_choices};
+ghost use Rattle.trial_runs.specs.Length.{most_trial_steps};
 
 /// The most choices of a trial.
-pub fn most_choices() -> u32
-    ensures { result ≡ most_choices }
+pub fn most_trial_steps() -> u32
+    ensures { result ≡ most_trial_steps }
 {
     200_000
 }

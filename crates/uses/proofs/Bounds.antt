@@ -6,7 +6,7 @@ use Rattle.avr_model.specs.declared.choice.Choice.{Choice}
 use Rattle.avr_model.specs.declared.choice.Choice.TheVariants.{Go}
 use Rattle.avr_model.specs.declared.assumption.Entry.{Entry}
 use Rattle.avr_model.specs.declared.device.Device.{Device}
-use Rattle.avr_model.specs.Devices.{Program, device_of}
+use Rattle.avr_model.specs.Devices.{Image, device_of}
 use Rattle.avr_model.specs.State.{IsReset, filled, depth_of_state}
 use Rattle.avr_model.specs.Run.{Machine, IsRun, Bounded, starting, depth_of}
 use Rattle.avr_machine.specs.declared.menu.Menu.{Menu}
@@ -31,17 +31,17 @@ module _ {F : Type 0} (g : Mut F (Bor Menu × Unit {0}) Choice) (asks : (f : F) 
 below : (depth a b bound : ℕ) → depth ≡ max a b → a ≤ bound → b ≤ bound → depth ≤ bound
 below depth a b bound is first second = grind (arith, is, first, second)
 
-pub trial_bounded : DepthIsKept → (words : Program) (A : List Entry) (m end : Machine) (cs : List Choice) (device : Device) (depth : ℕ)
-    → m ≡ starting (filled device 0) → IsReset device m.state → device ≡ device_of words → IsRun words A cs m.state → end ≡ machine_after words A cs m → depth ≡ end.depth
-    → (bound : ℕ) → Bounded words A bound → depth ≤ bound
-trial_bounded law words A m end cs device depth start reset is run after ends bound h =
-    below depth m.depth (depth_of words A cs m.state) bound
-    (ends ∙ ap (λ (x : Machine). x.depth) after ∙ law words A cs m (subst (λ (x : Machine). depth_of_state x.state ≤ x.depth) (sym start) (omega arith)) run)
+pub trial_bounded : DepthIsKept → (image : Image) (A : List Entry) (m end : Machine) (cs : List Choice) (device : Device) (depth : ℕ)
+    → m ≡ starting (filled device 0) → IsReset device m.state → device ≡ device_of image → IsRun image A cs m.state → end ≡ machine_after image A cs m → depth ≡ end.depth
+    → (bound : ℕ) → Bounded image A bound → depth ≤ bound
+trial_bounded law image A m end cs device depth start reset is run after ends bound h =
+    below depth m.depth (depth_of image A cs m.state) bound
+    (ends ∙ ap (λ (x : Machine). x.depth) after ∙ law image A cs m (subst (λ (x : Machine). depth_of_state x.state ≤ x.depth) (sym start) (omega arith)) run)
     (subst (λ (x : Machine). x.depth ≤ bound) (sym start) (omega arith))
     (h.depth m.state cs (subst (λ d. IsReset d m.state) is reset) run)
 
-pub replay_bounded : ReplaysAreRuns → (device : Device) (words : Program) (A : List Entry) (plan : Plan) (r : ReplayReport) → plan.fill < 256 → AreRuns device None most_choices plan.runs
-    → told (Ok r) ≡ replay_of words A plan → (bound : ℕ) → Bounded words A bound → r.depth ≤ bound
-replay_bounded law device words A plan r small fit is bound h =
-    let runs = law device words A plan (record { steps = r.steps; depth = r.depth; stop = r.stop }) (record { fill_is_byte = small; runs_fit = fit }) (sym is) in
+pub replay_bounded : ReplaysAreRuns → (device : Device) (image : Image) (A : List Entry) (plan : Plan) (r : ReplayReport) → plan.fill < 256 → AreRuns device None most_choices plan.runs
+    → told (Ok r) ≡ replay_of image A plan → (bound : ℕ) → Bounded image A bound → r.depth ≤ bound
+replay_bounded law device image A plan r small fit is bound h =
+    let runs = law device image A plan (record { steps = r.steps; depth = r.depth; stop = r.stop }) (record { fill_is_byte = small; runs_fit = fit }) (sym is) in
     subst (λ n. n ≤ bound) (sym runs.depth) (h.depth _ runs.choices runs.reset runs.run)

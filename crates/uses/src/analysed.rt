@@ -4,10 +4,10 @@ ghost use Rattle.std.specs.Prelude.{◌≤◌, IfOk};
 ghost use Rattle.avr_model.specs.Run.{Bounded};
 ghost use Rattle.certificate.specs.Claims.{Claim};
 ghost use Rattle.round_rules.specs.Solutions.{IsShown};
-ghost use Rattle.call_graph.specs.Tasks.{task_of};
+ghost use Rattle.family_edges.specs.Tasks.{task_of};
 
-use call_graph::Task;
 use cert_check::laws::sound_certificates_bound_every_run;
+use family_edges::Task;
 use fixpoint::{Refusal, solve};
 use local_rules::laws::words_have_16_bits;
 

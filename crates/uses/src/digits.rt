@@ -1,10 +1,10 @@
-//! Shows `sb_base`.
+//! Shows `text_base`.
 
 ghost use Rattle.std.specs.Prelude.{◌≡◌, IfOk, Ok};
 
-use sb_base::laws::spelling;
-use sb_base::{DigitFault, LineWriter, read_dec};
 use std::alloc::{AllocError, Global};
+use text_base::laws::spelling;
+use text_base::{DigitFault, LineWriter, read_dec};
 
 /// Writes a number in decimal and reads it back, which gives that number.
 pub fn read_back(alloc: Global, number: u64) -> Result<Result<u64, DigitFault>, AllocError>

@@ -3,9 +3,9 @@
 ghost use Rattle.std.specs.Prelude.{IfOk, IfSome};
 ghost use Rattle.avr_model.specs.Run.{Bounded};
 
-use call_graph::Task;
 use cert_check::{Judgement, judge};
 use certificate::Certificate;
+use family_edges::Task;
 use std::alloc::AllocError;
 
 /// The bound of a certificate, which every run of the firmware keeps. `None` if the checker rejects it.

@@ -15,7 +15,7 @@ pub fn listed(
     device: Device,
     word: u16,
     next: u16,
-    at: u16,
+    at: u32,
 ) -> Result<Option<Vec<u8>>, AllocError>
     ensures text { IfOk result (λ o. IfSome o (λ text. (instr : Instr) × IsDecoded word next instr × (text.items ≡ text_of device instr at))) }
     ensures none { IfOk result (λ o. o ≡ None → rows_of word ≡ 0) }

@@ -1,13 +1,13 @@
-//! Shows `indirect_targets`.
+//! Shows `assumption_files`.
 
 ghost use Rattle.std.specs.Prelude.{◌≡◌, true, IfOk};
 ghost use Rattle.std.specs.List.{All};
 ghost use Rattle.vector_table.specs.Entries.{fits_device};
 
+use assumption_files::{read, write};
 use avr_model::device::Device;
-use indirect_targets::{read, write};
-use sb_base::LineWriter;
 use std::alloc::{AllocError, Global};
+use text_base::LineWriter;
 use vector_table::Assumptions;
 
 /// Writes an assumption list that fits a device and reads it back, which gives that list. Fails if memory runs out.
@@ -21,7 +21,7 @@ pub fn read_back(
 {
     let _entries = list.entries();
     let mut out = LineWriter::new(alloc);
-    write(list, &mut out)?;
+    write(device, list, &mut out)?;
     let text = out.finish();
     match read(alloc, device, &text) {
         Ok(again) => Ok(again),

@@ -1,11 +1,11 @@
-//! Shows `nesting_bound`.
+//! Shows `instance_graph`.
 
 ghost use Rattle.std.specs.Prelude.{◌≡◌, ◌≤◌, ℕ, None, IfOk, IfSome};
-ghost use Rattle.nesting_bound.specs.Graph.{IsGraph, ReachesBy};
-ghost use Rattle.nesting_bound.specs.Laws.{Nests};
+ghost use Rattle.instance_graph.specs.Graph.{IsGraph, ReachesBy};
+ghost use Rattle.instance_graph.specs.Laws.{Nests};
 
-use nesting_bound::laws::needs_bound_nesting;
-use nesting_bound::{ComposeFault, Graph, compose};
+use instance_graph::laws::needs_bound_nesting;
+use instance_graph::{ComposeFault, Graph, compose};
 use std::alloc::{AllocError, Global};
 
 /// A bound on how deep calls and interrupts nest from the root, if a return address takes `back` bytes. `None` if an instance reaches itself.

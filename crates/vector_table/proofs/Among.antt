@@ -23,13 +23,13 @@ all_below_at (suc n) p k h lt =
       | inr other ↦ all_below_at n p k parts.0 (omega arith)
     ]
 
-pub among_from : (n m : ℕ) → ((k : ℕ) → k < 64 → bit_at n k ≤ bit_at m k) → are_among n m ≡ true
+pub among_from : (n m : ℕ) → ((k : ℕ) → k < 128 → bit_at n k ≤ bit_at m k) → are_among n m ≡ true
 unfolding are_among
-among_from n m h = all_below_from 64 (λ k. nat_le (bit_at n k) (bit_at m k)) (λ k lt. le-leb (bit_at n k) (bit_at m k) (h k lt))
+among_from n m h = all_below_from 128 (λ k. nat_le (bit_at n k) (bit_at m k)) (λ k lt. le-leb (bit_at n k) (bit_at m k) (h k lt))
 
-pub among_at : (n m k : ℕ) → are_among n m ≡ true → k < 64 → bit_at n k ≤ bit_at m k
+pub among_at : (n m k : ℕ) → are_among n m ≡ true → k < 128 → bit_at n k ≤ bit_at m k
 unfolding are_among
-among_at n m k h lt = leb-true (bit_at n k) (bit_at m k) (all_below_at 64 (λ k. nat_le (bit_at n k) (bit_at m k)) k h lt)
+among_at n m k h lt = leb-true (bit_at n k) (bit_at m k) (all_below_at 128 (λ k. nat_le (bit_at n k) (bit_at m k)) k h lt)
 
 kept_bit : (n m k : ℕ) → bit_and n m ≡ n → bit_at n k ≤ bit_at m k
 kept_bit n m k same =
@@ -38,14 +38,14 @@ kept_bit n m k same =
     let most = min-le_right (bit_at n k) (bit_at m k) in
     omega arith
 
-pub among_coded : (n m : ℕ) → n < 2 ^ 64 → m < 2 ^ 64 → eqb (bit_and n m) n ≡ are_among n m
+pub among_coded : (n m : ℕ) → n < 2 ^ 128 → m < 2 ^ 128 → eqb (bit_and n m) n ≡ are_among n m
 among_coded n m small others =
     elim (cases_eq (bit_and n m) n) [
       | inl same ↦ eq-eqb (bit_and n m) n same ∙ sym (among_from n m (λ k lt. kept_bit n m k same))
       | inr other ↦
           elim (cases_Bool (are_among n m)) [
             | inl each ↦
-                absurd (other (same_from_bits_below 64 (bit_and n m) n (and_lt 64 n m small others) small
+                absurd (other (same_from_bits_below 128 (bit_and n m) n (and_lt 128 n m small others) small
                 (λ k lt. bit_at_and n m k ∙ min-eq_left (among_at n m k each lt))))
             | inr none ↦ ne_eqb (bit_and n m) n other ∙ sym none
           ]

@@ -20,7 +20,7 @@ pub fn is_barred(device: Device, assumptions: &Assumptions, v: u8) -> bool
 pub fn enables_barred(device: Device, assumptions: &Assumptions, address: u16, byte: u8) -> bool
     ensures { result ≡ enables_barred device assumptions.now address byte }
 {
-    for place in device.places() {
+    for place in device.enable_places() {
         if place.address == address
             && has_common(byte, place.mask)
             && is_barred(device, assumptions, place.vector)

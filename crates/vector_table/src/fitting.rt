@@ -10,14 +10,14 @@ use avr_model::assumption::Entry;
 use avr_model::device::Device;
 
 /// Whether a word address is one of the device's texts. Source: own.
-pub fn is_word(device: Device, word: u16) -> bool
+pub fn is_word(device: Device, word: u32) -> bool
     ensures { result ≡ is_word_of device word }
 {
-    u32::from(word) < device.limit()
+    word < device.limit()
 }
 
 /// Whether all are word addresses of the device's texts. Source: own.
-pub fn are_all_words(device: Device, items: &[u16]) -> bool
+pub fn are_all_words(device: Device, items: &[u32]) -> bool
     ensures { result ≡ list_all (is_word_of device) items.now }
 {
     for item in items {

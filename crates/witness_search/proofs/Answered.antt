@@ -3,13 +3,13 @@ use Rattle.std.proofs.Common.{inl, refl, sym, ap, subst, ◌∙◌, ◌≡◌, �
 use Rattle.std.specs.Slice.{IsItemAt}
 use Rattle.std.proofs.lemmas.List.{append-nil}
 use Rattle.std.proofs.lemmas.Option.{slice_get_past}
-use Rattle.avr_model.specs.Devices.{Program}
-use Rattle.nesting_bound.specs.declared.graph.Way.{Way}
-use Rattle.mask_states.specs.Keys.{entry_key}
+use Rattle.avr_model.specs.Devices.{Image}
+use Rattle.instance_graph.specs.declared.graph.GraphWay.{GraphWay}
+use Rattle.node_keys.specs.Keys.{entry_key}
 use Rattle.local_rules.specs.declared.local.Node.{Node}
 use Rattle.edge_rules.specs.Edges.{entering}
 use Rattle.edge_rules.specs.Expansion.{IsFilled}
-use Rattle.nesting_bound.specs.declared.graph.Link.{Link}
+use Rattle.instance_graph.specs.declared.graph.Link.{Link}
 use Rattle.family_graph.specs.Graphs.{IsPeopled, AreRooted}
 use Rattle.family_graph.specs.Chains.{IsDeepest}
 use Rattle.witness_replay.specs.Spelling.{Plan}
@@ -25,15 +25,15 @@ attained_as task bound None h = tt
 attained_as task bound (Some plan) h = h
 
 -- without a node there is no interrupt
-none_there : (words : Program) (o : Option Node) (depth : ℕ) (way : Option Way) → o ≡ None → interrupt_at words o depth way ≡ []
-none_there words None depth way e = refl
-none_there words (Some n) depth way e = absurd cc
+none_there : (image : Image) (o : Option Node) (depth : ℕ) (way : Option GraphWay) → o ≡ None → interrupt_at image o depth way ≡ []
+none_there image None depth way e = refl
+none_there image (Some n) depth way e = absurd cc
 
-pub none_added : (words : Program) (nodes xs : List Node) (link : Link) (points : List Waypoint) (r : Option (Bor Node)) → IsItemAt xs link.node r → r ≡ None → xs ≡ nodes → points ≡ points ++ interrupt_of words nodes link
-none_added words nodes xs link points r item none same =
+pub none_added : (image : Image) (nodes xs : List Node) (link : Link) (points : List Waypoint) (r : Option (Bor Node)) → IsItemAt xs link.node r → r ≡ None → xs ≡ nodes → points ≡ points ++ interrupt_of image nodes link
+none_added image nodes xs link points r item none same =
     let past : IsItemAt xs link.node None = subst (λ (o : Option (Bor Node)). IsItemAt xs link.node o) none item in
     let away : slice_get nodes link.node ≡ None = subst (λ (ns : List Node). slice_get ns link.node ≡ None) same (slice_get_past xs link.node past.3) in
-    sym (ap (λ (ws : List Waypoint). points ++ ws) (none_there words (slice_get nodes link.node) link.depth link.way away) ∙ append-nil points)
+    sym (ap (λ (ws : List Waypoint). points ++ ws) (none_there image (slice_get nodes link.node) link.depth link.way away) ∙ append-nil points)
 
 -- if the conditions hold, each entered instance has its first node
 pub peopled : (task : Task) (c : Claim) (nodes : List Node) → MeetsConditions task c nodes → IsPeopled task nodes

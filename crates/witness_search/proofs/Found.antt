@@ -16,30 +16,30 @@ use Rattle.witness_replay.specs.Replay.{replay_from, report_unless, steps_of}
 use Rattle.certificate.specs.Valid.{Attains}
 use Rattle.witness_search.specs.declared.waypoint.Waypoint.{Waypoint}
 use Rattle.witness_search.specs.Waypoints.{pick_due, due_left}
-use Rattle.trial_runs.specs.Length.{most_choices}
+use Rattle.trial_runs.specs.Length.{most_trial_steps}
 use Rattle.witness_search.specs.Attempts.{IsAttempt, IsAttempted}
 use Rattle.witness_search.specs.Trials.{fills, trial_by, trial_of, Succeeds, NoneSucceeds, IsTried, IsFound}
 use Rattle.witness_search.specs.Laws.{TrialsAreShort}
 use Rattle.trial_runs.proofs.AllLaws.{few, ends_well, run_legal}
 use Rattle.local_rules.specs.Site.{Task}
 
-steps_are : most_choices ≡ 200000
-unfolding most_choices
+steps_are : most_trial_steps ≡ 200000
+unfolding most_trial_steps
 steps_are = refl
 
 -- the trial with all its steps
-pub whole : (steps : ℕ) (task : Task) (points : List Waypoint) (bound fill : ℕ) → steps ≡ most_choices
+pub whole : (steps : ℕ) (task : Task) (points : List Waypoint) (bound fill : ℕ) → steps ≡ most_trial_steps
     → trial_by steps task points bound fill ≡ trial_of task points bound fill
 unfolding trial_of
 whole steps task points bound fill is = ap (λ (n : ℕ). trial_by n task points bound fill) is
 
-pub few_choices : (steps : ℕ) (task : Task) (points : List Waypoint) (bound fill : ℕ) (cs : List Choice) → steps ≡ most_choices
+pub few_choices : (steps : ℕ) (task : Task) (points : List Waypoint) (bound fill : ℕ) (cs : List Choice) → steps ≡ most_trial_steps
     → cs ≡ trial_by steps task points bound fill → length cs ≤ 16777216
 few_choices steps task points bound fill cs most is = omega (arith, few (pick_due (reads_masks (device_of task.flash) task.assumptions) fill) (due_left (reads_masks (device_of task.flash) task.assumptions)) task.flash task.assumptions bound steps points (starting (filled (device_of task.flash) fill)), ap length is, most, steps_are)
 
 pub short : TrialsAreShort
 unfolding trial_of
-short task points bound fill = omega (arith, few (pick_due (reads_masks (device_of task.flash) task.assumptions) fill) (due_left (reads_masks (device_of task.flash) task.assumptions)) task.flash task.assumptions bound most_choices points (starting (filled (device_of task.flash) fill)), steps_are)
+short task points bound fill = omega (arith, few (pick_due (reads_masks (device_of task.flash) task.assumptions) fill) (due_left (reads_masks (device_of task.flash) task.assumptions)) task.flash task.assumptions bound most_trial_steps points (starting (filled (device_of task.flash) fill)), steps_are)
 
 -- ---- a trial that reaches the bound
 
@@ -68,15 +68,15 @@ module _ (law : DepthIsKept) (task : Task) where
       (replays bound cs (filled (device_of task.flash) fill) run deep (stop_is steps points bound fill cs is run deep)))
 
 module _ (task : Task) (points : List Waypoint) (bound : ℕ) where
-  pub succeeds : (steps fill : ℕ) (cs : List Choice) → steps ≡ most_choices → IsAttempt steps task points bound fill cs → Succeeds task points bound fill
+  pub succeeds : (steps fill : ℕ) (cs : List Choice) → steps ≡ most_trial_steps → IsAttempt steps task points bound fill cs → Succeeds task points bound fill
   succeeds steps fill cs most a =
       ap (λ (xs : List Choice). depth_of task.flash task.assumptions xs (filled (device_of task.flash) fill)) (sym (a.are ∙ whole steps task points bound fill most)) ∙ a.depth
 
-  pub fails : (steps fill : ℕ) → steps ≡ most_choices → IsAttempted steps task points bound fill None → Succeeds task points bound fill → ⊥
+  pub fails : (steps fill : ℕ) → steps ≡ most_trial_steps → IsAttempted steps task points bound fill None → Succeeds task points bound fill → ⊥
   fails steps fill most short h =
       short (ap (λ (xs : List Choice). depth_of task.flash task.assumptions xs (filled (device_of task.flash) fill)) (whole steps task points bound fill most) ∙ h)
 
-  pub tried : (steps fill : ℕ) (cs : List Choice) (plan : Plan) → steps ≡ most_choices → cs ≡ trial_by steps task points bound fill → Succeeds task points bound fill
+  pub tried : (steps fill : ℕ) (cs : List Choice) (plan : Plan) → steps ≡ most_trial_steps → cs ≡ trial_by steps task points bound fill → Succeeds task points bound fill
       → plan.fill ≡ fill → choices_of plan.runs ≡ cs → IsSchedule (device_of task.flash) plan → IsTried task points bound fill (Some plan)
   tried steps fill cs plan most is reached filling choices fits = (
     filling,

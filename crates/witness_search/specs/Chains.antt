@@ -1,13 +1,13 @@
 -- The waypoints of a certificate: the interrupts of the deepest chain of its family, with the least needs. Source: own.
 use Rattle.std.specs.Prelude.{ℕ, ◌≡◌, ◌⊎◌, List, [], ◌∷◌, Option, Some, slice_get}
 use Rattle.std.specs.List.{flat_map}
-use Rattle.avr_model.specs.Devices.{Program, device_of, ramend}
-use Rattle.mask_states.specs.declared.keys.EdgeKind.TheVariants.{Interrupt}
+use Rattle.avr_model.specs.Devices.{Image, device_of, ramend}
+use Rattle.node_keys.specs.declared.keys.EdgeKind.TheVariants.{Interrupt}
 use Rattle.local_rules.specs.declared.local.Node.{Node}
 use Rattle.edge_rules.specs.Expansion.{IsFilled}
-use Rattle.nesting_bound.specs.declared.graph.Link.{Link}
-use Rattle.nesting_bound.specs.declared.graph.Way.{Way}
-use Rattle.nesting_bound.specs.declared.graph.Way.TheVariants.{Enters}
+use Rattle.instance_graph.specs.declared.graph.Link.{Link}
+use Rattle.instance_graph.specs.declared.graph.GraphWay.{GraphWay}
+use Rattle.instance_graph.specs.declared.graph.GraphWay.TheVariants.{Enters}
 use Rattle.family_graph.specs.Graphs.{AreRooted}
 use Rattle.family_graph.specs.Chains.{IsDeepest}
 use Rattle.certificate.specs.Claims.{Claim}
@@ -15,17 +15,17 @@ use Rattle.witness_search.specs.declared.waypoint.Waypoint.{Waypoint}
 use Rattle.local_rules.specs.Site.{Task}
 
 -- the interrupt by which a chain leaves a node, at this depth below the beginning of the device's stack
-abbrev pub interrupt_at : Program → Option Node → ℕ → Option Way → List Waypoint
-interrupt_at words (Some n) depth (Some (Enters (Interrupt v clears))) =
-    record { pc = n.key.pc; masks = n.key.masks; depth = depth; end = ramend (device_of words); vector = v; clears = clears } ∷ []
-interrupt_at words _ depth way = []
+abbrev pub interrupt_at : Image → Option Node → ℕ → Option GraphWay → List Waypoint
+interrupt_at image (Some n) depth (Some (Enters (Interrupt v clears))) =
+    record { pc = n.key.pc; masks = n.key.masks; depth = depth; end = ramend (device_of image); vector = v; clears = clears } ∷ []
+interrupt_at image _ depth way = []
 
-abbrev pub interrupt_of : Program → List Node → Link → List Waypoint
-interrupt_of words nodes link = interrupt_at words (slice_get nodes link.node) link.depth link.way
+abbrev pub interrupt_of : Image → List Node → Link → List Waypoint
+interrupt_of image nodes link = interrupt_at image (slice_get nodes link.node) link.depth link.way
 
 -- the interrupts of a chain, in their order
-abbrev pub interrupts_of : Program → List Node → List Link → List Waypoint
-interrupts_of words nodes links = flat_map (interrupt_of words nodes) links
+abbrev pub interrupts_of : Image → List Node → List Link → List Waypoint
+interrupts_of image nodes links = flat_map (interrupt_of image nodes) links
 
 -- the interrupts of the deepest chain of a family
 pub record AreOfChain (task : Task) (nodes : List Node) (points : List Waypoint) : Type 0 where

@@ -7,7 +7,7 @@ use Rattle.avr_model.specs.State.{filled}
 use Rattle.avr_model.specs.Run.{starting, depth_of}
 use Rattle.stimulus.specs.Driving.{choices_by}
 use Rattle.witness_replay.specs.Spelling.{Plan, IsSchedule, choices_of}
-use Rattle.trial_runs.specs.Length.{most_choices}
+use Rattle.trial_runs.specs.Length.{most_trial_steps}
 use Rattle.witness_search.specs.declared.waypoint.Waypoint.{Waypoint}
 use Rattle.witness_search.specs.Waypoints.{pick_due, due_left}
 use Rattle.local_rules.specs.Site.{Task}
@@ -22,7 +22,7 @@ trial_by steps task points bound fill =
     choices_by (pick_due (reads_masks (device_of task.flash) task.assumptions) fill) (due_left (reads_masks (device_of task.flash) task.assumptions)) task.flash task.assumptions bound steps points (starting (filled (device_of task.flash) fill))
 
 unfoldable pub trial_of : Task → List Waypoint → ℕ → ℕ → List Choice
-trial_of task points bound fill = trial_by most_choices task points bound fill
+trial_of task points bound fill = trial_by most_trial_steps task points bound fill
 
 -- a trial succeeds if its depth is the bound
 abbrev pub Succeeds : Task → List Waypoint → ℕ → ℕ → Type 0

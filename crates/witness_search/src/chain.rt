@@ -1,19 +1,19 @@
 //! The interrupts of the deepest chain of a certificate's family.
 
 ghost use Rattle.std.specs.Prelude.{◌≡◌, ◌++◌, ◌≤◌, IfOk, OnOk, length};
-ghost use Rattle.call_graph.specs.Landings.{AreLandings};
+ghost use Rattle.family_edges.specs.Landings.{AreLandings};
 ghost use Rattle.certificate.specs.Claims.{IsClaim};
 ghost use Rattle.certificate.specs.Valid.{MeetsConditions};
 ghost use Rattle.witness_search.specs.Chains.{interrupt_of, interrupts_of, AreInterrupts};
-ghost use Rattle.call_graph.specs.Tasks.{task_of};
+ghost use Rattle.family_edges.specs.Tasks.{task_of};
 
 use crate::waypoint::Waypoint;
-use call_graph::{Filled, Task, Worked};
 use certificate::Certificate;
+use family_edges::{Filled, Task, WorkedOut};
 use family_graph::{are_rooted, deepest_chain, entered_by};
 use flash_image::Flash;
-use mask_states::EdgeKind;
-use nesting_bound::{Link, Way};
+use instance_graph::{GraphWay, Link};
+use node_keys::EdgeKind;
 use std::alloc::AllocError;
 
 // The interrupt by which the chain continues from a place, if it is one.
@@ -25,7 +25,7 @@ fn add_interrupt(
 ) -> Result<(), AllocError>
     ensures { OnOk result (points.new.items ≡ points.old.items ++ interrupt_of flash.now nodes.now link.now) }
 {
-    if let Some(Way::Enters(EdgeKind::Interrupt(vector, clears))) = link.way {
+    if let Some(GraphWay::Enters(EdgeKind::Interrupt(vector, clears))) = link.way {
         if let Some(node) = nodes.as_slice().get(link.node as usize) {
             points.push(Waypoint {
                 pc: node.key.pc,
@@ -56,7 +56,7 @@ fn interrupts(task: &Task<'_>, nodes: &Filled, links: &[Link]) -> Result<Vec<Way
 pub(crate) fn waypoints(
     task: &Task<'_>,
     certificate: &Certificate,
-    family: &Worked,
+    family: &WorkedOut,
 ) -> Result<Vec<Waypoint>, AllocError>
     requires claim { IsClaim certificate.now }
     requires few { length family.now.nodes ≤ 65536 }

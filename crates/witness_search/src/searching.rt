@@ -5,13 +5,13 @@ ghost use Rattle.certificate.specs.Valid.{IsSound, IsAttained};
 ghost use Rattle.witness_search.specs.declared.waypoint.Waypoint.{Waypoint};
 ghost use Rattle.witness_search.specs.Chains.{AreWaypoints};
 ghost use Rattle.witness_search.specs.Trials.{IsFound};
-ghost use Rattle.call_graph.specs.Tasks.{task_of};
+ghost use Rattle.family_edges.specs.Tasks.{task_of};
 
 use crate::chain::waypoints;
 use crate::trial::first_trial;
 use crate::waypoint::Waypoint;
-use call_graph::Task;
 use certificate::Certificate;
+use family_edges::Task;
 use family_graph::worked_of;
 use std::alloc::AllocError;
 use witness_replay::Schedule;

@@ -5,16 +5,16 @@ ghost use Rattle.witness_search.specs.Waypoints.{taken, left_after};
 ghost use Rattle.certificate.specs.Valid.{Attains};
 ghost use Rattle.witness_search.specs.Attempts.{IsAttempted};
 ghost use Rattle.witness_search.specs.Trials.{IsTried, IsFound};
-ghost use Rattle.call_graph.specs.Tasks.{task_of};
+ghost use Rattle.family_edges.specs.Tasks.{task_of};
 
 use crate::mark::Mark;
 use crate::waypoint::{Waypoint, is_due};
 use avr_machine::{Choice, Machine, Menu, StepResult};
 use avr_model::listed::Listed;
-use call_graph::Task;
+use family_edges::Task;
 use std::alloc::AllocError;
 use stimulus::laws::depth_is_kept;
-use trial_runs::most_choices;
+use trial_runs::most_trial_steps;
 use witness_replay::Schedule;
 
 // The next choice of a trial, and the waypoints left after it: the next waypoint's interrupt if it is due, else an instruction with the
@@ -96,7 +96,7 @@ fn try_fill(
     ensures attained { IfOk result (λ found. IfSome found (Attains (task_of task.now) bound)) }
 {
     depth_is_kept();
-    let Some(choices) = attempt(task, points, bound, fill, most_choices(), mark)? else {
+    let Some(choices) = attempt(task, points, bound, fill, most_trial_steps(), mark)? else {
         return Ok(None);
     };
     let device = task.flash.device();

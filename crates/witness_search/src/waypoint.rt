@@ -9,10 +9,10 @@ use vector_table::Masks;
 /// An interrupt, and the place at which to take it.
 #[derive(Clone, Copy)]
 pub struct Waypoint {
-    /// The program counter.
-    pub pc: u16,
     /// The enable bits, or if keys have what may be enabled, the set that includes them.
     pub masks: Masks,
+    /// The program counter.
+    pub pc: u32,
     /// The number of bytes between the stack pointer and its place at reset.
     pub depth: u16,
     /// The stack pointer's place at reset: the last address of the device's SRAM.

@@ -94,6 +94,7 @@ attiny24 1024 0060 00DF 1 1 movw,lpmx,break 17 5 - 39 attiny24a
 attiny25 1024 0060 00DF 1 1 movw,lpmx,break 15 13 - 41
 attiny26 1024 0060 00DF 1 1 - 12 - - 54
 attiny261 1024 0060 00DF 1 1 movw,lpmx,break 19 13 - 42 attiny261a
+atmega64rfr2 32768 0200 21FF 2 2 jmp,mul,movw,lpmx,break 77 13 MCUCR=0055.02 55 atmega644rfr2
 """
 
 # The names that the compiler takes and that are left out, each with the reason.
@@ -122,25 +123,23 @@ ata6289 18 vectors without a known bit
 ata8210 receiver with firmware in ROM: 8 to 43 vectors without a known bit, or no header
 ata8510 receiver with firmware in ROM: 8 to 43 vectors without a known bit, or no header
 atmega103 `elpm` without `elpm rD, Z`
-atmega1284rfr2 77 vectors, more than 64
-atmega128rfa1 72 vectors, more than 64
-atmega128rfr2 77 vectors, more than 64
+atmega1284rfr2 radio: a device once RAMPZ is followed
+atmega128rfa1 radio: a device once RAMPZ is followed
+atmega128rfr2 radio: a device once RAMPZ is followed
 atmega16hva battery manager: 6 to 9 vectors without a known bit
 atmega16hva2 battery manager: 6 to 9 vectors without a known bit
 atmega16hvb battery manager: 6 to 9 vectors without a known bit
 atmega16hvbrevb battery manager: 6 to 9 vectors without a known bit
 atmega2560 a program counter of three bytes
 atmega2561 a program counter of three bytes
-atmega2564rfr2 a program counter of three bytes, and 77 vectors, more than 64
-atmega256rfr2 a program counter of three bytes, and 77 vectors, more than 64
+atmega2564rfr2 a program counter of three bytes, and radio: a device once RAMPZ is followed
+atmega256rfr2 a program counter of three bytes, and radio: a device once RAMPZ is followed
 atmega323 header and start-up object disagree on the number of vectors
 atmega32hvb battery manager: 6 to 9 vectors without a known bit
 atmega32hvbrevb battery manager: 6 to 9 vectors without a known bit
 atmega406 battery manager: seven vectors without a known bit
-atmega644rfr2 77 vectors, more than 64
 atmega64hve battery manager: 6 to 9 vectors without a known bit
 atmega64hve2 battery manager: 6 to 9 vectors without a known bit
-atmega64rfr2 77 vectors, more than 64
 atmega8hva battery manager: 6 to 9 vectors without a known bit
 m3000 the header names no vectors
 """
@@ -1612,4 +1611,76 @@ VECTORS = (
 10 EECR=003C.08 EE_RDY
 11 ACSR=0028.08 ANA_COMP
 12 ADCSR=0026.08 ADC
+""",
+"""\
+2 EIMSK=003D.01 INT0
+3 EIMSK=003D.02 INT1
+4 EIMSK=003D.04 INT2
+5 EIMSK=003D.08 INT3
+6 EIMSK=003D.10 INT4
+7 EIMSK=003D.20 INT5
+8 EIMSK=003D.40 INT6
+9 EIMSK=003D.80 INT7
+10 PCICR=0068.01 PCINT0
+11 PCICR=0068.02 PCINT1
+12 PCICR=0068.04 PCINT2
+13 WDTCSR=0060.40 WDT
+14 TIMSK2=0070.02 TIMER2_COMPA
+15 TIMSK2=0070.04 TIMER2_COMPB
+16 TIMSK2=0070.01 TIMER2_OVF
+17 TIMSK1=006F.20 TIMER1_CAPT
+18 TIMSK1=006F.02 TIMER1_COMPA
+19 TIMSK1=006F.04 TIMER1_COMPB
+20 TIMSK1=006F.08 TIMER1_COMPC
+21 TIMSK1=006F.01 TIMER1_OVF
+22 TIMSK0=006E.02 TIMER0_COMPA
+23 TIMSK0=006E.04 TIMER0_COMPB
+24 TIMSK0=006E.01 TIMER0_OVF
+25 SPCR=004C.80 SPI_STC
+26 UCSR0B=00C1.80 USART0_RX
+27 UCSR0B=00C1.20 USART0_UDRE
+28 UCSR0B=00C1.40 USART0_TX
+29 ACSR=0050.08 ANALOG_COMP
+30 ADCSRA=007A.08 ADC
+31 EECR=003F.08 EE_READY
+32 TIMSK3=0071.20 TIMER3_CAPT
+33 TIMSK3=0071.02 TIMER3_COMPA
+34 TIMSK3=0071.04 TIMER3_COMPB
+35 TIMSK3=0071.08 TIMER3_COMPC
+36 TIMSK3=0071.01 TIMER3_OVF
+37 UCSR1B=00C9.80 USART1_RX
+38 UCSR1B=00C9.20 USART1_UDRE
+39 UCSR1B=00C9.40 USART1_TX
+40 TWCR=00BC.01 TWI
+41 SPMCSR=0057.80 SPM_READY
+42 TIMSK4=0072.20 TIMER4_CAPT
+43 TIMSK4=0072.02 TIMER4_COMPA
+44 TIMSK4=0072.04 TIMER4_COMPB
+45 TIMSK4=0072.08 TIMER4_COMPC
+46 TIMSK4=0072.01 TIMER4_OVF
+47 TIMSK5=0073.20 TIMER5_CAPT
+48 TIMSK5=0073.02 TIMER5_COMPA
+49 TIMSK5=0073.04 TIMER5_COMPB
+50 TIMSK5=0073.08 TIMER5_COMPC
+51 TIMSK5=0073.01 TIMER5_OVF
+58 IRQ_MASK=014E.01 TRX24_PLL_LOCK
+59 IRQ_MASK=014E.02 TRX24_PLL_UNLOCK
+60 IRQ_MASK=014E.04 TRX24_RX_START
+61 IRQ_MASK=014E.08 TRX24_RX_END
+62 IRQ_MASK=014E.10 TRX24_CCA_ED_DONE
+63 IRQ_MASK=014E.20 TRX24_XAH_AMI
+64 IRQ_MASK=014E.40 TRX24_TX_END
+65 IRQ_MASK=014E.80 TRX24_AWAKE
+66 SCIRQM=00DF.01 SCNT_CMP1
+67 SCIRQM=00DF.02 SCNT_CMP2
+68 SCIRQM=00DF.04 SCNT_CMP3
+69 SCIRQM=00DF.08 SCNT_OVFL
+70 SCIRQM=00DF.10 SCNT_BACKOFF
+71 AES_CTRL=013C.04 AES_READY
+72 BATMON=0151.40 BAT_LOW
+73 IRQ_MASK1=00BE.01 TRX24_TX_START
+74 IRQ_MASK1=00BE.02 TRX24_AMI0
+75 IRQ_MASK1=00BE.04 TRX24_AMI1
+76 IRQ_MASK1=00BE.08 TRX24_AMI2
+77 IRQ_MASK1=00BE.10 TRX24_AMI3
 """)

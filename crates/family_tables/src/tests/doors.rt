@@ -3,15 +3,15 @@
 
 ghost use Rattle.std.specs.Prelude.{[]};
 ghost use Rattle.certificate.specs.Valid.{IsSound};
-ghost use Rattle.call_graph.specs.Tasks.{task_of};
+ghost use Rattle.family_edges.specs.Tasks.{task_of};
 ghost use Rattle.local_rules.specs.Site.{bare};
 
 use super::Worked;
 use super::edges::flash_on;
 use avr_model::device::Device;
-use call_graph::Task;
 use certificate::Certificate;
 use chain_explain::{Explanation, Part, PartPlace, explain};
+use family_edges::Task;
 use fixpoint::solve;
 use flash_image::Flash;
 use std::alloc::Global;
@@ -31,23 +31,23 @@ enum Line {
 }
 
 // A word at which a step may be flagged, the protected addresses that it may write, and whether it may write a pushed byte.
-type Flagged = (u16, &'static [u16], bool);
+type Flagged = (u32, &'static [u16], bool);
 
 // A word of the deepest chain, the bytes that it adds, and the path to it.
-type Link = (u16, u16, &'static [u16]);
+type Link = (u32, u16, &'static [u32]);
 
 /// A firmware, and what is due.
 pub struct Row {
     image: &'static [u8],
     line: Line,
     // The least node that isn't clear, with its word.
-    unclear: Option<(u32, u16)>,
+    unclear: Option<(u32, u32)>,
     flagged: &'static [Flagged],
-    nevers: &'static [u16],
+    nevers: &'static [u32],
     chain: &'static [Link],
 }
 
-fn is_verdict(verdict: ClearVerdict, due: Option<(u32, u16)>) -> bool {
+fn is_verdict(verdict: ClearVerdict, due: Option<(u32, u32)>) -> bool {
     match verdict {
         ClearVerdict::Clear => due.is_none(),
         ClearVerdict::Unclear(node, pc) => due == Some((node, pc)),
@@ -64,7 +64,7 @@ fn is_clear(alloc: Global, flash: &Flash, certificate: &Certificate, row: &Row) 
     }
 }
 
-fn are_words(sites: &[u16], due: &[Flagged]) -> bool {
+fn are_words(sites: &[u32], due: &[Flagged]) -> bool {
     if sites.len() != due.len() {
         return false;
     }

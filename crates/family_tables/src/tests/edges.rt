@@ -9,16 +9,18 @@ use super::Worked;
 use crate::tests::seeds::{Plan, SeedList, seeds_of};
 use avr_model::device::Device;
 use avr_model::listed::Listed;
-use call_graph::{Edge, EdgeKind, Expanded, Filled, Leaving, Task, exits, expand, next, next_with};
+use family_edges::{
+    Edge, EdgeKind, Expanded, Filled, Leaving, Task, exits, expand, next, next_with,
+};
 use flash_image::Flash;
 use local_rules::NodeFault;
-use mask_states::Kind;
+use node_keys::Kind;
 use std::alloc::Global;
 use vector_table::Assumptions;
 
 // The expected result: edges, by kind and target word; the node's fault; or the first node without an expansion.
 enum Due {
-    Edges(&'static [(EdgeKind, u16)]),
+    Edges(&'static [(EdgeKind, u32)]),
     Fault(NodeFault),
     Missing(u32),
 }
@@ -26,7 +28,7 @@ enum Due {
 /// A device, a firmware's bytes, nodes, the number of one of them, and the expected result.
 pub struct Row(Device, &'static [u8], &'static [Plan], usize, Due);
 
-fn are_edges(edges: &Listed<Edge>, due: &[(EdgeKind, u16)]) -> bool {
+fn are_edges(edges: &Listed<Edge>, due: &[(EdgeKind, u32)]) -> bool {
     let found = edges.as_slice();
     if found.len() != due.len() {
         return false;

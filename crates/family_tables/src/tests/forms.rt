@@ -4,16 +4,16 @@ ghost use Rattle.std.specs.Prelude.{◌≤◌, false, length};
 ghost use Rattle.avr_model.specs.Devices.{device_of};
 ghost use Rattle.edge_rules.specs.Expansion.{AreSeeds};
 ghost use Rattle.edge_laws.specs.Expansions.{AreSeedsAscending};
-ghost use Rattle.call_graph.specs.Landings.{AreLandings};
-ghost use Rattle.call_graph.specs.Tasks.{task_of};
+ghost use Rattle.family_edges.specs.Landings.{AreLandings};
+ghost use Rattle.family_edges.specs.Tasks.{task_of};
 
 use super::Worked;
 use crate::tests::seeds::{Plan, SeedList, seeds_of};
 use avr_model::device::Device;
-use call_graph::{Expanded, Filled, Leaving, NodeForm, Task, Worked as Family, exits, expand};
+use family_edges::{Expanded, Filled, Leaving, NodeForm, Task, WorkedOut as Family, exits, expand};
 use fixpoint::forming::forms;
 use flash_image::Flash;
-use mask_states::{Kind, NodeKey};
+use node_keys::{Kind, NodeKey};
 use std::alloc::Global;
 use vector_table::Assumptions;
 

@@ -3,7 +3,7 @@
 use super::Worked;
 use super::edges::flash_on;
 use avr_model::device::Device;
-use call_graph::Task;
+use family_edges::Task;
 use fixpoint::{Refusal, solve};
 use flash_image::Flash;
 use std::alloc::Global;
@@ -30,10 +30,10 @@ fn is_told(task: &Task<'_>, due: Option<u32>) -> bool {
 // The same under `prove` entries at these words. They come by value, so that the proof knows their range.
 fn is_on(alloc: Global, flash: &Flash, first: u16, second: u16, due: Option<u32>) -> bool {
     let mut list = Assumptions::empty(alloc);
-    let Ok(()) = list.push(Entry::Prove(first)) else {
+    let Ok(()) = list.push(Entry::Prove(u32::from(first))) else {
         return false;
     };
-    let Ok(()) = list.push(Entry::Prove(second)) else {
+    let Ok(()) = list.push(Entry::Prove(u32::from(second))) else {
         return false;
     };
     let task = Task {

@@ -1,16 +1,16 @@
 //! Worked graphs: ranks, needs, chains and named instances, found by hand.
 
-ghost use Rattle.nesting_bound.specs.Chain.{HavePlaces};
-ghost use Rattle.nesting_bound.specs.Graph.{IsGraph};
-ghost use Rattle.nesting_bound.specs.Least.{IsLeast};
+ghost use Rattle.instance_graph.specs.Chain.{HavePlaces};
+ghost use Rattle.instance_graph.specs.Graph.{IsGraph};
+ghost use Rattle.instance_graph.specs.Least.{IsLeast};
 
 use super::Worked;
 use avr_model::device::SIZE;
 use avr_model::listed::Listed;
-use mask_states::{EdgeKind, InstKey, Kind};
-use nesting_bound::{
-    ComposeFault, Composed, Entered, Graph, GraphInst, Link, Place, Way, chain, compose,
+use instance_graph::{
+    ComposeFault, Composed, Entered, Graph, GraphInst, GraphWay, Link, Place, chain, compose,
 };
+use node_keys::{EdgeKind, InstKey, Kind};
 use std::alloc::{AllocError, Global};
 use vector_table::Masks;
 
@@ -32,7 +32,7 @@ type At = (u32, u16);
 type Edge = (u32, u16, u8, u32);
 
 // The kind of its entry, its entry, its places and its edges.
-type Inst = (u8, u16, &'static [At], &'static [Edge]);
+type Inst = (u8, u32, &'static [At], &'static [Edge]);
 
 // An instance, a node, the depth there, and the kind of the next entry.
 type Step = (u32, u32, u16, u8);
@@ -51,25 +51,25 @@ enum Wanted {
     Placeless,
 }
 
-fn way(number: u8) -> Way {
+fn way(number: u8) -> GraphWay {
     match number {
-        CALL => Way::Enters(EdgeKind::Call),
-        RECUR => Way::Recur,
-        _ => Way::Enters(EdgeKind::Interrupt(number, false)),
+        CALL => GraphWay::Enters(EdgeKind::Call),
+        RECUR => GraphWay::Recur,
+        _ => GraphWay::Enters(EdgeKind::Interrupt(number, false)),
     }
 }
 
-fn is_way(way: Option<Way>, number: u8) -> bool {
+fn is_way(way: Option<GraphWay>, number: u8) -> bool {
     match way {
         None => number == NONE,
-        Some(Way::Recur) => number == RECUR,
-        Some(Way::Enters(EdgeKind::Interrupt(vector, _))) => number == vector,
-        Some(Way::Enters(_)) => number == CALL,
+        Some(GraphWay::Recur) => number == RECUR,
+        Some(GraphWay::Enters(EdgeKind::Interrupt(vector, _))) => number == vector,
+        Some(GraphWay::Enters(_)) => number == CALL,
     }
 }
 
 // The instance with this entry and kind.
-pub(crate) fn key(number: u8, entry: u16) -> InstKey {
+pub(crate) fn key(number: u8, entry: u32) -> InstKey {
     let kind = match number {
         NONE => Kind::Root,
         CALL => Kind::Call,
@@ -362,9 +362,9 @@ pub static ROWS: [(&str, &[Row]); 1] = [(
             &[(NONE, 0, &[(0, 0)], &[(0, 0, CALL, 1)])],
             Wanted::Shapeless,
         ),
-        Row(&[(NONE, 0, &[(0, 16_385)], &[])], Wanted::Shapeless),
+        Row(&[(NONE, 0, &[(0, 32_769)], &[])], Wanted::Shapeless),
         Row(
-            &[(NONE, 0, &[(0, 0)], &[(0, 16_385, CALL, 0)])],
+            &[(NONE, 0, &[(0, 0)], &[(0, 32_769, CALL, 0)])],
             Wanted::Shapeless,
         ),
         Row(&[(NONE, 0, &[], &[])], Wanted::Placeless),

@@ -2,12 +2,12 @@
 
 ghost use Rattle.std.specs.Prelude.{◌≤◌};
 ghost use Rattle.avr_model.specs.State.{SIZE};
-ghost use Rattle.mask_states.specs.Keys.{offset_of};
+ghost use Rattle.node_keys.specs.Keys.{offset_of};
 
 use super::Worked;
 use crate::tests::nesting::key;
 use avr_model::device::{Device, SIZE};
-use mask_states::{NodeKey, SpForm};
+use node_keys::{NodeKey, SpForm};
 use round_nesting::{Nesting, NestingVerdict};
 use std::alloc::{AllocError, Global};
 
@@ -17,7 +17,7 @@ const SMALL: Device = Device::M48;
 const LARGE: Device = Device::M328;
 
 // The kind of an instance's entry, and the entry: 0 is the root, 1 a call, and any other number a vector.
-type Inst = (u8, u16);
+type Inst = (u8, u32);
 
 const ROOT: Inst = (0, 0);
 
@@ -109,7 +109,7 @@ fn is_row(alloc: Global, device: Device, notes: &[Note], due: &NestingVerdict) -
 fn chain() -> [Note; 81] {
     let mut notes = [Note::Node(ROOT, 0); 81];
     let mut from = ROOT;
-    for at in 0..40_u16 {
+    for at in 0..40_u32 {
         let into = (1, 100 + at);
         notes[2 * at as usize + 1] = Note::Entrance(from, 1, into);
         notes[2 * at as usize + 2] = Note::Node(into, 0);

@@ -3,16 +3,16 @@
 ghost use Rattle.std.specs.Prelude.{ℕ, ◌≡◌, ◌<◌, ◌^◌, false, length, slice_get, Some, None, IsTrue, IfOk, IfSome, OnOk};
 ghost use Rattle.std.specs.declared.cmp.Ordering.TheVariants.{Less};
 ghost use Rattle.avr_model.specs.Vectors.{enable_count};
-ghost use Rattle.mask_states.specs.declared.keys.SpForm.TheVariants.{Closed};
-ghost use Rattle.mask_states.specs.Order.{node_cmp};
+ghost use Rattle.node_keys.specs.declared.keys.SpForm.TheVariants.{Closed};
+ghost use Rattle.node_keys.specs.Order.{node_cmp};
 ghost use Rattle.edge_rules.specs.Expansion.{AreSeeds};
 ghost use Rattle.edge_laws.specs.Expansions.{AreSeedsAscending};
 
 use abs_state::AbsState;
 use avr_model::device::Device;
-use call_graph::{NodeForm, Seed, Seeded};
 use edge_rules::HeldState;
-use mask_states::{InstKey, Kind, NodeKey, SpForm};
+use family_edges::{NodeForm, Seed, Seeded};
+use node_keys::{InstKey, Kind, NodeKey, SpForm};
 use std::alloc::{AllocError, Global};
 use vector_table::Masks;
 
@@ -44,7 +44,7 @@ impl Seeded for SeedList {
 // A node: the kind and entry of its instance, whether vectors 2 and 7 are enabled, its word, and the number of the node that it comes
 // from with the bytes on the stack. Without a number the stack is empty, and its state is that at reset.
 #[derive(Clone, Copy)]
-pub(crate) struct Plan(pub Kind, pub u16, pub bool, pub u16, pub Option<(u32, u16)>);
+pub(crate) struct Plan(pub Kind, pub u32, pub bool, pub u32, pub Option<(u32, u16)>);
 
 // Vectors 2 and 7 of the device enabled, or none.
 fn masks_of(device: Device, on: bool) -> Masks
@@ -120,7 +120,7 @@ fn add_own(
     ensures seeds { OnOk result (AreSeeds device false items.new.items) }
     ensures ascending { OnOk result (AreSeedsAscending items.new.items) }
 {
-    if u32::from(key.pc) >= device.limit() || !may_follow(items, &key) {
+    if key.pc >= device.limit() || !may_follow(items, &key) {
         return Ok(false);
     }
     let held = HeldState::new(alloc, AbsState::root(alloc))?;

@@ -3,7 +3,7 @@
 use super::Worked;
 use avr_machine::{Masks, Stop};
 use avr_model::device::Device;
-use call_graph::Task;
+use family_edges::Task;
 use flash_image::Flash;
 use std::alloc::{AllocError, Global};
 use vector_table::Assumptions;

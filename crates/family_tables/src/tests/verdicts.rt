@@ -8,11 +8,11 @@ use super::Worked;
 use super::edges::flash_on;
 use abs_state::AbsState;
 use avr_model::device::Device;
-use call_graph::Task;
 use cert_check::{Judgement, Reason, is_attained, judge};
 use certificate::{Certificate, HeldState, Inst, NodeForm};
+use family_edges::Task;
 use flash_image::Flash;
-use mask_states::{InstKey, Kind, NodeKey};
+use node_keys::{InstKey, Kind, NodeKey};
 use std::alloc::{AllocError, Global};
 use vector_table::{Assumptions, Entry, Masks};
 
@@ -58,7 +58,7 @@ fn told_of(reason: &Reason) -> (u8, u32, u32) {
     match reason {
         Reason::Root => (1, 0, 0),
         Reason::Node(node, cause) => (2, *node, u32::from(*cause)),
-        Reason::Edge(node, to) => (3, *node, u32::from(to.pc)),
+        Reason::Edge(node, to) => (3, *node, to.pc),
         Reason::Rank(inst, entered) => (4, *inst, *entered),
         Reason::Need(inst, need) => (5, *inst, *need),
         Reason::Bound(need) => (6, *need, 0),

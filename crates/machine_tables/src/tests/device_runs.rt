@@ -2,7 +2,7 @@
 
 use super::Worked;
 use avr_model::device::Device;
-use device_hooks::Devices;
+use peripherals::Devices;
 use std::alloc::Global;
 
 /// A text with the number of its sources.

@@ -1,11 +1,11 @@
 //! Texts with answers that were worked out by hand, written lists, and targets.
 
 use super::Worked;
+use assumption_files::{AssumeText, entry_of, read, targets, write};
 use avr_model::device::Device;
 use bit_domain::TriByte;
-use indirect_targets::{AssumeText, entry_of, read, targets, write};
-use sb_base::LineWriter;
 use std::alloc::{AllocError, Global};
+use text_base::LineWriter;
 use vector_table::Assumptions;
 
 // The beginning of a text.
@@ -365,7 +365,7 @@ fn write_start(out: &mut LineWriter, start: &Start) -> Result<(), AllocError> {
 // Whether the list is written as it was read.
 fn is_written(alloc: Global, list: &Assumptions, text: &[u8]) -> bool {
     let mut out = LineWriter::new(alloc);
-    let written = write(list, &mut out).is_ok();
+    let written = write(Device::M328, list, &mut out).is_ok();
     written && out.finish().as_slice() == text
 }
 
@@ -411,8 +411,8 @@ impl Worked for Alone {
     }
 }
 
-/// Known bits and values of the low and the high byte, and the words; none if there are too many.
-pub struct Targets([u8; 4], Option<&'static [u16]>);
+/// Known bits and values of the low and the high byte of Z, and the words; none if there are too many.
+pub struct Targets([u8; 4], Option<&'static [u32]>);
 
 pub static TARGETS: [(&str, &[Targets]); 1] = [(
     "targets",
@@ -442,7 +442,7 @@ impl Worked for Targets {
     fn holds(&self, _alloc: Global) -> bool {
         let low = TriByte::new(self.0[0], self.0[1]);
         let high = TriByte::new(self.0[2], self.0[3]);
-        match targets(Device::M328, &low, &high) {
+        match targets(Device::M328, &low, &high, &TriByte::of(0)) {
             Ok(words) => self.1 == Some(words.as_slice()),
             Err(_) => self.1.is_none(),
         }
@@ -451,7 +451,12 @@ impl Worked for Targets {
 
 /// Whether six unknown bits give 64 targets.
 pub fn are_sixty_four() -> bool {
-    match targets(Device::M328, &TriByte::new(0xC0, 0x40), &TriByte::of(0x01)) {
+    match targets(
+        Device::M328,
+        &TriByte::new(0xC0, 0x40),
+        &TriByte::of(0x01),
+        &TriByte::of(0),
+    ) {
         Ok(targets) => {
             let words = targets.as_slice();
             words.len() == 64 && (words[0], words[63]) == (0x0140, 0x017F)

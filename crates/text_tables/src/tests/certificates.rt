@@ -6,10 +6,10 @@ use super::second_version::{LATER, PAIRS, has_its_facts, has_later_values};
 use avr_model::device::Device;
 use cert_format::{CertFault, Certificate, Limit, read, write};
 use edge_rules::NodeForm;
-use mask_states::Kind;
-use sb_base::LineWriter;
+use node_keys::Kind;
 use sp_domain::{CarryTag, Slot, Tag};
 use std::alloc::{AllocError, Global};
+use text_base::LineWriter;
 
 // A piece of a text: the bytes before, between and after this many equal words.
 pub(crate) type Piece = (&'static [u8], &'static [u8], usize, &'static [u8]);

@@ -3,8 +3,8 @@
 use super::Worked;
 use avr_model::choice::Choice;
 use avr_model::device::Device;
-use sb_base::{LineReader, LineWriter};
 use std::alloc::Global;
+use text_base::{LineReader, LineWriter};
 use witness_replay::{Schedule, ScheduleFault};
 
 /// A text with the place after its schedule, or the offset of the refused line.

@@ -1,11 +1,11 @@
 //! Each call with ample memory, and faults at chosen calls.
 
 use super::Worked;
-use sb_base::{
+use std::alloc::{AllocError, Global};
+use text_base::{
     DigitFault, FileFault, Files, LineReader, LineWriter, MemFiles, MemSink, Sink, SinkFault,
     Words, put_all, read_dec, read_hex,
 };
-use std::alloc::{AllocError, Global};
 
 // The reads of one object in order: the name, the most bytes that are read, and the answer.
 static READS: [(&str, usize, Result<&[u8], FileFault>); 5] = [
@@ -92,14 +92,15 @@ pub fn misput_in_pieces(alloc: Global) -> Option<usize> {
 }
 
 /// Digits, how many are read, and the answer.
-pub struct Hexadecimal(&'static [u8], usize, Result<u64, DigitFault>);
+pub struct Hexadecimal(&'static [u8], usize, Result<u128, DigitFault>);
 
 pub static HEXADECIMAL: [(&str, &[Hexadecimal]); 1] = [(
     "hexadecimal",
     &[
         Hexadecimal(b"940C", 4, Ok(37900)),
         Hexadecimal(b"FFFFFFFF", 8, Ok(4294967295)),
-        Hexadecimal(b"FFFFFFFFFFFFFFFF", 16, Ok(u64::MAX)),
+        Hexadecimal(b"FFFFFFFFFFFFFFFF", 16, Ok(18446744073709551615)),
+        Hexadecimal(b"FFFFFFFFFFFFFFFFFFF", 19, Ok(75557863725914323419135)),
         Hexadecimal(b"940c", 4, Err(DigitFault::BadDigit(3))),
         Hexadecimal(b"94", 4, Err(DigitFault::WrongLength(2))),
     ],
@@ -107,7 +108,7 @@ pub static HEXADECIMAL: [(&str, &[Hexadecimal]); 1] = [(
 
 impl Worked for Hexadecimal {
     fn holds(&self, _alloc: Global) -> bool {
-        self.1 >= 1 && self.1 <= 16 && read_hex(self.0, self.1) == self.2
+        self.1 >= 1 && self.1 <= 32 && read_hex(self.0, self.1) == self.2
     }
 }
 

@@ -192,7 +192,7 @@ fn numbers(device: Device) -> Numbers {
         u32::from(device.has_mul()),
         u32::from(device.has_elpm()),
         u32::from(device.has_break()),
-        u32::from(device.vector_word(2)),
+        device.vector_word(2),
         u32::from(device.back()),
         u32::from(device.has_sph()),
         u32::from(device.has_movw()),

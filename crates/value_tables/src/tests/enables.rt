@@ -6,38 +6,38 @@ use super::three_valued::{Bits, byte};
 use avr_model::device::Device;
 use avr_model::naming::device_named;
 use bit_domain::TriByte;
-use mask_states::split;
+use node_keys::split;
 use std::alloc::Global;
 use vector_table::{Masks, enable_of, held, write};
 
 /// A device and a data address; the vector that each bit enables, from bit 0 on, or 0; and the bits that reads give.
-pub struct Place(&'static str, u16, [u8; 8], u8);
+pub struct EnableRow(&'static str, u16, [u8; 8], u8);
 
-pub static PLACES: [(&str, &[Place]); 1] = [(
+pub static PLACES: [(&str, &[EnableRow]); 1] = [(
     "place",
     &[
-        Place("atmega328p", 0x60, [0, 0, 0, 0, 0, 0, 7, 0], 0x40),
+        EnableRow("atmega328p", 0x60, [0, 0, 0, 0, 0, 0, 7, 0], 0x40),
         // PCINT by PCIE0 or PCIE1
-        Place("attiny861", 0x5B, [0, 0, 0, 0, 3, 3, 2, 14], 0xC0),
-        Place("attiny861", 0x59, [17, 7, 6, 16, 15, 5, 4, 18], 0xFF),
-        Place("attiny85", 0x5B, [0, 0, 0, 0, 0, 3, 2, 0], 0x60),
+        EnableRow("attiny861", 0x5B, [0, 0, 0, 0, 3, 3, 2, 14], 0xC0),
+        EnableRow("attiny861", 0x59, [17, 7, 6, 16, 15, 5, 4, 18], 0xFF),
+        EnableRow("attiny85", 0x5B, [0, 0, 0, 0, 0, 3, 2, 0], 0x60),
         // PCIE0 and PCIE1 at the bits of either header
-        Place("atmega165p", 0x3D, [2, 0, 0, 0, 3, 4, 3, 4], 0x01),
+        EnableRow("atmega165p", 0x3D, [2, 0, 0, 0, 3, 4, 3, 4], 0x01),
         // INT4, INT5 and INT7 are reserved
-        Place("atmega32u4", 0x3D, [2, 3, 4, 5, 0, 0, 8, 0], 0x4F),
-        Place("atmega32u4", 0x60, [0, 0, 0, 0, 0, 0, 13, 0], 0x40),
+        EnableRow("atmega32u4", 0x3D, [2, 3, 4, 5, 0, 0, 8, 0], 0x4F),
+        EnableRow("atmega32u4", 0x60, [0, 0, 0, 0, 0, 0, 13, 0], 0x40),
         // USB_GEN at two addresses, and USB_COM: what was ever enabled stays so
-        Place("atmega32u4", 0xE2, [11, 11, 11, 11, 11, 11, 11, 11], 0),
-        Place("atmega32u4", 0xD8, [11, 0, 0, 0, 0, 0, 0, 0], 0),
-        Place("atmega32u4", 0xF0, [12, 12, 12, 12, 12, 12, 12, 12], 0),
+        EnableRow("atmega32u4", 0xE2, [11, 11, 11, 11, 11, 11, 11, 11], 0),
+        EnableRow("atmega32u4", 0xD8, [11, 0, 0, 0, 0, 0, 0, 0], 0),
+        EnableRow("atmega32u4", 0xF0, [12, 12, 12, 12, 12, 12, 12, 12], 0),
         // WDT by WDIE and by WDEWIE
-        Place("at90usb162", 0x60, [0, 0, 0, 0, 0, 0, 14, 0], 0),
-        Place("at90usb162", 0x62, [0, 0, 14, 0, 0, 0, 0, 0], 0),
-        Place("attiny1634", 0x5C, [0, 0, 0, 3, 4, 5, 2, 0], 0x78),
-        Place("attiny1634", 0x7F, [0, 0, 26, 0, 26, 26, 0, 0], 0),
+        EnableRow("at90usb162", 0x60, [0, 0, 0, 0, 0, 0, 14, 0], 0),
+        EnableRow("at90usb162", 0x62, [0, 0, 14, 0, 0, 0, 0, 0], 0),
+        EnableRow("attiny1634", 0x5C, [0, 0, 0, 3, 4, 5, 2, 0], 0x78),
+        EnableRow("attiny1634", 0x7F, [0, 0, 26, 0, 26, 26, 0, 0], 0),
         // USART3 of 57 vectors
-        Place("atmega1280", 0x131, [0, 0, 0, 0, 0, 56, 57, 55], 0xE0),
-        Place("atmega1280", 0x200, [0, 0, 0, 0, 0, 0, 0, 0], 0),
+        EnableRow("atmega1280", 0x131, [0, 0, 0, 0, 0, 56, 57, 55], 0xE0),
+        EnableRow("atmega1280", 0x200, [0, 0, 0, 0, 0, 0, 0, 0], 0),
     ],
 )];
 
@@ -45,7 +45,7 @@ fn vector(device: Device, address: u16, bit: u8) -> u8 {
     enable_of(device, address, bit).unwrap_or(0)
 }
 
-impl Worked for Place {
+impl Worked for EnableRow {
     fn holds(&self, _alloc: Global) -> bool {
         let address = self.1;
         match device_named(self.0.as_bytes()) {
@@ -68,7 +68,7 @@ impl Worked for Place {
 }
 
 /// A device, bits before, address, byte; bits after, a vector, and whether it is enabled then.
-pub struct Written(&'static str, u64, u16, u8, u64, u8, bool);
+pub struct Written(&'static str, u128, u16, u8, u128, u8, bool);
 
 pub static WRITES: [(&str, &[Written]); 1] = [(
     "write",
@@ -193,7 +193,7 @@ static VALUES: [Bits; 7] = [
 ];
 
 // Masks without a bit, with each and with some.
-static MASKS: [u64; 3] = [0, 0x1FFFFFF, 0x0A5A5A5];
+static MASKS: [u128; 3] = [0, 0x1FFFFFF, 0x0A5A5A5];
 
 // Whether writing some member of the value gives these.
 fn is_written(device: Device, masks: Masks, m: Masks, address: u16, value: TriByte) -> bool {
@@ -271,7 +271,7 @@ impl Worked for Address {
 }
 
 /// A device, bits before, address, known bits and value; bits after, ascending.
-pub struct Split(&'static str, u64, u16, Bits, &'static [u64]);
+pub struct Split(&'static str, u128, u16, Bits, &'static [u128]);
 
 pub static SPLITS: [(&str, &[Split]); 1] = [(
     "split",
@@ -336,7 +336,7 @@ pub static SPLITS: [(&str, &[Split]); 1] = [(
 )];
 
 // Whether these are the bits.
-fn are_bits(all: &[Masks], bits: &[u64]) -> bool {
+fn are_bits(all: &[Masks], bits: &[u128]) -> bool {
     for at in 0..all.len().min(bits.len()) {
         if all[at].bits() != bits[at] {
             return false;

@@ -1,13 +1,13 @@
 //! The order on a table of keys.
 
 use super::Worked;
-use mask_states::{EdgeKind, High, InstKey, Kind, NodeKey, SpForm};
+use node_keys::{EdgeKind, High, InstKey, Kind, NodeKey, SpForm};
 use std::alloc::Global;
 use std::cmp::Ordering;
 use vector_table::Masks;
 
 // An instance: its kind, entry, masks and flag.
-struct Inst(Kind, u16, u64, bool);
+struct Inst(Kind, u32, u128, bool);
 
 const ROOT: Inst = Inst(Kind::Root, 0, 0, false);
 
@@ -33,8 +33,10 @@ const ALL_INSTANCES: &[InstPlace] = &[
     InstPlace(4, Inst(Kind::Call, 0, 0, false)),
     InstPlace(5, Inst(Kind::Call, 9, 4, true)),
     InstPlace(6, Inst(Kind::Call, 9, 5, false)),
-    InstPlace(7, Inst(Kind::Vector(2), 2, 0, false)),
-    InstPlace(8, Inst(Kind::Vector(3), 0, 0, false)),
+    InstPlace(7, Inst(Kind::Call, 9, 1 << 64, false)),
+    InstPlace(8, Inst(Kind::Call, 0x1_0000, 0, false)),
+    InstPlace(9, Inst(Kind::Vector(2), 2, 0, false)),
+    InstPlace(10, Inst(Kind::Vector(3), 0, 0, false)),
 ];
 
 /// Instances, which ascend by kind, entry, masks and flag.
@@ -58,7 +60,7 @@ impl Worked for InstPlace {
 }
 
 /// A node's place, its instance, word, masks, flag, delay, stack pointer and pick.
-pub struct NodePlace(u8, Inst, u16, u64, bool, bool, SpForm, Option<u8>);
+pub struct NodePlace(u8, Inst, u32, u128, bool, bool, SpForm, Option<u8>);
 
 fn node_of(node: &NodePlace) -> NodeKey {
     NodeKey {
@@ -122,9 +124,11 @@ const ALL_NODES: &[NodePlace] = &[
     NodePlace(8, ROOT, 0, 0, false, true, BASE, None),
     NodePlace(9, ROOT, 0, 0, true, false, BASE, None),
     NodePlace(10, ROOT, 0, 1, false, false, BASE, None),
-    NodePlace(11, ROOT, 7, 0, false, false, BASE, None),
-    NodePlace(12, CALL, 0, 0, false, false, BASE, None),
-    NodePlace(13, CALL, 1, 0, false, false, BASE, None),
+    NodePlace(11, ROOT, 0, 1 << 75, false, false, BASE, None),
+    NodePlace(12, ROOT, 7, 0, false, false, BASE, None),
+    NodePlace(13, ROOT, 0x1_0000, 0, false, false, BASE, None),
+    NodePlace(14, CALL, 0, 0, false, false, BASE, None),
+    NodePlace(15, CALL, 1, 0, false, false, BASE, None),
 ];
 
 /// Nodes, which ascend by instance and then by their fields.
@@ -208,7 +212,7 @@ pub fn is_begin() -> bool {
     ];
     InstKey::root() == inst_of(&ALL_INSTANCES[0].1)
         && begins(&ALL_NODES[0])
-        && begins(&ALL_NODES[13])
+        && begins(&ALL_NODES[15])
         && begins(&PLACES[0])
         && offsets == [7, 9, 2048]
 }

@@ -1,5 +1,5 @@
 use Rattle.std.proofs.Common.{sym, ap, ◌∙◌}
-use Rattle.abs_step.specs.declared.pairs.Test.TheVariants.{Flag, Bit, Equal}
+use Rattle.abs_step.specs.declared.pairs.PairTest.TheVariants.{Flag, Bit, Equal}
 use Rattle.abs_step.specs.Conditions.{cut_by}
 use Rattle.abs_step.proofs.Slots.{cut_slots}
 use Rattle.abs_step.proofs.pairs.cut.Goals as goal

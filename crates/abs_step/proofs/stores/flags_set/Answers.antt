@@ -2,7 +2,7 @@ use Rattle.std.proofs.Common.{◌∙◌, sym, ap, subst, subst₂, [], ◌∷◌
 use Rattle.bit_domain.specs.declared.bits.Tri.{Tri}
 use Rattle.bit_domain.specs.TriByte.{tri_at}
 use Rattle.abs_state.specs.declared.state.AbsState.{AbsState}
-use Rattle.mask_states.specs.declared.keys.NodeKey.{NodeKey}
+use Rattle.node_keys.specs.declared.keys.NodeKey.{NodeKey}
 use Rattle.local_rules.specs.Raw.{Raw, one, moves_to}
 use Rattle.local_rules.specs.Writes.{sreg_written}
 use Rattle.abs_step.specs.Adding.{Adds}

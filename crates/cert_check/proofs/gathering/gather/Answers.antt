@@ -1,8 +1,8 @@
 use Rattle.std.proofs.Common.{◌≤◌, length, arith}
-use Rattle.call_graph.proofs.Landed.{landed_all}
+use Rattle.family_edges.proofs.Landed.{landed_all}
 use Rattle.cert_check.proofs.Passing.{ends}
 use Rattle.cert_check.proofs.gathering.gather.Goals as goal
-use Rattle.call_graph.specs.Tasks.{task_of}
+use Rattle.family_edges.specs.Tasks.{task_of}
 
 pub returns : goal.returns
 returns c =

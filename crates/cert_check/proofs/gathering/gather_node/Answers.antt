@@ -3,15 +3,15 @@ use Rattle.basics.specs.Lists.{get_inside}
 use Rattle.avr_model.specs.Assumptions.{has_pairs}
 use Rattle.edge_rules.specs.declared.edge.Edge.{Edge}
 use Rattle.edge_rules.specs.Edges.{AreEdges}
-use Rattle.call_graph.specs.declared.landing.Landing.{Landing}
-use Rattle.call_graph.specs.Landings.{AreLandingsTo, landings_by}
-use Rattle.call_graph.proofs.Landed.{landed_more}
-use Rattle.mask_states.specs.Keys.{root_inst}
+use Rattle.family_edges.specs.declared.landing.Landing.{Landing}
+use Rattle.family_edges.specs.Landings.{AreLandingsTo, landings_by}
+use Rattle.family_edges.proofs.Landed.{landed_more}
+use Rattle.node_keys.specs.Keys.{root_inst}
 use Rattle.certificate.specs.Insts.{inst_keys}
 use Rattle.cert_check.specs.Demands.{IsLeastOffered, LeadsToNode, GapAt, KeyBelow, demands_of, AllBelong}
 use Rattle.cert_check.proofs.Passing.{key_belongs, targets, gap_first, targets_belong, goes_on}
 use Rattle.cert_check.proofs.gathering.gather_node.Goals as goal
-use Rattle.call_graph.specs.Tasks.{task_of}
+use Rattle.family_edges.specs.Tasks.{task_of}
 
 pub landed_from-requires-clause-targets : goal.landed_from-requires-clause-targets
 landed_from-requires-clause-targets c =

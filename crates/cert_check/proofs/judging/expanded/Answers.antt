@@ -2,13 +2,13 @@ use Rattle.std.proofs.Common.{◌≡◌, sym, ap, ◌∙◌, subst, subst₂, If
 use Rattle.avr_model.specs.Assumptions.{has_pairs}
 use Rattle.edge_rules.specs.Expansion.{AreSeeds}
 use Rattle.edge_laws.specs.Expansions.{AreSeedsAscending}
-use Rattle.call_graph.specs.Expanding.{IsExpanded}
+use Rattle.family_edges.specs.Expanding.{IsExpanded}
 use Rattle.certificate.proofs.AllLaws.{claims_are_seeds}
 use Rattle.cert_check.specs.Reading.{read_seeds}
 use Rattle.cert_check.proofs.ReadAs.{seeds_read, ascending_read, own_is_read, same_mode}
 use Rattle.cert_check.proofs.judging.expanded.Goals as goal
 use Rattle.local_rules.specs.Site.{task_with}
-use Rattle.call_graph.specs.Tasks.{task_of}
+use Rattle.family_edges.specs.Tasks.{task_of}
 
 pub expand-requires-clause-seeds : goal.expand-requires-clause-seeds
 expand-requires-clause-seeds c =

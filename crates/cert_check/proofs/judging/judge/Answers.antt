@@ -2,7 +2,7 @@ use Rattle.std.proofs.Common.{subst}
 use Rattle.local_rules.specs.Machine.{HaveSixteenBits}
 use Rattle.cert_check.proofs.One.{accepts, rejects, bounds}
 use Rattle.cert_check.proofs.judging.judge.Goals as goal
-use Rattle.call_graph.specs.Tasks.{task_of}
+use Rattle.family_edges.specs.Tasks.{task_of}
 
 pub returns-clause-exact : goal.returns-clause-exact
 returns-clause-exact c = c.verdict_of.ensures (task_of c.args.task.now) c.in_ok-judgement.ensures.exact

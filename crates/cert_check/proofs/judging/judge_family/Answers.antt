@@ -1,7 +1,7 @@
 use Rattle.std.proofs.Common.{subst, length, ◌≤◌, ◌≡◌}
 use Rattle.avr_model.specs.Assumptions.{has_pairs}
-use Rattle.call_graph.specs.declared.worked.Worked.{Worked}
-use Rattle.call_graph.specs.Expanding.{IsExpanded}
+use Rattle.family_edges.specs.declared.worked.WorkedOut.{WorkedOut}
+use Rattle.family_edges.specs.Expanding.{IsExpanded}
 use Rattle.cert_check.specs.declared.verdict.Judgement.{Judgement}
 use Rattle.cert_check.specs.declared.verdict.Judgement.TheVariants.{Accepted}
 use Rattle.cert_check.specs.Reading.{read_seeds}
@@ -9,7 +9,7 @@ use Rattle.cert_check.specs.Verdict.{IsJudgement}
 use Rattle.cert_check.proofs.One.{few_in}
 use Rattle.cert_check.proofs.Verdicts.{if_ok}
 use Rattle.cert_check.proofs.judging.judge_family.Goals as goal
-use Rattle.call_graph.specs.Tasks.{task_of}
+use Rattle.family_edges.specs.Tasks.{task_of}
 
 pub judge_nodes-requires-clause-filled : goal.judge_nodes-requires-clause-filled
 judge_nodes-requires-clause-filled c =
@@ -21,5 +21,5 @@ pub returns-in-Whole-clause-few : goal.returns-in-Whole-clause-few
 returns-in-Whole-clause-few c =
     let task = task_of c.args.task.now in
     let claim = c.args.certificate.now in
-    if_ok (IsJudgement task claim) (λ (j : Judgement Worked). (family : Worked) → j ≡ Accepted family → length family.nodes ≤ 65536) c.judge_nodes.result
+    if_ok (IsJudgement task claim) (λ (j : Judgement WorkedOut). (family : WorkedOut) → j ≡ Accepted family → length family.nodes ≤ 65536) c.judge_nodes.result
     (λ j h. few_in task claim j c.nodes-nodes.ensures.kept h) c.judge_nodes.ensures

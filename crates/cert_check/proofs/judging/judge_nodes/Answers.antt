@@ -2,7 +2,7 @@ use Rattle.std.proofs.Common.{subst}
 use Rattle.cert_check.specs.Demands.{SettlesClaim}
 use Rattle.cert_check.proofs.One.{family_is, refused}
 use Rattle.cert_check.proofs.judging.judge_nodes.Goals as goal
-use Rattle.call_graph.specs.Tasks.{task_of}
+use Rattle.family_edges.specs.Tasks.{task_of}
 
 pub returns-in-Ok-Accepted : goal.returns-in-Ok-Accepted
 returns-in-Ok-Accepted c =

@@ -1,8 +1,8 @@
 use Rattle.std.proofs.Common.{subst, arith}
-use Rattle.call_graph.specs.Exits.{GivesExits, IsFirstFault}
+use Rattle.family_edges.specs.Exits.{GivesExits, IsFirstFault}
 use Rattle.cert_check.proofs.Verdicts.{beside, node_fits, first_fault}
 use Rattle.cert_check.proofs.judging.settle.Goals as goal
-use Rattle.call_graph.specs.Tasks.{task_of}
+use Rattle.family_edges.specs.Tasks.{task_of}
 
 pub has_reset-requires : goal.has_reset-requires
 has_reset-requires c = beside (task_of c.args.task.now) c.args.certificate.now c.args.nodes.now c.requires.claim c.requires.filled

@@ -6,7 +6,7 @@ use Rattle.cert_check.proofs.Asking.{decided, gap_least}
 use Rattle.cert_check.proofs.One.{are_instances}
 use Rattle.cert_check.proofs.Verdicts.{few_nodes, shown, beside, nodes_belong}
 use Rattle.cert_check.proofs.judging.settle_edges.Goals as goal
-use Rattle.call_graph.specs.Tasks.{task_of}
+use Rattle.family_edges.specs.Tasks.{task_of}
 
 pub gather-requires-clause-few : goal.gather-requires-clause-few
 gather-requires-clause-few c = few_nodes (task_of c.args.task.now) c.args.certificate.now c.args.nodes.now c.requires.claim c.requires.filled

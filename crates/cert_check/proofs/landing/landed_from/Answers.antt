@@ -1,6 +1,6 @@
 use Rattle.std.proofs.Common.{[], ap, ◌∙◌}
 use Rattle.std.proofs.lemmas.List.{take_all}
-use Rattle.call_graph.specs.Landings.{landing_of, landings_by}
+use Rattle.family_edges.specs.Landings.{landing_of, landings_by}
 use Rattle.cert_check.specs.Demands.{LeadsToNode, GapAt, KeyBelow, lesser_key}
 use Rattle.cert_check.proofs.Lists.{read_in, least_none, least_more, least_all}
 use Rattle.cert_check.proofs.Covering.{lesser_keys}

@@ -1,5 +1,5 @@
 use Rattle.std.proofs.Common.{◌≡◌, take}
-use Rattle.call_graph.specs.Landings.{landings_by}
+use Rattle.family_edges.specs.Landings.{landings_by}
 use Rattle.cert_check.specs.Demands.{IsLeastOffered, LeadsToNode, GapAt, KeyBelow}
 use Rattle.cert_check.proofs.landing.landed_from.Given as goal
 

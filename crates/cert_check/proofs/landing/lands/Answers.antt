@@ -1,8 +1,8 @@
 use Rattle.std.proofs.Common.{sym, ◌∙◌, subst, arith}
 use Rattle.std.specs.List.Sorted.{IsStrictlySortedBy}
 use Rattle.std.proofs.lemmas.Option.{slice_get_within}
-use Rattle.mask_states.specs.Order.{node_cmp}
-use Rattle.call_graph.proofs.Landed.{inside_at}
+use Rattle.node_keys.specs.Order.{node_cmp}
+use Rattle.family_edges.proofs.Landed.{inside_at}
 use Rattle.cert_check.proofs.Covering.{covered_at, same_slots, not_covered}
 use Rattle.cert_check.proofs.ReadAs.{key_found}
 use Rattle.cert_check.proofs.landing.lands.Goals as goal

@@ -1,5 +1,5 @@
 use Rattle.std.proofs.Common.{sym, ◌∙◌, arith}
-use Rattle.call_graph.proofs.Landed.{inside_at}
+use Rattle.family_edges.proofs.Landed.{inside_at}
 use Rattle.cert_check.proofs.landing.note.Goals as goal
 
 pub overflow_cast-at : goal.overflow_cast-at

@@ -1,5 +1,5 @@
 use Rattle.std.proofs.Common.{◌≡◌, sym, ap, ◌∙◌, subst, Some, arith}
-use Rattle.mask_states.specs.Keys.{root_inst}
+use Rattle.node_keys.specs.Keys.{root_inst}
 use Rattle.certificate.specs.Insts.{need_in}
 use Rattle.cert_check.specs.Demands.{AreInstances, AreDemandsInside, IsLeastOffered, MeetsRank, LowRank, PairBelow, MeetsNeed, LowNeed, NumberBelow, RanksFall, AllMet, need_at}
 use Rattle.cert_check.proofs.Insts.{need_there}

@@ -1,5 +1,5 @@
 use Rattle.std.proofs.Common.{◌≡◌, map, take}
-use Rattle.sb_base.specs.Writing.{with_words}
+use Rattle.text_base.specs.Writing.{with_words}
 use Rattle.cert_words.specs.Spelling.{slot_word}
 use Rattle.cert_writing.proofs.state.write_slots.Given as goal
 

@@ -1,6 +1,6 @@
 use Rattle.std.proofs.Common.{ℕ, List, ◌∷◌, ◌≡◌, ◌∙◌, ap, subst}
 use Rattle.std.specs.Prelude.{OnOk}
-use Rattle.sb_base.specs.Writing.{with_word}
+use Rattle.text_base.specs.Writing.{with_word}
 use Rattle.cert_words.specs.Spelling.{tag_text}
 use Rattle.cert_writing.proofs.Written.{spelled}
 use Rattle.cert_writing.proofs.values.write_bits_and_range.Goals as goal

@@ -7,7 +7,7 @@ returns c =
     c.word.new.self c.end_line.new.self c.args.certificate.now
     (rw (c.device-device.ensures, c.version-version.ensures, c.bound.ensures) at c.in_ok-write_heading.ensures)
     (rw (c.entries.ensures.value, c.assumptions-assumptions.ensures) at c.in_ok-write_numbered.ensures)
-    (rw c.assumptions-assumptions.ensures at c.in_ok-write.ensures.written)
+    (rw (c.device-device.ensures, c.assumptions-assumptions.ensures) at c.in_ok-write.ensures.written)
     (rw c.instances-instances.ensures at c.in_ok-write_numbered-2.ensures)
     (rw (c.device-device.ensures, c.instances-instances.ensures) at c.in_ok-write_insts.ensures)
     (rw c.nodes-nodes.ensures.value at c.in_ok-write_numbered-3.ensures)

@@ -1,6 +1,6 @@
 use Rattle.std.proofs.Common.{ap, ◌∙◌, Option}
 use Rattle.std.specs.List.{flat_map}
-use Rattle.sb_base.specs.Lines.{line}
+use Rattle.text_base.specs.Lines.{line}
 use Rattle.line_reading.specs.Appending.{with_text}
 use Rattle.witness_replay.specs.Spelling.{Plan}
 use Rattle.cert_words.specs.Text.{witness_lines}

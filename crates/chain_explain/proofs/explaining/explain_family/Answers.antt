@@ -10,7 +10,7 @@ use Rattle.chain_explain.proofs.Stepped.{reset_has}
 use Rattle.chain_explain.proofs.Explained.{sums, nests, least}
 use Rattle.chain_explain.proofs.Marks.{kept_few, reached_given}
 use Rattle.chain_explain.proofs.explaining.explain_family.Goals as goal
-use Rattle.call_graph.specs.Tasks.{task_of}
+use Rattle.family_edges.specs.Tasks.{task_of}
 
 pub marks_of-requires-clause-shown : goal.marks_of-requires-clause-shown
 marks_of-requires-clause-shown c =

@@ -3,16 +3,16 @@ use Rattle.basics.specs.Items.{place_of_contained, contained_at}
 use Rattle.avr_model.specs.Devices.{device_of, back_of}
 use Rattle.avr_model.specs.State.{SIZE}
 use Rattle.avr_model.proofs.AllLaws.{devices_are_alike}
-use Rattle.mask_states.specs.declared.keys.InstKey.{InstKey}
-use Rattle.mask_states.specs.declared.keys.NodeKey.{NodeKey}
-use Rattle.mask_states.specs.Keys.{offset_of}
+use Rattle.node_keys.specs.declared.keys.InstKey.{InstKey}
+use Rattle.node_keys.specs.declared.keys.NodeKey.{NodeKey}
+use Rattle.node_keys.specs.Keys.{offset_of}
 use Rattle.chain_explain.specs.declared.explanation.PartPlace.TheVariants as place
 use Rattle.chain_explain.specs.Explanation.{adds_by}
 use Rattle.chain_explain.specs.Reached.{IsReached}
 use Rattle.chain_explain.specs.Walks.{IsWay}
 use Rattle.chain_explain.proofs.Stepped.{key_there}
 use Rattle.chain_explain.proofs.parts.node_part.Goals as goal
-use Rattle.call_graph.specs.Tasks.{task_of}
+use Rattle.family_edges.specs.Tasks.{task_of}
 
 pub way-requires-clause-there : goal.way-requires-clause-there
 way-requires-clause-there c =

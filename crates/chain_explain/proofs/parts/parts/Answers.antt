@@ -1,11 +1,11 @@
 use Rattle.std.proofs.Common.{sym, subst, List, ◌∷◌, [], ◌≤◌, ◌-◌, ◌+◌, length, None, get_or, take, drop, arith}
 use Rattle.std.proofs.lemmas.List.{length-drop, take_all}
-use Rattle.nesting_bound.specs.declared.graph.Link.{Link}
+use Rattle.instance_graph.specs.declared.graph.Link.{Link}
 use Rattle.chain_explain.specs.declared.explanation.Part.{Part}
 use Rattle.chain_explain.specs.Explanation.{IsPart, AreParts}
 use Rattle.chain_explain.proofs.Built.{parts_take, read_there}
 use Rattle.chain_explain.proofs.parts.parts.Goals as goal
-use Rattle.call_graph.specs.Tasks.{task_of}
+use Rattle.family_edges.specs.Tasks.{task_of}
 
 pub part-requires-clause-there : goal.part-requires-clause-there
 part-requires-clause-there c =

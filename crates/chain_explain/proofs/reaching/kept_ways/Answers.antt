@@ -8,7 +8,7 @@ use Rattle.chain_explain.proofs.Marks.{kept_next, kept_whole, ways_kept}
 use Rattle.chain_explain.proofs.Stepped.{read_at}
 use Rattle.chain_explain.proofs.reaching.kept_ways.Goals as goal
 use Rattle.chain_explain.proofs.reaching.kept_ways.Goals.{then-marks-at+in_ok-to_vec+in_ok-push, else-marks-at}
-use Rattle.call_graph.specs.Tasks.{task_of}
+use Rattle.family_edges.specs.Tasks.{task_of}
 
 pub loop-at-preserved : goal.loop-at-preserved
 loop-at-preserved c =

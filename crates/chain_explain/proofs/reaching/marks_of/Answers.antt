@@ -3,7 +3,7 @@ use Rattle.std.proofs.lemmas.List.{length-map}
 use Rattle.std.proofs.lemmas.Result.{IfOk-weaker}
 use Rattle.basics.specs.Items.{only_one_in}
 use Rattle.edge_rules.specs.Places.{found_at}
-use Rattle.mask_states.specs.Keys.{entry_key}
+use Rattle.node_keys.specs.Keys.{entry_key}
 use Rattle.local_laws.specs.Laws.{HasKey}
 use Rattle.shortest_walk.specs.Graph.{IsNumberedGraph, AreMarks}
 use Rattle.chain_explain.specs.Moves.{at_of, leads_by}
@@ -12,7 +12,7 @@ use Rattle.chain_explain.proofs.Edges.{is_graph}
 use Rattle.chain_explain.proofs.Marks.{are_reached}
 use Rattle.chain_explain.proofs.Stepped.{reset_has}
 use Rattle.chain_explain.proofs.reaching.marks_of.Goals as goal
-use Rattle.call_graph.specs.Tasks.{task_of}
+use Rattle.family_edges.specs.Tasks.{task_of}
 
 pub number_of-root-requires : goal.number_of-root-requires
 number_of-root-requires c =

@@ -1,5 +1,5 @@
 use Rattle.std.proofs.Common.{◌≡◌, ◌+◌, ◌-◌, ◌<◌, [], ◌∙◌, refl, ap, sym, subst, arith, get_or, length, map, List, ℕ, Contains}
-use Rattle.call_graph.specs.declared.landing.Landing.{Landing}
+use Rattle.family_edges.specs.declared.landing.Landing.{Landing}
 use Rattle.chain_explain.specs.Moves.{moves_of, moves_by, IsPortion}
 use Rattle.chain_explain.proofs.Built.{portion_none, portion_more}
 use Rattle.chain_explain.proofs.Edges.{read_each}

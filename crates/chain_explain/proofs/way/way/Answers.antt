@@ -1,7 +1,7 @@
 use Rattle.std.proofs.Common.{◌≡◌, ◌+◌, ◌-◌, ◌<◌, ◌∷◌, [], ◌∙◌, Option, Some, IfSome, sym, ap, subst, map, length, List, ℕ, Contains, arith, Vec, Global}
 use Rattle.std.proofs.lemmas.List.{length-map}
 use Rattle.std.proofs.lemmas.Result.{IfOk-weaker}
-use Rattle.mask_states.specs.declared.keys.NodeKey.{NodeKey}
+use Rattle.node_keys.specs.declared.keys.NodeKey.{NodeKey}
 use Rattle.local_laws.specs.Laws.{HasKey}
 use Rattle.edge_rules.specs.Views.{place_of}
 use Rattle.shortest_walk.specs.Graph.{IsNumberedGraph, IsNumberReached}
@@ -11,7 +11,7 @@ use Rattle.chain_explain.specs.Moves.{moves_of, moves_by}
 use Rattle.chain_explain.proofs.Shifted.{walk_inside}
 use Rattle.chain_explain.proofs.Ways.{start_has, apart, start_inside, target_inside, portion_graph, portion_reaches, is_way_to}
 use Rattle.chain_explain.proofs.way.way.Goals as goal
-use Rattle.call_graph.specs.Tasks.{task_of}
+use Rattle.family_edges.specs.Tasks.{task_of}
 
 pub number_of-start-requires : goal.number_of-start-requires
 number_of-start-requires c =

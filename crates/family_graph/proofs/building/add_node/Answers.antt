@@ -1,7 +1,7 @@
 use Rattle.std.proofs.Common.{◌∙◌, ap}
 use Rattle.basics.specs.Lists.{one_at}
 use Rattle.local_rules.specs.declared.local.Node.{Node}
-use Rattle.mask_states.specs.declared.keys.NodeKey.{NodeKey}
+use Rattle.node_keys.specs.declared.keys.NodeKey.{NodeKey}
 use Rattle.family_graph.proofs.Insts.{node_of}
 use Rattle.family_graph.proofs.Adding.{adds_closed}
 use Rattle.family_graph.proofs.building.add_node.Goals as goal

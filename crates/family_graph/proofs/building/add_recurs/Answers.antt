@@ -1,6 +1,6 @@
 use Rattle.std.proofs.Common.{◌≡◌, ◌∙◌, ◌+◌, ℕ, sym, ap, refl, subst, arith, length, List, Some, slice_get}
 use Rattle.std.proofs.lemmas.Option.{slice_get_read}
-use Rattle.nesting_bound.specs.declared.graph.Entered.{Entered}
+use Rattle.instance_graph.specs.declared.graph.Entered.{Entered}
 use Rattle.family_graph.specs.Numbers.{AreRecurs}
 use Rattle.family_graph.proofs.Adding.{recurs_none, recurs_past, recurs_more}
 use Rattle.family_graph.proofs.building.add_recurs.Goals as goal

@@ -1,12 +1,12 @@
 use Rattle.std.proofs.Common.{◌≡◌, ◌<◌, ◌+◌, ◌≤◌, arith, sym, subst, length, ℕ, List}
 use Rattle.basics.specs.Lists.{get_inside}
-use Rattle.nesting_bound.specs.declared.graph.GraphInst.{GraphInst}
-use Rattle.nesting_bound.specs.Graph.{IsGraph}
+use Rattle.instance_graph.specs.declared.graph.GraphInst.{GraphInst}
+use Rattle.instance_graph.specs.Graph.{IsGraph}
 use Rattle.family_graph.specs.Graphs.{AreWays, IsGraphOf}
 use Rattle.family_graph.specs.Numbers.{AreGraphInsts}
 use Rattle.family_graph.proofs.Graphs.{made_more, graph_is, composable}
 use Rattle.family_graph.proofs.building.graph_of.Goals as goal
-use Rattle.call_graph.specs.Tasks.{task_of}
+use Rattle.family_edges.specs.Tasks.{task_of}
 
 pub instance-requires-clause-ways : goal.instance-requires-clause-ways
 instance-requires-clause-ways c = subst (AreWays (task_of c.args.task.now) c.args.nodes.now) (sym c.as_slice.ensures) c.requires.ways

@@ -1,5 +1,5 @@
 use Rattle.std.proofs.Common.{◌≡◌, ℕ, List, subst₂, arith, refl, length}
-use Rattle.mask_states.specs.declared.keys.InstKey.{InstKey}
+use Rattle.node_keys.specs.declared.keys.InstKey.{InstKey}
 use Rattle.family_graph.specs.Numbers.{AreRecursOf}
 use Rattle.std.proofs.lemmas.Option.{slice_get_read}
 use Rattle.basics.specs.Items.{contained_at}
@@ -7,7 +7,7 @@ use Rattle.basics.specs.Lists.{get_inside, one_at}
 use Rattle.family_graph.proofs.Adding.{places_more, entries_more, instance_made}
 use Rattle.family_graph.proofs.Ways.{ways_at, ways_have}
 use Rattle.family_graph.proofs.building.instance.Goals as goal
-use Rattle.call_graph.specs.Tasks.{task_of}
+use Rattle.family_edges.specs.Tasks.{task_of}
 
 pub bounds-ways-at : goal.bounds-ways-at
 bounds-ways-at c = omega (arith, c.loop-at-test.true, c.span-low.ensures.inside, c.requires.ways.count_is)

@@ -1,10 +1,10 @@
 use Rattle.std.specs.Prelude.{◌↔◌}
 use Rattle.std.proofs.Common.{Contains}
-use Rattle.nesting_bound.specs.declared.graph.Entered.{Entered}
-use Rattle.nesting_bound.specs.declared.graph.Place.{Place}
+use Rattle.instance_graph.specs.declared.graph.Entered.{Entered}
+use Rattle.instance_graph.specs.declared.graph.Place.{Place}
 use Rattle.family_graph.specs.Numbers.{IsPlaceBetween, IsEntryBetween}
 use Rattle.family_graph.proofs.building.instance.Given as goal
-use Rattle.call_graph.specs.Tasks.{task_of}
+use Rattle.family_edges.specs.Tasks.{task_of}
 
 abbrev pub invariant-loop-at : goal.invariant-loop-at
 invariant-loop-at l =

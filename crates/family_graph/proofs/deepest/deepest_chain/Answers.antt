@@ -1,10 +1,10 @@
 use Rattle.std.proofs.Common.{arith, ap, ◌∙◌, subst, ◌≤◌, slice_index}
 use Rattle.avr_model.specs.Devices.{back_of}
-use Rattle.nesting_bound.specs.Least.{IsLeast}
+use Rattle.instance_graph.specs.Least.{IsLeast}
 use Rattle.avr_model.proofs.AllLaws.{devices_are_alike}
 use Rattle.family_graph.proofs.Conditions.{peopled, some_node, ranked, places, root_bound, root_first}
 use Rattle.family_graph.proofs.deepest.deepest_chain.Goals as goal
-use Rattle.call_graph.specs.Tasks.{task_of}
+use Rattle.family_edges.specs.Tasks.{task_of}
 
 pub graph_of-requires-clause-some : goal.graph_of-requires-clause-some
 graph_of-requires-clause-some c = some_node (task_of c.args.task.now) c.args.certificate.now c.args.nodes.now c.requires.meets

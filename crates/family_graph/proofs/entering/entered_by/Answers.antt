@@ -1,10 +1,10 @@
 use Rattle.std.proofs.Common.{◌≡◌, ◌+◌, ◌<◌, ◌∙◌, ap, sym, subst, arith, length, get_or, List, ℕ}
 use Rattle.basics.specs.Lists.{get_inside}
-use Rattle.call_graph.specs.declared.landing.Landing.{Landing}
+use Rattle.family_edges.specs.declared.landing.Landing.{Landing}
 use Rattle.family_graph.specs.Graphs.{AreWaysTo}
 use Rattle.family_graph.proofs.Ways.{ways_none, ways_more, ways_of_at, landing_inside}
 use Rattle.family_graph.proofs.entering.entered_by.Goals as goal
-use Rattle.call_graph.specs.Tasks.{task_of}
+use Rattle.family_edges.specs.Tasks.{task_of}
 
 pub loop-at-init : goal.loop-at-init
 loop-at-init c =

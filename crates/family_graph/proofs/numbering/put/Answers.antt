@@ -1,5 +1,5 @@
 use Rattle.std.proofs.Common.{Vec, Global, ap, ◌∙◌}
-use Rattle.mask_states.specs.declared.keys.InstKey.{InstKey}
+use Rattle.node_keys.specs.declared.keys.InstKey.{InstKey}
 use Rattle.family_graph.proofs.Insts.{grows_kept, grows_added}
 use Rattle.family_graph.proofs.numbering.put.Goals as goal
 use Rattle.family_graph.proofs.numbering.put.Goals.{then-not-ends_with+in_ok-push, else-not-ends_with}

@@ -1,7 +1,7 @@
 use Rattle.std.proofs.Common.{◌<◌, arith}
 use Rattle.std.proofs.lemmas.Option.{slice_get_within}
 use Rattle.basics.specs.Items.{contained_at, place_of_contained}
-use Rattle.call_graph.specs.Tasks.{task_of}
+use Rattle.family_edges.specs.Tasks.{task_of}
 use Rattle.family_graph.proofs.rooted.are_rooted.Goals as goal
 
 pub returns-then-not-is_rooted-clause-no : goal.returns-then-not-is_rooted-clause-no

@@ -1,6 +1,6 @@
 use Rattle.std.proofs.Common.{ℕ, ◌<◌}
 use Rattle.family_graph.specs.Numbers.{IsRooted}
-use Rattle.call_graph.specs.Tasks.{task_of}
+use Rattle.family_edges.specs.Tasks.{task_of}
 use Rattle.family_graph.proofs.rooted.are_rooted.Given as goal
 
 abbrev pub invariant-loop-at : goal.invariant-loop-at

@@ -1,8 +1,8 @@
 use Rattle.std.proofs.Common.{◌∙◌, sym, ap}
-use Rattle.mask_states.specs.declared.keys.NodeKey.{NodeKey}
+use Rattle.node_keys.specs.declared.keys.NodeKey.{NodeKey}
 use Rattle.edge_rules.specs.Views.{place_of}
 use Rattle.family_graph.proofs.FirstNodes.{rooted_yes, rooted_no}
-use Rattle.call_graph.specs.Tasks.{task_of}
+use Rattle.family_edges.specs.Tasks.{task_of}
 use Rattle.family_graph.proofs.rooted.is_rooted.Goals as goal
 
 pub returns-in-Some-clause-yes : goal.returns-in-Some-clause-yes

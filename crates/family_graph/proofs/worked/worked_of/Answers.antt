@@ -4,12 +4,12 @@ use Rattle.avr_model.specs.declared.assumption.Entry.{Entry}
 use Rattle.avr_model.specs.declared.device.Device.{Device}
 use Rattle.avr_model.specs.Assumptions.{has_pairs}
 use Rattle.edge_rules.specs.Expansion.{AreSeeds, IsFilled, IsMissing}
-use Rattle.call_graph.specs.Expanding.{IsExpanded}
+use Rattle.family_edges.specs.Expanding.{IsExpanded}
 use Rattle.certificate.specs.Valid.{MeetsConditions}
 use Rattle.local_rules.specs.declared.local.Node.{Node}
 use Rattle.family_graph.proofs.Conditions.{meets_conditions}
 use Rattle.family_graph.proofs.worked.worked_of.Goals as goal
-use Rattle.call_graph.specs.Tasks.{task_of}
+use Rattle.family_edges.specs.Tasks.{task_of}
 
 pub expand-requires-clause-seeds : goal.expand-requires-clause-seeds
 expand-requires-clause-seeds c =

@@ -2,14 +2,14 @@ use Rattle.std.proofs.Common.{List, sym, subst, take, arith}
 use Rattle.std.proofs.lemmas.List.{take_all}
 use Rattle.avr_model.specs.Devices.{device_of}
 use Rattle.avr_model.specs.Assumptions.{has_pairs}
-use Rattle.mask_states.specs.declared.keys.NodeKey.{NodeKey}
+use Rattle.node_keys.specs.declared.keys.NodeKey.{NodeKey}
 use Rattle.round_steps.proofs.Besides.{pushed}
 use Rattle.round_steps.proofs.Gathers.{formed_own, nodes_own}
 use Rattle.fixpoint.specs.Confirm.{LandAt}
 use Rattle.fixpoint.proofs.Order.{none_left}
 use Rattle.fixpoint.proofs.Confirm.{none_land, more_land, targets_are_nodes, edges_land}
 use Rattle.fixpoint.proofs.confirming.check_all_edges.Goals as goal
-use Rattle.call_graph.specs.Tasks.{task_of}
+use Rattle.family_edges.specs.Tasks.{task_of}
 
 pub loop-at-init : goal.loop-at-init
 loop-at-init c = none_land (task_of c.args.task.now) c.args.table.now

@@ -2,7 +2,7 @@ use Rattle.fixpoint.proofs.Order.{made_root}
 use Rattle.fixpoint.proofs.Ready.{few_insts, alike_known}
 use Rattle.fixpoint.proofs.Confirm.{whole_known, confirmed}
 use Rattle.fixpoint.proofs.confirming.confirm.Goals as goal
-use Rattle.call_graph.specs.Tasks.{task_of}
+use Rattle.family_edges.specs.Tasks.{task_of}
 
 pub check_nesting-requires : goal.check_nesting-requires
 check_nesting-requires c =

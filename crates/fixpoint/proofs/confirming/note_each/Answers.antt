@@ -1,11 +1,11 @@
 use Rattle.std.proofs.Common.{List, [], ◌∷◌, sym, subst, take}
-use Rattle.mask_states.specs.declared.keys.NodeKey.{NodeKey}
+use Rattle.node_keys.specs.declared.keys.NodeKey.{NodeKey}
 use Rattle.round_steps.proofs.Besides.{pushed}
 use Rattle.fixpoint.specs.Confirm.{AreKnownAt}
 use Rattle.fixpoint.proofs.Ready.{looks_fit}
 use Rattle.fixpoint.proofs.Confirm.{none_known, none_once, more_known}
 use Rattle.fixpoint.proofs.confirming.note_each.Goals as goal
-use Rattle.call_graph.specs.Tasks.{task_of}
+use Rattle.family_edges.specs.Tasks.{task_of}
 
 pub loop-at-init : goal.loop-at-init
 loop-at-init c =

@@ -1,6 +1,6 @@
 use Rattle.fixpoint.proofs.Formed.{forms_hold}
 use Rattle.fixpoint.proofs.forming.forms.Goals as goal
-use Rattle.call_graph.specs.Tasks.{task_of}
+use Rattle.family_edges.specs.Tasks.{task_of}
 
 pub returns-in-Ok : goal.returns-in-Ok
 returns-in-Ok c =

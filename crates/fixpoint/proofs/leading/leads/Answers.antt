@@ -1,10 +1,10 @@
 use Rattle.std.proofs.Common.{◌∙◌, ap, arith, length, get_or, List}
 use Rattle.basics.specs.Lists.{get_inside}
-use Rattle.call_graph.specs.declared.landing.Landing.{Landing}
+use Rattle.family_edges.specs.declared.landing.Landing.{Landing}
 use Rattle.family_graph.proofs.Ways.{ways_of_at, landing_inside}
 use Rattle.fixpoint.proofs.Led.{led_written}
 use Rattle.fixpoint.proofs.leading.leads.Goals as goal
-use Rattle.call_graph.specs.Tasks.{task_of}
+use Rattle.family_edges.specs.Tasks.{task_of}
 
 pub note_all-requires : goal.note_all-requires
 note_all-requires c =

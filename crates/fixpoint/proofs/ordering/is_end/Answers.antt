@@ -1,5 +1,5 @@
 use Rattle.std.proofs.Common.{List, Contains, sym, subst}
-use Rattle.mask_states.specs.declared.keys.NodeKey.{NodeKey}
+use Rattle.node_keys.specs.declared.keys.NodeKey.{NodeKey}
 use Rattle.fixpoint.proofs.ordering.is_end.Goals as goal
 
 pub confirm-told-requires-clause-all : goal.confirm-told-requires-clause-all

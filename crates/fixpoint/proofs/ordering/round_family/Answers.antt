@@ -1,7 +1,7 @@
 use Rattle.std.proofs.Common.{sym, subst}
 use Rattle.fixpoint.specs.Progress.{AreRoundsFound}
 use Rattle.fixpoint.proofs.ordering.round_family.Goals as goal
-use Rattle.call_graph.specs.Tasks.{task_of}
+use Rattle.family_edges.specs.Tasks.{task_of}
 
 pub returns-in-Ok-true-clause-found : goal.returns-in-Ok-true-clause-found
 returns-in-Ok-true-clause-found c =

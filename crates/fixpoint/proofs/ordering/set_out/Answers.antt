@@ -1,6 +1,6 @@
 use Rattle.fixpoint.proofs.Order.{way_first}
 use Rattle.fixpoint.proofs.ordering.set_out.Goals as goal
-use Rattle.call_graph.specs.Tasks.{task_of}
+use Rattle.family_edges.specs.Tasks.{task_of}
 
 pub returns : goal.returns
 returns c =

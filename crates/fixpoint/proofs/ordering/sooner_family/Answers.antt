@@ -4,7 +4,7 @@ use Rattle.round_rules.specs.Solutions.{AreRoundsWithout}
 use Rattle.fixpoint.specs.Progress.{AreRoundsFound}
 use Rattle.fixpoint.proofs.Ready.{handed_on}
 use Rattle.fixpoint.proofs.ordering.sooner_family.Goals as goal
-use Rattle.call_graph.specs.Tasks.{task_of}
+use Rattle.family_edges.specs.Tasks.{task_of}
 
 pub returns-in-Ok-true-clause-found : goal.returns-in-Ok-true-clause-found
 returns-in-Ok-true-clause-found c =

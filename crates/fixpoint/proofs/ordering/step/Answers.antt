@@ -1,6 +1,6 @@
 use Rattle.fixpoint.proofs.Order.{way_asked, falls_again}
 use Rattle.fixpoint.proofs.ordering.step.Goals as goal
-use Rattle.call_graph.specs.Tasks.{task_of}
+use Rattle.family_edges.specs.Tasks.{task_of}
 
 pub returns-clause-way : goal.returns-clause-way
 returns-clause-way c =

@@ -2,7 +2,7 @@ use Rattle.std.proofs.Common.{◌+◌, ◌*◌}
 use Rattle.std.specs.BinaryHeap.{heap_len}
 use Rattle.fixpoint.specs.Turns.{IsOnItsWay, room}
 use Rattle.fixpoint.proofs.ordering.walk_on.Given as goal
-use Rattle.call_graph.specs.Tasks.{task_of}
+use Rattle.family_edges.specs.Tasks.{task_of}
 
 abbrev pub invariant-looks : goal.invariant-looks
 invariant-looks l = IsOnItsWay (task_of l.task) l.walk

@@ -1,6 +1,6 @@
 use Rattle.fixpoint.specs.Turns.{AreUnderWay, room}
 use Rattle.fixpoint.proofs.rounds.go_on.Given as goal
-use Rattle.call_graph.specs.Tasks.{task_of}
+use Rattle.family_edges.specs.Tasks.{task_of}
 
 abbrev pub invariant-each : goal.invariant-each
 invariant-each l = AreUnderWay (task_of l.task) l.steps l.rounds

@@ -7,7 +7,7 @@ use Rattle.fixpoint.specs.Checks.{AreRoundsStopped}
 use Rattle.fixpoint.proofs.Known.{all_known}
 use Rattle.fixpoint.proofs.Ready.{handed_on, too_large, has_fault, looks_fit, few_insts, told_stops, targets_fit, is_ready}
 use Rattle.fixpoint.proofs.rounds.next_nodes.Goals as goal
-use Rattle.call_graph.specs.Tasks.{task_of}
+use Rattle.family_edges.specs.Tasks.{task_of}
 
 pub returns-in_err-check_size-clause-stopped : goal.returns-in_err-check_size-clause-stopped
 returns-in_err-check_size-clause-stopped c =

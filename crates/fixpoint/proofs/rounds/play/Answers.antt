@@ -5,7 +5,7 @@ use Rattle.round_rules.specs.Solutions.{AreRoundsWithout}
 use Rattle.fixpoint.proofs.Ready.{handed_on}
 use Rattle.fixpoint.proofs.Ending.{why_stopped, formed, rooted, is_found, progress_more, why_spent, falls, none_if, some_if}
 use Rattle.fixpoint.proofs.rounds.play.Goals as goal
-use Rattle.call_graph.specs.Tasks.{task_of}
+use Rattle.family_edges.specs.Tasks.{task_of}
 
 pub next_nodes-requires-clause-formed : goal.next_nodes-requires-clause-formed
 next_nodes-requires-clause-formed c =

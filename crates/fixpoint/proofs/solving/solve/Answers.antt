@@ -5,7 +5,7 @@ use Rattle.round_rules.specs.Solutions.{IsShown, IsWhyNot}
 use Rattle.fixpoint.proofs.Ready.{handed_on}
 use Rattle.fixpoint.proofs.Answer.{is_answer, is_valid, is_least, none_shown, told_why}
 use Rattle.fixpoint.proofs.solving.solve.Goals as goal
-use Rattle.call_graph.specs.Tasks.{task_of}
+use Rattle.family_edges.specs.Tasks.{task_of}
 
 pub returns-in-Some-clause-none : goal.returns-in-Some-clause-none
 returns-in-Some-clause-none c = λ none. none_shown (task_of c.args.task.now) c.args.steps (Misfit c.in-Some.at) c.in-Some.ensures none

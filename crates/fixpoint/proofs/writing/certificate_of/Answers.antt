@@ -1,10 +1,10 @@
 use Rattle.std.proofs.Common.{arith, sym, subst, ◌≡◌, ◌∙◌}
 use Rattle.avr_model.specs.Devices.{device_of}
-use Rattle.call_graph.specs.Shown.{AreOfSomeDevice}
+use Rattle.family_edges.specs.Shown.{AreOfSomeDevice}
 use Rattle.round_rules.specs.Families.{nodes_of}
 use Rattle.fixpoint.proofs.Certificates.{root_at, bound_small, claim, solution}
 use Rattle.fixpoint.proofs.writing.certificate_of.Goals as goal
-use Rattle.call_graph.specs.Tasks.{task_of}
+use Rattle.family_edges.specs.Tasks.{task_of}
 
 pub new-requires : goal.new-requires
 new-requires c =

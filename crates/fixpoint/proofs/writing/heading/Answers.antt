@@ -1,6 +1,6 @@
 use Rattle.fixpoint.proofs.Certificates.{peopled}
 use Rattle.fixpoint.proofs.writing.heading.Goals as goal
-use Rattle.call_graph.specs.Tasks.{task_of}
+use Rattle.family_edges.specs.Tasks.{task_of}
 
 pub entered_by-requires-clause-peopled : goal.entered_by-requires-clause-peopled
 entered_by-requires-clause-peopled c =

@@ -1,5 +1,5 @@
 use Rattle.std.proofs.Common.{◌≡◌, ◌∙◌, sym, ap, arith, ℕ, ◌+◌, ◌-◌, ◌%◌, Bool, ◌&&◌}
-use Rattle.mask_states.specs.Wakes.{may_enable}
+use Rattle.node_keys.specs.Wakes.{may_enable}
 use Rattle.local_rules.specs.Permitted.{permits_number}
 use Rattle.local_reads.proofs.wakes.may_enable_reached.Goals as goal
 

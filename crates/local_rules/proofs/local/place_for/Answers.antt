@@ -1,6 +1,6 @@
 use Rattle.std.proofs.Common.{◌≡◌, ◌∙◌, ◌-◌, sym, subst, true, false, arith}
 use Rattle.std.specs.Ordering.{is_gt}
-use Rattle.mask_states.specs.Order.{node_cmp}
+use Rattle.node_keys.specs.Order.{node_cmp}
 use Rattle.local_rules.specs.declared.local.Node.{Node}
 use Rattle.local_rules.proofs.Placing.{most_in, at_most, place_after}
 use Rattle.local_rules.proofs.local.place_for.Goals as goal

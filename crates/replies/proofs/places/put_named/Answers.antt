@@ -1,6 +1,6 @@
 use Rattle.std.proofs.Common.{ap, ◌∙◌, ℕ, List, Option, codes}
 use Rattle.std.proofs.lemmas.Result.{on_ok_weaker}
-use Rattle.sb_base.specs.Writing.{Written, with_word}
+use Rattle.text_base.specs.Writing.{Written, with_word}
 use Rattle.flash_image.specs.Naming.{least_name}
 use Rattle.reports.specs.Report.{name_word}
 use Rattle.replies.proofs.Sites.{named_written}

@@ -1,6 +1,6 @@
 use Rattle.std.proofs.Common.{ap, ap₂, ◌∙◌, ℕ, [], ◌∷◌, codes, decimal}
 use Rattle.std.proofs.lemmas.Result.{IfOk-weaker}
-use Rattle.sb_base.specs.Writing.{Written, with_words, with_end}
+use Rattle.text_base.specs.Writing.{Written, with_words, with_end}
 use Rattle.replies.specs.Places.{place_words}
 use Rattle.replies.proofs.places.unclear_text.Goals as goal
 

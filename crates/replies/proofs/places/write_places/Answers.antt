@@ -1,5 +1,5 @@
 use Rattle.std.proofs.Common.{sym, ap, ◌∙◌}
-use Rattle.sb_base.specs.Writing.{with_words, with_end}
+use Rattle.text_base.specs.Writing.{with_words, with_end}
 use Rattle.replies.specs.Places.{name_up_to, place_line}
 use Rattle.reports.proofs.AllLaws.{numbers_next}
 use Rattle.replies.proofs.Sites.{up_first, nothing_behind}

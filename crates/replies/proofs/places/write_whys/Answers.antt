@@ -1,5 +1,5 @@
 use Rattle.std.proofs.Common.{sym, ap, ◌∙◌}
-use Rattle.sb_base.specs.Writing.{with_end}
+use Rattle.text_base.specs.Writing.{with_end}
 use Rattle.cert_writing.proofs.Written.{lines_next}
 use Rattle.replies.specs.Places.{name_up_to, why_line}
 use Rattle.replies.proofs.Sites.{up_first, nothing_behind, why_written}

@@ -1,11 +1,11 @@
 use Rattle.std.proofs.Common.{◌<◌, ◌∙◌, refl, sym, ap, ◌∷◌, List, take, length, slice_index_or, arith}
 use Rattle.std.proofs.lemmas.Option.{slice_get-get_or}
-use Rattle.mask_states.specs.declared.keys.InstKey.{InstKey}
-use Rattle.mask_states.specs.declared.keys.EdgeKind.TheVariants.{Call}
-use Rattle.mask_states.specs.Keys.{root_inst}
-use Rattle.nesting_bound.specs.declared.graph.Way.TheVariants.{Enters}
-use Rattle.nesting_bound.specs.declared.graph.Entered.{Entered}
-use Rattle.nesting_bound.specs.declared.graph.GraphInst.{GraphInst}
+use Rattle.node_keys.specs.declared.keys.InstKey.{InstKey}
+use Rattle.node_keys.specs.declared.keys.EdgeKind.TheVariants.{Call}
+use Rattle.node_keys.specs.Keys.{root_inst}
+use Rattle.instance_graph.specs.declared.graph.GraphWay.TheVariants.{Enters}
+use Rattle.instance_graph.specs.declared.graph.Entered.{Entered}
+use Rattle.instance_graph.specs.declared.graph.GraphInst.{GraphInst}
 use Rattle.round_nesting.specs.Drawn.{number_of}
 use Rattle.round_nesting.proofs.Changes.{edged}
 use Rattle.round_nesting.proofs.Numbers.{number_within}

@@ -1,5 +1,5 @@
 use Rattle.std.proofs.Common.{◌∷◌, [], take}
-use Rattle.mask_states.specs.Keys.{root_inst}
+use Rattle.node_keys.specs.Keys.{root_inst}
 use Rattle.round_nesting.specs.Drawn.{IsDrawn}
 use Rattle.round_nesting.proofs.drawing.draw_spots.Given as goal
 

@@ -1,6 +1,6 @@
 use Rattle.std.proofs.Common.{◌∙◌, sym, subst, ◌∷◌, [], List}
-use Rattle.mask_states.specs.declared.keys.InstKey.{InstKey}
-use Rattle.mask_states.specs.Keys.{root_inst}
+use Rattle.node_keys.specs.declared.keys.InstKey.{InstKey}
+use Rattle.node_keys.specs.Keys.{root_inst}
 use Rattle.round_nesting.specs.Drawn.{IsDrawn}
 use Rattle.round_nesting.proofs.Steps.{written_back}
 use Rattle.round_nesting.proofs.drawing.drawn.Goals as goal

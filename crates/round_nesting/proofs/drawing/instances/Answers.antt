@@ -1,8 +1,8 @@
 use Rattle.std.proofs.Common.{◌≡◌, ◌∙◌, ap, ◌∷◌, ◌++◌, [], List, take, arith}
 use Rattle.std.proofs.lemmas.List.{take_all}
-use Rattle.mask_states.specs.declared.keys.InstKey.{InstKey}
-use Rattle.mask_states.specs.Keys.{root_inst}
-use Rattle.nesting_bound.specs.declared.graph.GraphInst.{GraphInst}
+use Rattle.node_keys.specs.declared.keys.InstKey.{InstKey}
+use Rattle.node_keys.specs.Keys.{root_inst}
+use Rattle.instance_graph.specs.declared.graph.GraphInst.{GraphInst}
 use Rattle.round_nesting.proofs.Steps.{bare, bares, nothing_drawn}
 use Rattle.round_nesting.proofs.drawing.instances.Goals as goal
 

@@ -1,5 +1,5 @@
 use Rattle.std.proofs.Common.{◌≡◌, ◌∷◌, take}
-use Rattle.mask_states.specs.Keys.{root_inst}
+use Rattle.node_keys.specs.Keys.{root_inst}
 use Rattle.round_nesting.proofs.Steps.{bare, bares}
 use Rattle.round_nesting.proofs.drawing.instances.Given as goal
 

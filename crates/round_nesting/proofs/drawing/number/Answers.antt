@@ -1,6 +1,6 @@
 use Rattle.std.proofs.Common.{◌≡◌, ◌∙◌, sym, ap, ◌+◌, ℕ, false}
-use Rattle.mask_states.specs.Keys.{root_inst}
-use Rattle.mask_states.specs.Order.{same_inst}
+use Rattle.node_keys.specs.Keys.{root_inst}
+use Rattle.node_keys.specs.Order.{same_inst}
 use Rattle.round_nesting.proofs.Numbers.{no_number}
 use Rattle.round_nesting.proofs.drawing.number.Goals as goal
 

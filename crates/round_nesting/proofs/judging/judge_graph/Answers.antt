@@ -1,7 +1,7 @@
 use Rattle.std.proofs.Common.{subst, List, arith}
 use Rattle.avr_model.specs.Devices.{back_of}
-use Rattle.nesting_bound.specs.declared.graph.GraphInst.{GraphInst}
-use Rattle.nesting_bound.specs.Least.{IsLeast}
+use Rattle.instance_graph.specs.declared.graph.GraphInst.{GraphInst}
+use Rattle.instance_graph.specs.Least.{IsLeast}
 use Rattle.round_nesting.specs.Drawn.{GraphTells}
 use Rattle.round_nesting.proofs.Telling.{nests}
 use Rattle.round_nesting.proofs.judging.judge_graph.Goals as goal

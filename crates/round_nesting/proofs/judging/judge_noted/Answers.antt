@@ -1,7 +1,7 @@
 use Rattle.std.proofs.Common.{refl, subst, List, Result, Ok, Err, IfOk, true, ◌∷◌}
-use Rattle.mask_states.specs.declared.keys.InstKey.{InstKey}
-use Rattle.mask_states.specs.Keys.{root_inst}
-use Rattle.nesting_bound.specs.declared.graph.GraphInst.{GraphInst}
+use Rattle.node_keys.specs.declared.keys.InstKey.{InstKey}
+use Rattle.node_keys.specs.Keys.{root_inst}
+use Rattle.instance_graph.specs.declared.graph.GraphInst.{GraphInst}
 use Rattle.round_nesting.specs.Nestings.{Noted, Spot, Entrance}
 use Rattle.round_nesting.specs.Drawn.{IsDrawn}
 use Rattle.round_nesting.proofs.Keeping.{insts_once}

@@ -1,6 +1,6 @@
 use Rattle.std.proofs.Common.{◌≡◌, ap, ⊎_elim, slice_index_or}
-use Rattle.nesting_bound.specs.declared.graph.GraphInst.{GraphInst}
-use Rattle.nesting_bound.specs.Cycle.{group_of}
+use Rattle.instance_graph.specs.declared.graph.GraphInst.{GraphInst}
+use Rattle.instance_graph.specs.Cycle.{group_of}
 use Rattle.round_nesting.proofs.Telling.{re_entry, recursion, named_is}
 use Rattle.round_nesting.proofs.judging.named.Goals as goal
 

@@ -1,7 +1,7 @@
 use Rattle.std.proofs.Common.{◌≡◌, ◌∙◌, sym, true}
-use Rattle.mask_states.specs.declared.keys.InstKey.{InstKey}
-use Rattle.mask_states.specs.Order.{same_inst}
-use Rattle.mask_states.proofs.AllLaws.{keys_are_ordered}
+use Rattle.node_keys.specs.declared.keys.InstKey.{InstKey}
+use Rattle.node_keys.specs.Order.{same_inst}
+use Rattle.node_keys.proofs.AllLaws.{keys_are_ordered}
 use Rattle.round_nesting.proofs.Keeping.{inserted, root_more, other_more, apart_more}
 use Rattle.round_nesting.proofs.nesting.keep_inst.Goals as goal
 

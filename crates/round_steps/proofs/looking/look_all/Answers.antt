@@ -1,10 +1,10 @@
 use Rattle.std.proofs.Common.{List, refl, subst, sym, take}
-use Rattle.mask_states.specs.declared.keys.NodeKey.{NodeKey}
+use Rattle.node_keys.specs.declared.keys.NodeKey.{NodeKey}
 use Rattle.round_steps.specs.Looks.{AreSeen}
 use Rattle.round_steps.proofs.Seeing.{seen_none}
 use Rattle.round_steps.proofs.Besides.{pushed}
 use Rattle.round_steps.proofs.looking.look_all.Goals as goal
-use Rattle.call_graph.specs.Tasks.{task_of}
+use Rattle.family_edges.specs.Tasks.{task_of}
 
 pub loop-at-init : goal.loop-at-init
 loop-at-init c = seen_none (task_of c.args.task.now) c.args.table.now _ c.new.ensures.items refl

@@ -2,7 +2,7 @@ use Rattle.std.proofs.Common.{sym}
 use Rattle.round_steps.proofs.Gathers.{on_ok}
 use Rattle.round_steps.proofs.Seeing.{seen_nothing, seen_more}
 use Rattle.round_steps.proofs.looking.look_at.Goals as goal
-use Rattle.call_graph.specs.Tasks.{task_of}
+use Rattle.family_edges.specs.Tasks.{task_of}
 
 pub returns-in_default : goal.returns-in_default
 returns-in_default c = λ keys are. seen_nothing (task_of c.args.task.now) c.args.table.now keys c.args.key.now c.args.seen.now are (sym c.in_default.ensures)

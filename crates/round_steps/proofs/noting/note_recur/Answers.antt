@@ -1,5 +1,5 @@
 use Rattle.std.proofs.Common.{◌∙◌, sym, subst}
-use Rattle.mask_states.specs.declared.keys.InstKey.{InstKey}
+use Rattle.node_keys.specs.declared.keys.InstKey.{InstKey}
 use Rattle.edge_laws.proofs.AllLaws.{cut_depths_are_small}
 use Rattle.round_nesting.specs.Nestings.{HasEntrance}
 use Rattle.round_steps.proofs.Besides.{recurs_none, recurs_one}

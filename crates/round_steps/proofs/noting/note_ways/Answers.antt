@@ -1,6 +1,6 @@
 use Rattle.std.proofs.Common.{List, subst, sym, take}
 use Rattle.std.proofs.lemmas.List.{take_all}
-use Rattle.call_graph.specs.declared.ways.Way.{Way}
+use Rattle.family_edges.specs.declared.ways.Way.{Way}
 use Rattle.round_steps.specs.Notings.{HasCrossing, CallsBy, EnterBy, HasCallers, HasEntrances}
 use Rattle.round_steps.proofs.Besides.{besides_none, callers_more, entrances_none, entrances_more, pushed}
 use Rattle.round_steps.proofs.noting.note_ways.Goals as goal

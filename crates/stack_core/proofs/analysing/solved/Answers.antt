@@ -3,7 +3,7 @@ use Rattle.avr_model.specs.declared.device.Device.{Device}
 use Rattle.witness_replay.specs.Spelling.{IsSchedule}
 use Rattle.replies.proofs.AllLaws.{schedule_found}
 use Rattle.stack_core.proofs.analysing.solved.Goals as goal
-use Rattle.call_graph.specs.Tasks.{task_of}
+use Rattle.family_edges.specs.Tasks.{task_of}
 
 pub with_witness-requires : goal.with_witness-requires
 with_witness-requires c =

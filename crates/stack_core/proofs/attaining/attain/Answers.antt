@@ -5,7 +5,7 @@ use Rattle.replies.specs.Reply.{AttainReply}
 use Rattle.stack_core.specs.Answering.{IsJudgedAs}
 use Rattle.stack_core.proofs.Replies.{accepted_reply}
 use Rattle.stack_core.proofs.attaining.attain.Goals as goal
-use Rattle.call_graph.specs.Tasks.{task_of}
+use Rattle.family_edges.specs.Tasks.{task_of}
 
 pub completed-requires : goal.completed-requires
 completed-requires c = (subst (IsJudgedAs (task_of c.args.task.now) (certificate_in c.args.task.now.flash.now.device c.args.text.now)) c.in-Accepted.is c.in_ok-certificate.ensures).0.1

@@ -8,7 +8,7 @@ use Rattle.guided_trials.specs.Attaining.{IsCompleted, KeepsValid}
 use Rattle.local_rules.specs.Machine.{AreWords, HaveSixteenBits}
 use Rattle.stack_core.proofs.Replies.{attain_reply}
 use Rattle.stack_core.proofs.attaining.completed.Goals as goal
-use Rattle.call_graph.specs.Tasks.{task_of}
+use Rattle.family_edges.specs.Tasks.{task_of}
 
 pub returns : goal.returns
 returns c =

@@ -1,6 +1,6 @@
 use Rattle.std.proofs.Common.{List, ℕ, map, ap, ◌∙◌}
 use Rattle.std.specs.Borrow.{Bor}
-use Rattle.sb_base.specs.Outside.{grown}
+use Rattle.text_base.specs.Outside.{grown}
 use Rattle.commands.specs.Commands.{command_of}
 use Rattle.stack_core.proofs.Answering.{written_of, zero_apart}
 use Rattle.stack_core.proofs.call.stackbound.Goals as goal

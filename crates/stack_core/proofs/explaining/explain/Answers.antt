@@ -4,7 +4,7 @@ use Rattle.replies.specs.Reply.{ExplainReply}
 use Rattle.stack_core.specs.Answering.{IsJudgedAs}
 use Rattle.stack_core.proofs.Replies.{accepted_result}
 use Rattle.stack_core.proofs.explaining.explain.Goals as goal
-use Rattle.call_graph.specs.Tasks.{task_of}
+use Rattle.family_edges.specs.Tasks.{task_of}
 
 pub explained-requires : goal.explained-requires
 explained-requires c = (subst (IsJudgedAs (task_of c.args.task.now) (certificate_in c.args.task.now.flash.now.device c.args.text.now)) c.in-Accepted.is c.in_ok-certificate.ensures).1

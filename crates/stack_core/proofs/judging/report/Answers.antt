@@ -5,7 +5,7 @@ use Rattle.replies.specs.Reply.{Says, report_by}
 use Rattle.stack_core.specs.Answering.{IsJudgedAs}
 use Rattle.stack_core.proofs.Replies.{accepted_result}
 use Rattle.stack_core.proofs.judging.report.Goals as goal
-use Rattle.call_graph.specs.Tasks.{task_of}
+use Rattle.family_edges.specs.Tasks.{task_of}
 
 pub returns-in-Accepted : goal.returns-in-Accepted
 returns-in-Accepted c =

@@ -5,7 +5,7 @@ use Rattle.replies.specs.Texts.{rejected}
 use Rattle.stack_core.specs.Answering.{nothing}
 use Rattle.stack_core.proofs.Replies.{missed_judged, rejected_judged}
 use Rattle.stack_core.proofs.judging.weighed.Goals as goal
-use Rattle.call_graph.specs.Tasks.{task_of}
+use Rattle.family_edges.specs.Tasks.{task_of}
 
 pub returns-in_ok-witness_rejected-in-Accepted : goal.returns-in_ok-witness_rejected-in-Accepted
 returns-in_ok-witness_rejected-in-Accepted c =

@@ -4,7 +4,7 @@ use Rattle.elf_load.specs.Elf.{is_elf}
 use Rattle.replies.specs.Texts.{elf_refused}
 use Rattle.replies.proofs.AllLaws.{one_elf}
 use Rattle.stack_core.specs.Answering.{LoadsBy}
-use Rattle.stack_core.specs.declared.loading.Image.TheVariants.{Loaded}
+use Rattle.stack_core.specs.declared.loading.Loading.TheVariants.{Loaded}
 use Rattle.stack_core.proofs.loading.whole.Goals as goal
 
 pub returns-in-Ok : goal.returns-in-Ok

@@ -1,6 +1,6 @@
 use Rattle.std.proofs.Common.{◌<◌, ◌+◌, ◌-◌, ◌∙◌, ap, sym, subst, set, get_or, length, arith}
 use Rattle.basics.specs.Lists.{get_inside}
-use Rattle.mask_states.specs.declared.keys.NodeKey.{NodeKey}
+use Rattle.node_keys.specs.declared.keys.NodeKey.{NodeKey}
 use Rattle.store_clear.specs.ByWord.{AreLinked}
 use Rattle.store_clear.proofs.Askings.{key_is}
 use Rattle.store_clear.proofs.Linked.{word_small, linked_here}
@@ -13,7 +13,7 @@ bounds-first-word c =
     let lt : at < length nodes = omega (arith, c.requires.same, c.loop-at-test.true, c.loop-at.invariant.inside) in
     let n = get_inside nodes at lt in
     let word = word_small nodes c.count-count.ensures.shown at n.0 n.1 in
-    let same = ap (λ (k : NodeKey). k.pc) (key_is nodes at n.0 n.1 c.key.result.now c.key.ensures) ∙ sym c.from-word.ensures in
+    let same = ap (λ (k : NodeKey). k.pc) (key_is nodes at n.0 n.1 c.key.result.now c.key.ensures) in
     omega (arith, word, same, c.loop-at.invariant.words)
 
 pub bounds-first-word-then-not-passes : goal.bounds-first-word-then-not-passes
@@ -29,7 +29,7 @@ loop-at-preserved-then-not-passes c =
     let lt : at < length nodes = omega (arith, c.requires.same, c.loop-at-test.true, c.loop-at.invariant.inside) in
     let n = get_inside nodes at lt in
     let word = word_small nodes c.count-count.ensures.shown at n.0 n.1 in
-    let same = ap (λ (k : NodeKey). k.pc) (key_is nodes at n.0 n.1 c.key.result.now c.key.ensures) ∙ sym c.from-word.ensures in
+    let same = ap (λ (k : NodeKey). k.pc) (key_is nodes at n.0 n.1 c.key.result.now c.key.ensures) in
     let linked : AreLinked nodes asks (at + 1) first later = subst (λ s. AreLinked nodes asks s first later) (omega (arith, c.loop-at-test.true)) c.loop-at.invariant in
     subst (λ w. AreLinked nodes asks at (set first w at) (set later at (get_or first w 0))) same
     (linked_here nodes asks at n.0 n.1 first later linked (sym c.passes.ensures ∙ c.if-not-passes.true) word (omega (arith, lt, c.requires.same)))

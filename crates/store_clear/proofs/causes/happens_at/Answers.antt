@@ -4,7 +4,7 @@ use Rattle.store_clear.proofs.Askings.{key_is, state_is}
 use Rattle.store_clear.proofs.Linked.{on_chain}
 use Rattle.store_clear.proofs.Causing.{happens_none, happens_found, happens_not, happens_nowhere, happens_skipped}
 use Rattle.store_clear.proofs.causes.happens_at.Goals as goal
-use Rattle.call_graph.specs.Tasks.{task_of}
+use Rattle.family_edges.specs.Tasks.{task_of}
 
 pub loop-at-init : goal.loop-at-init
 loop-at-init c =

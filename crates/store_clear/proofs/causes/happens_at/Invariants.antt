@@ -2,7 +2,7 @@ use Rattle.std.proofs.Common.{length, ◌-◌}
 use Rattle.store_clear.specs.ByWord.{IsOnChain}
 use Rattle.store_clear.specs.Causing.{HappensAt}
 use Rattle.store_clear.proofs.causes.happens_at.Given as goal
-use Rattle.call_graph.specs.Tasks.{task_of}
+use Rattle.family_edges.specs.Tasks.{task_of}
 
 abbrev pub invariant-loop-at : goal.invariant-loop-at
 invariant-loop-at l =

@@ -4,7 +4,7 @@ use Rattle.store_clear.proofs.Askings.{state_is}
 use Rattle.store_clear.proofs.Linked.{on_chain}
 use Rattle.store_clear.proofs.Causing.{nodes_none, nodes_marked, nodes_skipped}
 use Rattle.store_clear.proofs.causes.mark_nodes.Goals as goal
-use Rattle.call_graph.specs.Tasks.{task_of}
+use Rattle.family_edges.specs.Tasks.{task_of}
 
 pub loop-at-init : goal.loop-at-init
 loop-at-init c =

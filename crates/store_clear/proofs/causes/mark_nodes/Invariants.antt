@@ -3,7 +3,7 @@ use Rattle.store_clear.specs.ByWord.{IsOnChain}
 use Rattle.store_clear.specs.Takes.{AreMarkedBeside}
 use Rattle.store_clear.specs.Causing.{IsProtectedAt}
 use Rattle.store_clear.proofs.causes.mark_nodes.Given as goal
-use Rattle.call_graph.specs.Tasks.{task_of}
+use Rattle.family_edges.specs.Tasks.{task_of}
 
 abbrev pub invariant-loop-at : goal.invariant-loop-at
 invariant-loop-at l =

@@ -1,4 +1,4 @@
-use Rattle.std.proofs.Common.{◌≡◌, ◌<◌, ℕ, Bool, true, false, List, length, sym, subst, ◌∙◌, arith}
+use Rattle.std.proofs.Common.{◌≡◌, ◌<◌, ℕ, Bool, true, false, List, length, refl, sym, subst, ◌∙◌, arith}
 use Rattle.std.specs.Prelude.{◌↔◌}
 use Rattle.avr_model.specs.Image.{WORDS}
 use Rattle.certificate.specs.Valid.{family_of}
@@ -8,7 +8,7 @@ use Rattle.store_clear.specs.declared.causes.Other.TheVariants.{Live, Moves}
 use Rattle.store_clear.proofs.Linked.{word_of_flagged, chain_read}
 use Rattle.store_clear.proofs.Causing.{nothing_there, place_given}
 use Rattle.store_clear.proofs.causes.place_at.Goals as goal
-use Rattle.call_graph.specs.Tasks.{task_of}
+use Rattle.family_edges.specs.Tasks.{task_of}
 
 pub returns-in-None-clause-exact : goal.returns-in-None-clause-exact
 returns-in-None-clause-exact c =
@@ -35,7 +35,7 @@ pub index-requires : goal.index-requires
 index-requires c =
     let task = task_of c.args.task.now in
     let small : c.args.pc < WORDS = word_of_flagged task c.args.certificate.now c.args.told.now.nodes.now c.args.pc c.count-count.ensures.shown c.requires.site in
-    omega (arith, small, c.from.ensures, c.requires.linked.words, c.args.links.now.first.ok.0)
+    omega (arith, small, c.requires.linked.words, c.args.links.now.first.ok.0)
 
 pub protected_of-requires-clause-chain : goal.protected_of-requires-clause-chain
 protected_of-requires-clause-chain c =
@@ -43,7 +43,7 @@ protected_of-requires-clause-chain c =
     let told = c.args.told.now in
     let links = c.args.links.now in
     let small = word_of_flagged task c.args.certificate.now told.nodes.now c.args.pc c.count-count.ensures.shown c.requires.site in
-    chain_read told.nodes.now told.asks.now c.args.pc c.from.result c.index.result.now links.first.items links.later.items c.as_slice.result.now small c.requires.linked c.from.ensures c.index.ensures
+    chain_read told.nodes.now told.asks.now c.args.pc c.args.pc c.index.result.now links.first.items links.later.items c.as_slice.result.now small c.requires.linked refl c.index.ensures
     c.as_slice.ensures.value
 
 pub happens_at-live-requires-clause-chain : goal.happens_at-live-requires-clause-chain
@@ -52,7 +52,7 @@ happens_at-live-requires-clause-chain c =
     let told = c.args.told.now in
     let links = c.args.links.now in
     let small = word_of_flagged task c.args.certificate.now told.nodes.now c.args.pc c.count-count.ensures.shown c.requires.site in
-    chain_read told.nodes.now told.asks.now c.args.pc c.from.result c.index.result.now links.first.items links.later.items c.as_slice.result.now small c.requires.linked c.from.ensures c.index.ensures
+    chain_read told.nodes.now told.asks.now c.args.pc c.args.pc c.index.result.now links.first.items links.later.items c.as_slice.result.now small c.requires.linked refl c.index.ensures
     c.as_slice.ensures.value
 
 pub happens_at-moves-requires-clause-chain : goal.happens_at-moves-requires-clause-chain
@@ -61,5 +61,5 @@ happens_at-moves-requires-clause-chain c =
     let told = c.args.told.now in
     let links = c.args.links.now in
     let small = word_of_flagged task c.args.certificate.now told.nodes.now c.args.pc c.count-count.ensures.shown c.requires.site in
-    chain_read told.nodes.now told.asks.now c.args.pc c.from.result c.index.result.now links.first.items links.later.items c.as_slice.result.now small c.requires.linked c.from.ensures c.index.ensures
+    chain_read told.nodes.now told.asks.now c.args.pc c.args.pc c.index.result.now links.first.items links.later.items c.as_slice.result.now small c.requires.linked refl c.index.ensures
     c.as_slice.ensures.value

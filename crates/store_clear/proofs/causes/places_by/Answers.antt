@@ -5,7 +5,7 @@ use Rattle.clear_laws.specs.declared.place.FlaggedPlace.{FlaggedPlace}
 use Rattle.store_clear.specs.Causing.{ArePlacesOf}
 use Rattle.store_clear.proofs.Causing.{places_none, places_more}
 use Rattle.store_clear.proofs.causes.places_by.Goals as goal
-use Rattle.call_graph.specs.Tasks.{task_of}
+use Rattle.family_edges.specs.Tasks.{task_of}
 
 pub loop-site-init : goal.loop-site-init
 loop-site-init c =

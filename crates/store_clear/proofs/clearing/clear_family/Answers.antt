@@ -7,7 +7,7 @@ use Rattle.clear_laws.proofs.AllLaws.{clear_firmwares_are_never_flagged}
 use Rattle.store_clear.proofs.Sites.{clear_told, unclear_told, clear_both, unclear_both}
 use Rattle.store_clear.proofs.clearing.clear_family.Goals as goal
 use Rattle.local_rules.specs.Site.{task_with}
-use Rattle.call_graph.specs.Tasks.{task_of}
+use Rattle.family_edges.specs.Tasks.{task_of}
 
 pub returns-in-None-clause-exact : goal.returns-in-None-clause-exact
 returns-in-None-clause-exact c =

@@ -7,7 +7,7 @@ use Rattle.store_clear.specs.Settling.{AreTold, IsTold}
 use Rattle.store_clear.specs.Causing.{ArePlacesOf}
 use Rattle.store_clear.proofs.Causing.{sites_are_flagged, are_places}
 use Rattle.store_clear.proofs.clearing.flagged_places_in.Goals as goal
-use Rattle.call_graph.specs.Tasks.{task_of}
+use Rattle.family_edges.specs.Tasks.{task_of}
 
 pub sites_of-requires : goal.sites_of-requires
 sites_of-requires c = ap length c.as_slice.ensures.value ∙ c.in_ok-asks.ensures.count

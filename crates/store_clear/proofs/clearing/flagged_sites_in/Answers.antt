@@ -5,7 +5,7 @@ use Rattle.clear_laws.proofs.AllLaws.{flagged_runs_end_at_sites}
 use Rattle.store_clear.specs.Settling.{AreTold, IsTold}
 use Rattle.store_clear.proofs.Sites.{never_flagged}
 use Rattle.store_clear.proofs.clearing.flagged_sites_in.Goals as goal
-use Rattle.call_graph.specs.Tasks.{task_of}
+use Rattle.family_edges.specs.Tasks.{task_of}
 
 pub sites_of-requires : goal.sites_of-requires
 sites_of-requires c = ap length c.as_slice.ensures.value ∙ c.in_ok-asks.ensures.count

@@ -4,7 +4,7 @@ use Rattle.avr_model.specs.Image.{WORDS}
 use Rattle.store_clear.proofs.Lists.{written_back}
 use Rattle.store_clear.proofs.Taken.{nevers_given}
 use Rattle.store_clear.proofs.clearing.never_takes_in.Goals as goal
-use Rattle.call_graph.specs.Tasks.{task_of}
+use Rattle.family_edges.specs.Tasks.{task_of}
 
 pub returns : goal.returns
 returns c =

@@ -2,7 +2,7 @@ use Rattle.std.proofs.Common.{◌∙◌, ap, map}
 use Rattle.store_clear.specs.Settling.{links_by}
 use Rattle.store_clear.proofs.Spread.{spreads}
 use Rattle.store_clear.proofs.spreading.frames_of.Goals as goal
-use Rattle.call_graph.specs.Tasks.{task_of}
+use Rattle.family_edges.specs.Tasks.{task_of}
 
 pub returns : goal.returns
 returns c =

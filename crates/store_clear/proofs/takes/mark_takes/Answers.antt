@@ -5,7 +5,7 @@ use Rattle.store_clear.proofs.Askings.{key_is}
 use Rattle.store_clear.proofs.Taken.{takes_none, takes_marked, takes_same}
 use Rattle.store_clear.proofs.takes.mark_takes.Goals.{then-may_take, else-may_take}
 use Rattle.store_clear.proofs.takes.mark_takes.Goals as goal
-use Rattle.call_graph.specs.Tasks.{task_of}
+use Rattle.family_edges.specs.Tasks.{task_of}
 
 pub loop-at-init : goal.loop-at-init
 loop-at-init c = takes_none (task_of c.args.task.now) c.args.nodes.now c.args.marks.now

@@ -4,7 +4,7 @@ use Rattle.clear_laws.specs.declared.slots.Asks.{Asks}
 use Rattle.store_clear.specs.Settling.{AreAskedTo}
 use Rattle.store_clear.proofs.Askings.{key_is, state_is, asking_is, asked_none, asked_more}
 use Rattle.store_clear.proofs.telling.asked.Goals as goal
-use Rattle.call_graph.specs.Tasks.{task_of}
+use Rattle.family_edges.specs.Tasks.{task_of}
 
 pub loop-at-init : goal.loop-at-init
 loop-at-init c =

@@ -3,7 +3,7 @@ use Rattle.store_clear.specs.Settling.{AreAsked, AreTold}
 use Rattle.store_clear.proofs.Lists.{written_back}
 use Rattle.store_clear.proofs.Told.{told_as}
 use Rattle.store_clear.proofs.telling.tell.Goals as goal
-use Rattle.call_graph.specs.Tasks.{task_of}
+use Rattle.family_edges.specs.Tasks.{task_of}
 
 pub settle-settled-requires-clause-inside : goal.settle-settled-requires-clause-inside
 settle-settled-requires-clause-inside c = c.in_ok-frames.ensures.inside

@@ -4,7 +4,7 @@ use Rattle.std.proofs.lemmas.List.{take_all}
 use Rattle.std.proofs.lemmas.List.Folds.{list_any_at, list_any_more}
 use Rattle.std.proofs.lemmas.Bool.{or_from}
 use Rattle.basics.specs.Booleans.{all_three}
-use Rattle.avr_model.specs.declared.rows.Place.{Place}
+use Rattle.avr_model.specs.declared.rows.EnablePlace.{EnablePlace}
 use Rattle.avr_model.specs.declared.rows.Enable.TheVariants.{Bit}
 use Rattle.avr_model.specs.Masks.{is_barred, enables_barred}
 use Rattle.avr_model.specs.Vectors.{has_common}
@@ -12,7 +12,7 @@ use Rattle.vector_table.proofs.Places.{item_vector}
 use Rattle.vector_table.proofs.barred.enables_barred.Goals as goal
 use Rattle.vector_table.proofs.barred.enables_barred.Goals.{else-place-address-via-then-place-address+then-has_common+else-is_barred, else-place-address-via-then-place-address+else-has_common, else-place-address-via-else-place-address}
 
-abbrev nowhere : Place
+abbrev nowhere : EnablePlace
 nowhere = record { vector = 0; address = 0; mask = 0; enable = Bit }
 
 none_by : (a b d : Bool) → a ≡ false → (a && b && d) ≡ false
@@ -25,25 +25,25 @@ none_by_word : (a b d : Bool) → d ≡ false → (a && b && d) ≡ false
 none_by_word a b d h = grind arith
 
 pub is_barred-requires : goal.is_barred-requires
-is_barred-requires c = record { vector = item_vector c.args.device c.places-place-items.result.now c.loop-place.place-index _ c.places-place-items.ensures c.loop-place-test.true }
+is_barred-requires c = record { vector = item_vector c.args.device c.enable_places-place-items.result.now c.loop-place.place-index _ c.enable_places-place-items.ensures c.loop-place-test.true }
 
 pub returns-then-is_barred : goal.returns-then-is_barred
 unfolding enables_barred
 returns-then-is_barred c =
-    let ps = c.places-place-items.result.now in
-    let q : Place → Bool = λ (p : Place). (p.address == c.args.address) && has_common c.args.byte p.mask && is_barred c.args.device c.args.assumptions.now p.vector in
-    sym (ap (list_any q) (sym c.places-place-items.ensures)
+    let ps = c.enable_places-place-items.result.now in
+    let q : EnablePlace → Bool = λ (p : EnablePlace). (p.address == c.args.address) && has_common c.args.byte p.mask && is_barred c.args.device c.args.assumptions.now p.vector in
+    sym (ap (list_any q) (sym c.enable_places-place-items.ensures)
     ∙ list_any_at q ps c.loop-place.place-index _ c.loop-place-test.true
     (all_three _ _ _ (eq-eqb _ c.args.address c.if-place-address.true) (sym c.has_common.ensures ∙ c.if-has_common.true) (sym c.is_barred.ensures ∙ c.if-is_barred.true)))
 
 pub loop-place-preserved : goal.loop-place-preserved
 loop-place-preserved c =
-    let ps = c.places-place-items.result.now in
-    let p : Place = get_or ps c.loop-place.place-index nowhere in
+    let ps = c.enable_places-place-items.result.now in
+    let p : EnablePlace = get_or ps c.loop-place.place-index nowhere in
     let here : Bool = p.address == c.args.address in
     let common : Bool = has_common c.args.byte p.mask in
     let barred : Bool = is_barred c.args.device c.args.assumptions.now p.vector in
-    let q : Place → Bool = λ (p : Place). (p.address == c.args.address) && has_common c.args.byte p.mask && is_barred c.args.device c.args.assumptions.now p.vector in
+    let q : EnablePlace → Bool = λ (p : EnablePlace). (p.address == c.args.address) && has_common c.args.byte p.mask && is_barred c.args.device c.args.assumptions.now p.vector in
     list_any_more q ps c.loop-place.place-index nowhere c.loop-place-test.true
     ∙ or_from (list_any q (take c.loop-place.place-index ps)) (q p) c.loop-place.invariant
     (elim c.else-place-address.branch [
@@ -55,7 +55,7 @@ loop-place-preserved c =
 pub returns : goal.returns
 unfolding enables_barred
 returns c =
-    let ps = c.places-place-items.result.now in
-    let q : Place → Bool = λ (p : Place). (p.address == c.args.address) && has_common c.args.byte p.mask && is_barred c.args.device c.args.assumptions.now p.vector in
+    let ps = c.enable_places-place-items.result.now in
+    let q : EnablePlace → Bool = λ (p : EnablePlace). (p.address == c.args.address) && has_common c.args.byte p.mask && is_barred c.args.device c.args.assumptions.now p.vector in
     let last : length ps ≤ c.loop-place.place-index = omega (arith, c.loop-place-test.false) in
-    sym (ap (list_any q) (sym c.places-place-items.ensures ∙ sym (take_all c.loop-place.place-index ps last)) ∙ c.loop-place.invariant)
+    sym (ap (list_any q) (sym c.enable_places-place-items.ensures ∙ sym (take_all c.loop-place.place-index ps last)) ∙ c.loop-place.invariant)

@@ -2,7 +2,7 @@ use Rattle.std.proofs.Common.{inr}
 use Rattle.std.proofs.lemmas.Result.{IfOk-weaker}
 use Rattle.witness_search.proofs.Answered.{peopled, interrupts_as}
 use Rattle.witness_search.proofs.chain.waypoints.Goals as goal
-use Rattle.call_graph.specs.Tasks.{task_of}
+use Rattle.family_edges.specs.Tasks.{task_of}
 
 pub entered_by-requires-clause-peopled : goal.entered_by-requires-clause-peopled
 entered_by-requires-clause-peopled c =

@@ -3,7 +3,7 @@ use Rattle.std.proofs.lemmas.Result.{IfOk-weaker}
 use Rattle.certificate.specs.Valid.{IsAttained}
 use Rattle.witness_search.proofs.Answered.{attained_as, found_as}
 use Rattle.witness_search.proofs.searching.search.Goals as goal
-use Rattle.call_graph.specs.Tasks.{task_of}
+use Rattle.family_edges.specs.Tasks.{task_of}
 
 pub returns-clause-first : goal.returns-clause-first
 returns-clause-first c =

@@ -1,7 +1,7 @@
 use Rattle.std.proofs.lemmas.Result.{IfOk-weaker}
 use Rattle.witness_search.proofs.Answered.{waypoints_as}
 use Rattle.witness_search.proofs.searching.waypoints_of.Goals as goal
-use Rattle.call_graph.specs.Tasks.{task_of}
+use Rattle.family_edges.specs.Tasks.{task_of}
 
 pub returns : goal.returns
 returns c =

@@ -9,7 +9,7 @@ use Rattle.witness_search.proofs.Points.{taken_is, left_is}
 use Rattle.witness_search.proofs.Attempts.{goes_on, marked_on, marked_here, ended, stopped, repeated, longer}
 use Rattle.witness_search.proofs.trial.attempt.Goals as goal
 use Rattle.witness_search.proofs.trial.attempt.Goals.{then-is_old, else-is_old}
-use Rattle.call_graph.specs.Tasks.{task_of}
+use Rattle.family_edges.specs.Tasks.{task_of}
 
 pub returns-then-bound-depth : goal.returns-then-bound-depth
 returns-then-bound-depth c =

@@ -2,7 +2,7 @@ use Rattle.std.proofs.Common.{◌≡◌, ◌+◌, arith, sym, subst, take, drop,
 use Rattle.witness_search.specs.Trials.{fills, NoneSucceeds, IsTried}
 use Rattle.witness_search.proofs.Found.{none_more, first, parted, taken_more, taken_all}
 use Rattle.witness_search.proofs.trial.first_trial.Goals as goal
-use Rattle.call_graph.specs.Tasks.{task_of}
+use Rattle.family_edges.specs.Tasks.{task_of}
 
 pub returns-in-Some-clause-first : goal.returns-in-Some-clause-first
 returns-in-Some-clause-first c =

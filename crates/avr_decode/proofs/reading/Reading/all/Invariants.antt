@@ -1,5 +1,5 @@
 use Rattle.std.proofs.Common.{◌≡◌, length}
-use Rattle.avr_model.specs.Devices.{image}
+use Rattle.avr_model.specs.Devices.{image_of}
 use Rattle.avr_decode.specs.Reading.{AreReadings}
 use Rattle.avr_decode.proofs.reading.Reading.all.Given as goal
 
@@ -7,5 +7,5 @@ use Rattle.avr_decode.proofs.reading.Reading.all.Given as goal
 abbrev pub invariant-loop-a : goal.invariant-loop-a
 invariant-loop-a l = record {
   count : length l.readings.items ≡ l.a;
-  read : AreReadings (image l.device l.words) l.readings.items;
+  read : AreReadings (image_of l.device l.words) l.readings.items;
 }

@@ -1,4 +1,4 @@
-use Rattle.std.proofs.Common.{◌∙◌, sym, ap, ap₂}
+use Rattle.std.proofs.Common.{◌∙◌, refl, sym, ap, ap₂}
 use Rattle.avr_model.specs.declared.instruction.Instr.TheVariants as i
 use Rattle.avr_model.specs.State.{State}
 use Rattle.avr_model.specs.Text.{far}
@@ -50,10 +50,10 @@ pub returns-in-Push-clause-state : goal.returns-in-Push-clause-state
 returns-in-Push-clause-state c first second loud = c.push.ensures.state ∙ ap (state_after c.args.self.now) (push_row c.args.flash.now c.args.assumptions.now c.args.self.now c.args.instr.now first second _ (c.in-Push.is ∙ ap (λ r. i.Push r) (sym c.get-in-Push.ensures.value)))
 
 pub returns-in-Call-clause-answer : goal.returns-in-Call-clause-answer
-returns-in-Call-clause-answer c first second loud = c.call.ensures.answer ∙ ap result_of (call_answer c.args.flash.now c.args.assumptions.now c.args.self.now c.args.instr.now first second _ _ _ c.in-Call.is c.further-in-Call.ensures.value c.get-in-Call.ensures.value)
+returns-in-Call-clause-answer c first second loud = c.call.ensures.answer ∙ ap result_of (call_answer c.args.flash.now c.args.assumptions.now c.args.self.now c.args.instr.now first second _ _ _ c.in-Call.is c.further-in-Call.ensures.value refl)
 
 pub returns-in-Call-clause-state : goal.returns-in-Call-clause-state
-returns-in-Call-clause-state c first second loud = c.call.ensures.state ∙ ap (state_after c.args.self.now) (call_answer c.args.flash.now c.args.assumptions.now c.args.self.now c.args.instr.now first second _ _ _ c.in-Call.is c.further-in-Call.ensures.value c.get-in-Call.ensures.value)
+returns-in-Call-clause-state c first second loud = c.call.ensures.state ∙ ap (state_after c.args.self.now) (call_answer c.args.flash.now c.args.assumptions.now c.args.self.now c.args.instr.now first second _ _ _ c.in-Call.is c.further-in-Call.ensures.value refl)
 
 pub returns-in-Rcall-clause-answer : goal.returns-in-Rcall-clause-answer
 returns-in-Rcall-clause-answer c first second loud =

@@ -19,11 +19,11 @@ returns c =
       | then-back-eq3 w ↦
           ap (wrapped m.device) w.word-is
           ∙ popped_three still m c.args.first c.args.second c.pop_byte-high.result c.pop_byte-word.result w.pop_byte-word-then-back-eq3.result
-          (sym back ∙ w.if-back-eq3.true) c.pop_byte-high.ensures c.pop_byte-word.ensures w.pop_byte-word-then-back-eq3.ensures
+          (sym back ∙ w.if-back-eq3.true) c.pop_byte-high.ensures.value c.pop_byte-word.ensures.value w.pop_byte-word-then-back-eq3.ensures.value
       | else-back-eq3 w ↦
           ap (wrapped m.device) w.word-is
           ∙ popped_two still m c.args.first c.args.second c.pop_byte-high.result c.pop_byte-word.result
-          (let other = w.if-back-eq3.false in sym back ∙ (omega (arith, least, most, other))) c.pop_byte-high.ensures c.pop_byte-word.ensures
+          (let other = w.if-back-eq3.false in sym back ∙ (omega (arith, least, most, other))) c.pop_byte-high.ensures.value c.pop_byte-word.ensures.value
     ]
     in
     c.go_to.ensures

@@ -2,8 +2,8 @@ use Rattle.std.proofs.Common.{◌≤◌, subst, arith, Option}
 use Rattle.std.specs.Prelude.{IfSome}
 use Rattle.avr_model.specs.Devices.{depth_of}
 use Rattle.avr_model.proofs.AllLaws.{devices_are_alike}
-use Rattle.mask_states.specs.declared.keys.NodeKey.{NodeKey}
-use Rattle.mask_states.specs.Keys.{offset_of}
+use Rattle.node_keys.specs.declared.keys.NodeKey.{NodeKey}
+use Rattle.node_keys.specs.Keys.{offset_of}
 use Rattle.edge_rules.specs.declared.seeded.NodeForm.{NodeForm}
 use Rattle.cert_format.proofs.gathered.NodeListGathered.add.Goals as goal
 

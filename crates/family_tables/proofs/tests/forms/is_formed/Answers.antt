@@ -1,8 +1,8 @@
 use Rattle.std.proofs.Common.{List, length, subst, sym, ◌≤◌}
 use Rattle.local_rules.specs.declared.local.Node.{Node}
-use Rattle.call_graph.specs.Landings.{AreLandings}
+use Rattle.family_edges.specs.Landings.{AreLandings}
 use Rattle.family_tables.proofs.tests.forms.is_formed.Goals as goal
-use Rattle.call_graph.specs.Tasks.{task_of}
+use Rattle.family_edges.specs.Tasks.{task_of}
 
 pub is_written-requires-clause-few : goal.is_written-requires-clause-few
 is_written-requires-clause-few c = subst (λ (ns : List Node). length ns ≤ 65536) (sym c.in-Ok.ensures.nodes) c.requires

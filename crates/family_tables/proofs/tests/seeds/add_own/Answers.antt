@@ -2,8 +2,8 @@ use Rattle.std.proofs.Common.{arith, sym, subst, ◌∙◌, ◌≡◌, ℕ, fals
 use Rattle.std.specs.declared.cmp.Ordering.TheVariants.{Less}
 use Rattle.avr_model.specs.Devices.{limit_of}
 use Rattle.abs_state.specs.declared.state.AbsState.{AbsState}
-use Rattle.mask_states.specs.declared.keys.NodeKey.{NodeKey}
-use Rattle.mask_states.specs.Order.{node_cmp}
+use Rattle.node_keys.specs.declared.keys.NodeKey.{NodeKey}
+use Rattle.node_keys.specs.Order.{node_cmp}
 use Rattle.edge_rules.specs.declared.seeded.NodeForm.{NodeForm}
 use Rattle.edge_rules.specs.declared.seeded.NodeForm.TheVariants.{State}
 use Rattle.edge_rules.specs.Expansion.{Seeds, AreSeeds}
@@ -15,7 +15,7 @@ pub returns-clause-seeds : goal.returns-clause-seeds
 returns-clause-seeds c =
     let xs = c.args.items.now.items in
     let few = subst (λ (ys : Seeds). length ys < 65536) c.deref.ensures.value (c.may_follow.ensures.room c.if-not-may_follow.false) in
-    let word : c.args.key.pc < limit_of c.args.device = omega (arith, c.if-from-limit.false, c.from.ensures, c.limit.ensures) in
+    let word : c.args.key.pc < limit_of c.args.device = omega (arith, c.if-key-limit.false, c.limit.ensures) in
     subst (AreSeeds c.args.device false) (sym c.in_ok-push.ensures.items)
     (subst (λ (s : AbsState). AreSeeds c.args.device false (xs ++ (c.args.key, State s) ∷ [])) (sym (c.in_ok-held.ensures ∙ c.root.ensures))
     (with_root c.args.device xs c.args.key c.requires.seeds few word c.requires.masks c.requires.closed c.requires.unpicked))

@@ -1,6 +1,6 @@
 use Rattle.std.proofs.Common.{arith, ap, ◌∙◌, ◌++◌}
 use Rattle.avr_model.proofs.AllLaws.{devices_are_alike}
-use Rattle.avr_model.specs.Devices.{Program, device_of}
+use Rattle.avr_model.specs.Devices.{Image, device_of}
 use Rattle.avr_model.specs.Marks.{usual_marks, device_marks, marks_at}
 use Rattle.flash_image.specs.Marked.{marked}
 use Rattle.flash_image.proofs.Loads.{all_marked}
@@ -9,7 +9,7 @@ use Rattle.flash_image.proofs.image.Flash.mark_all.Goals as goal
 
 pub loop-a-init : goal.loop-a-init
 loop-a-init c = marked_none c.args.table.now c.mark_usual.new.table (usual_marks ++ device_marks (device_of c.args.self.now)) (marks_at c.args.self.now)
-    (c.mark_usual.ensures ∙ ap (λ (p : Program). marked c.args.table.now (usual_marks ++ device_marks (device_of p))) c.self.view_is)
+    (c.mark_usual.ensures ∙ ap (λ (p : Image). marked c.args.table.now (usual_marks ++ device_marks (device_of p))) c.self.view_is)
 
 pub loop-a-preserved : goal.loop-a-preserved
 loop-a-preserved c = marked_more c.args.table.now c.loop-a.table c.mark_at.new.table (usual_marks ++ device_marks (device_of c.args.self.now)) c.loop-a.a (marks_at c.args.self.now) c.loop-a.invariant c.mark_at.ensures

@@ -1,6 +1,6 @@
 use Rattle.std.proofs.Common.{subst, sym, Bool, List, Contains}
-use Rattle.mask_states.specs.declared.keys.InstKey.{InstKey}
-use Rattle.mask_states.specs.Keys.{root_inst}
+use Rattle.node_keys.specs.declared.keys.InstKey.{InstKey}
+use Rattle.node_keys.specs.Keys.{root_inst}
 use Rattle.round_nesting.specs.declared.verdict.NestingVerdict.TheVariants.{Nests}
 use Rattle.round_nesting.specs.Nestings.{Noted, AreOnce, AreAlike, TellsAll}
 use Rattle.round_nesting.specs.Drawn.{insts_of}

@@ -1,6 +1,6 @@
 use Rattle.std.proofs.Common.{sym, subst, List, Contains}
 use Rattle.std.proofs.lemmas.Result.{IfOk-weaker}
-use Rattle.mask_states.specs.declared.keys.NodeKey.{NodeKey}
+use Rattle.node_keys.specs.declared.keys.NodeKey.{NodeKey}
 use Rattle.round_table.proofs.Keys.{key_there}
 use Rattle.round_table.proofs.table.Table.keys.Goals as goal
 

@@ -1,7 +1,7 @@
 use Rattle.std.proofs.Common.{sym, ap, ◌∙◌, subst}
 use Rattle.std.specs.FinMap.{len}
 use Rattle.std.specs.List.{IsDistinct}
-use Rattle.mask_states.specs.Order.{same_node}
+use Rattle.node_keys.specs.Order.{same_node}
 use Rattle.round_table.specs.Shared.{stated}
 use Rattle.round_table.proofs.Entries.{table_len}
 use Rattle.round_table.proofs.Shared.{keys_stated, long_stated}

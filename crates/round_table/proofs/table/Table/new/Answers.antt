@@ -2,8 +2,8 @@ use Rattle.std.proofs.Common.{ℕ, List, [], sym, ap, ◌∙◌, subst}
 use Rattle.std.specs.List.{IsDistinct}
 use Rattle.std.specs.FinMap.{empty, from_entries, get-empty}
 use Rattle.std.specs.Ordering.{nat_cmp}
-use Rattle.mask_states.specs.declared.keys.NodeKey.{NodeKey}
-use Rattle.mask_states.specs.Order.{node_cmp, same_node}
+use Rattle.node_keys.specs.declared.keys.NodeKey.{NodeKey}
+use Rattle.node_keys.specs.Order.{node_cmp, same_node}
 use Rattle.state_pool.specs.Uses.{Uses}
 use Rattle.state_pool.specs.Counts.{held_count}
 use Rattle.round_table.specs.Sized.{AreStatesSized}

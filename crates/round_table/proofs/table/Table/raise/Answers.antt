@@ -5,8 +5,8 @@ use Rattle.std.proofs.lemmas.Map.Steps.{set_value_same}
 use Rattle.std.specs.Bool.{IsTrue}
 use Rattle.abs_state.specs.declared.state.AbsState.{AbsState}
 use Rattle.abs_state.specs.Order.{state_join}
-use Rattle.mask_states.specs.declared.keys.NodeKey.{NodeKey}
-use Rattle.mask_states.specs.Order.{node_cmp, same_node}
+use Rattle.node_keys.specs.declared.keys.NodeKey.{NodeKey}
+use Rattle.node_keys.specs.Order.{node_cmp, same_node}
 use Rattle.state_pool.specs.Uses.{Uses}
 use Rattle.state_pool.specs.Counts.{state_at}
 use Rattle.round_table.specs.Shared.{IsShared, stated}

@@ -10,7 +10,7 @@ returns-then-is_open_vector c =
 
 pub returns-then-is_on : goal.returns-then-is_on
 returns-then-is_on c =
-    c.has_place.ensures
+    c.has_enable_place.ensures
     ∙ sym (enabled_bit c.args.device c.args.self c.args.v (sym c.is_vector.ensures ∙ c.if-is_vector.true) (sym c.is_open_vector.ensures ∙ c.if-is_open_vector.false)
     (sym (one_is c.is_on.result (bit_at c.args.self (c.args.v - 2)) c.is_on.ensures) ∙ c.if-is_on.true))
 

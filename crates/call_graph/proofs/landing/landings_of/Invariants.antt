@@ -1,6 +1,0 @@
-use Rattle.std.proofs.Common.{◌≡◌, take}
-use Rattle.call_graph.specs.Landings.{landings_by}
-use Rattle.call_graph.proofs.landing.landings_of.Given as goal
-
-abbrev pub invariant-loop-edge : goal.invariant-loop-edge
-invariant-loop-edge l = l.landings ≡ landings_by l.nodes (take l.edge-index l.edges)

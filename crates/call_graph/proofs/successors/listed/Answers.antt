@@ -1,8 +1,0 @@
-use Rattle.call_graph.proofs.Shown.{node_there}
-use Rattle.call_graph.proofs.successors.listed.Goals as goal
-
-pub local-requires : goal.local-requires
-local-requires c =
-    record {
-      sized = (node_there c.args.nodes.now c.args.at c.key-key.result.now c.state-state.result.now c.count-count.ensures.shown c.key-key.ensures c.state-state.ensures).formed.count_slots;
-    }

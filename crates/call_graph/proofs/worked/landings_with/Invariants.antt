@@ -1,6 +1,0 @@
-use Rattle.call_graph.specs.Landings.{AreLandingsTo}
-use Rattle.call_graph.proofs.worked.landings_with.Given as goal
-use Rattle.call_graph.specs.Tasks.{task_of}
-
-abbrev pub invariant-loop-at : goal.invariant-loop-at
-invariant-loop-at l = AreLandingsTo (task_of l.task) l.nodes l.at l.all

@@ -1,6 +1,0 @@
--- A task as the definitions see it.
-use Rattle.local_rules.specs.Site.{Task}
-use Rattle.call_graph.specs.declared.task.Task.{Task as GivenTask}
-
-abbrev pub task_of : GivenTask → Task
-task_of task = record { flash = task.flash.now; assumptions = task.assumptions.now }

@@ -1,8 +1,0 @@
-use Rattle.device_hooks.proofs.Runs.{simulations_are_runs, simulations_are_bounded}
-use Rattle.device_hooks.proofs.laws.simulations_are_runs.Goals as goal
-
-pub returns-clause-runs : goal.returns-clause-runs
-returns-clause-runs c = simulations_are_runs
-
-pub returns-clause-bounded : goal.returns-clause-bounded
-returns-clause-bounded c = simulations_are_bounded

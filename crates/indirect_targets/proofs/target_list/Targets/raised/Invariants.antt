@@ -1,5 +1,0 @@
-use Rattle.std.proofs.Common.{◌≡◌, ◌+◌, map, take}
-use Rattle.indirect_targets.proofs.target_list.Targets.raised.Given as goal
-
-abbrev pub invariant-loop-word : goal.invariant-loop-word
-invariant-loop-word l = l.raised ≡ map (λ n. l.weight + n) (take l.word-index l.words)

@@ -1,7 +1,0 @@
-use Rattle.std.proofs.Common.{◌≡◌, take}
-use Rattle.line_reading.specs.Appending.{with_text}
-use Rattle.indirect_targets.specs.Spelling.{text_of}
-use Rattle.indirect_targets.proofs.writing.write.Given as goal
-
-abbrev pub invariant-loop-entry : goal.invariant-loop-entry
-invariant-loop-entry l = l.out ≡ with_text l.initial.out (text_of (take l.entry-index l.entries))

@@ -1,6 +1,0 @@
--- The laws, and lemmas that crates above cite.
-pub use Rattle.mask_states.proofs.SameKeys.{keys_are_their_numbers, keys_are_ordered, nodes_go_by_instance, bool_same}
-pub use Rattle.mask_states.specs.Total.{both_equal}
-pub use Rattle.mask_states.proofs.Written.{splits_are_writes}
-pub use Rattle.mask_states.proofs.Chains.{bool_order, then_assoc, then_equal, form_length, inst_length, kind_length}
-pub use Rattle.mask_states.proofs.Staying.{enables_stay_among}

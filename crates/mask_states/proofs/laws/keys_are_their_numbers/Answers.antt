@@ -1,5 +1,0 @@
-use Rattle.mask_states.proofs.AllLaws.{keys_are_their_numbers, nodes_go_by_instance}
-use Rattle.mask_states.proofs.laws.keys_are_their_numbers.Goals as goal
-
-pub returns : goal.returns
-returns c = record { numbers = keys_are_their_numbers; instances = nodes_go_by_instance }

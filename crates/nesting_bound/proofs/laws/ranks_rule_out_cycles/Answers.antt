@@ -1,5 +1,0 @@
-use Rattle.nesting_bound.proofs.AllLaws.{ranks_rule_out_cycles}
-use Rattle.nesting_bound.proofs.laws.ranks_rule_out_cycles.Goals as goal
-
-pub returns : goal.returns
-returns c = ranks_rule_out_cycles

@@ -1,5 +1,0 @@
-use Rattle.nesting_bound.specs.Table.{ArePassed}
-use Rattle.nesting_bound.proofs.peel.pass.Given as goal
-
-abbrev pub invariant-loop-i : goal.invariant-loop-i
-invariant-loop-i l = ArePassed l.back l.graph l.fn.table l.i l.grew l.table

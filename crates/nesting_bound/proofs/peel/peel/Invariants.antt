@@ -1,8 +1,0 @@
-use Rattle.nesting_bound.specs.Table.{IsSoundTable, count_missing}
-use Rattle.nesting_bound.proofs.peel.peel.Given as goal
-
-abbrev pub invariant-loop-grew : goal.invariant-loop-grew
-invariant-loop-grew l = IsSoundTable l.back l.graph l.table.items
-
-abbrev pub decreases-loop-grew : goal.decreases-loop-grew
-decreases-loop-grew l = count_missing l.table.items

@@ -1,6 +1,0 @@
-use Rattle.std.proofs.Common.{take}
-use Rattle.nesting_bound.specs.Table.{IsOver}
-use Rattle.nesting_bound.proofs.peel.settle.Given as goal
-
-abbrev pub invariant-loop-entered : goal.invariant-loop-entered
-invariant-loop-entered l = IsOver l.back (take l.entered-index l.inst.entered) l.inst.offsets l.table l.found

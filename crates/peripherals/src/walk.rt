@@ -1,0 +1,170 @@
+//! Runs that hooks choose.
+
+ghost use Rattle.std.specs.Prelude.{◌≡◌, ◌≢◌, ◌≤◌, ◌<◌, length, true, IfOk, OnOk, OnErr};
+ghost use Rattle.avr_model.specs.declared.choice.StepResult.TheVariants as answer;
+ghost use Rattle.avr_model.specs.Devices.{device_of};
+ghost use Rattle.avr_model.specs.Step.{step, result_of};
+ghost use Rattle.avr_model.specs.Run.{HasBytes};
+ghost use Rattle.stimulus.specs.Driving.{stop_at};
+ghost use Rattle.peripherals.specs.Spelling.{most_steps};
+ghost use Rattle.peripherals.specs.Hooks.{IsHook, ByHooks};
+ghost use Rattle.peripherals.specs.Simulating.{setting};
+ghost use Rattle.peripherals.specs.Traces.{IsTrace, Halts};
+ghost use Rattle.peripherals.specs.Midway.{setting_of, IsProgressKnown, IsChosen, kept_on, Walks};
+
+use crate::devices::Devices;
+use crate::hook::{Hook, Moment};
+use crate::progress::Progress;
+use crate::trace::{Choices, DeviceTrace};
+use avr_machine::{Choice, Machine, Menu, Stop};
+use avr_model::choice::StepResult;
+use flash_image::Flash;
+use std::alloc::{AllocError, Global};
+use vector_table::Assumptions;
+
+// The record of a run.
+#[derive(Drop)]
+pub(crate) struct WalkedRun {
+    // The choices, or none if they are not kept.
+    pub(crate) choices: Choices,
+    // The steps done.
+    pub(crate) steps: u32,
+    // The stop that was met, or `End`.
+    pub(crate) stop: Stop,
+}
+
+// What determines the choices of a run: devices with two hooks of theirs, a firmware and its assumptions.
+#[derive(Drop)]
+pub(crate) struct Wiring<'a, F, G> {
+    pub(crate) devices: &'a Devices,
+    pub(crate) timers: &'a Hook<'a, F>,
+    pub(crate) receivers: &'a Hook<'a, G>,
+    pub(crate) flash: &'a Flash,
+    pub(crate) assumptions: &'a Assumptions,
+}
+
+// How the answer to a step ends a run, if it does.
+fn stop_at(answer: StepResult) -> Option<Stop>
+    ensures { result ≡ stop_at answer }
+{
+    match answer {
+        StepResult::Done | StepResult::Illegal => None,
+        StepResult::Undefined(pc) => Some(Stop::Undefined(pc)),
+        StepResult::Overflow(pc) => Some(Stop::Overflow(pc)),
+        StepResult::Flagged(flag) => Some(Stop::Flag(flag)),
+    }
+}
+
+// The hooks' choice at this moment.
+fn choose<F: Fn(&Moment<'_>, &Menu) -> Option<usize>, G: Fn(&Moment<'_>, &Menu) -> Option<usize>>(
+    wiring: &Wiring<'_, F, G>,
+    machine: &Machine,
+    progress: &mut Progress,
+) -> Choice
+    requires first { IsHook F.Fn wiring.now.timers.now.0 wiring.now.timers.now.1 }
+    requires second { IsHook G.Fn wiring.now.receivers.now.0 wiring.now.receivers.now.1 }
+    requires first_devices { wiring.now.timers.now.0 ≡ wiring.now.devices.now }
+    requires second_devices { wiring.now.receivers.now.0 ≡ wiring.now.devices.now }
+    requires known { IsProgressKnown wiring.now.devices.now progress.old }
+    requires room { progress.old.step < most_steps }
+    ensures known { IsProgressKnown wiring.now.devices.now progress.new }
+    ensures bytes { HasBytes result }
+    ensures chosen { IsChosen (setting_of F.Fn G.Fn wiring.now) progress.old machine.now.state result progress.new }
+    ensures legal { (words : _) (A : _) → result_of (step words A machine.now.state result) ≢ answer.Illegal }
+{
+    let answer = progress.answer(wiring.timers, wiring.receivers, &machine.menu());
+    let choice = progress.choice(wiring.devices, answer);
+    progress.pass(wiring.devices, answer);
+    choice
+}
+
+// Appends the choice, if choices are kept.
+fn keep(choices: &mut Choices, keeps: bool, choice: Choice) -> Result<(), AllocError>
+    requires few { keeps ≡ true → length choices.old < most_steps }
+    ensures { OnOk result (choices.new ≡ kept_on keeps choices.old choice) }
+{
+    if keeps {
+        choices.push(choice)?;
+    }
+    Ok(())
+}
+
+// Steps the machine by the hooks' choices up to the first stop, or this many times. Returns the choices if `keeps`.
+pub(crate) fn walk<
+    F: Fn(&Moment<'_>, &Menu) -> Option<usize>,
+    G: Fn(&Moment<'_>, &Menu) -> Option<usize>,
+>(
+    alloc: Global,
+    wiring: &Wiring<'_, F, G>,
+    machine: &mut Machine,
+    steps: u32,
+    keeps: bool,
+) -> Result<WalkedRun, AllocError>
+    requires first { IsHook F.Fn wiring.now.timers.now.0 wiring.now.timers.now.1 }
+    requires second { IsHook G.Fn wiring.now.receivers.now.0 wiring.now.receivers.now.1 }
+    requires first_devices { wiring.now.timers.now.0 ≡ wiring.now.devices.now }
+    requires second_devices { wiring.now.receivers.now.0 ≡ wiring.now.devices.now }
+    requires few { steps ≤ most_steps }
+    ensures ok { IfOk result (λ w. Walks (setting_of F.Fn G.Fn wiring.now) steps keeps machine.old w machine.new) }
+    ensures err { OnErr result (Halts (setting_of F.Fn G.Fn wiring.now) steps machine.old machine.new) }
+{
+    let mut progress = Progress::begin(alloc, wiring.devices)?;
+    let mut choices = Choices::empty(alloc);
+    for step in 0..steps {
+        let choice = choose(wiring, machine, &mut progress);
+        keep(&mut choices, keeps, choice)?;
+        let answer = machine.step(wiring.flash, wiring.assumptions, choice);
+        if let Some(stop) = stop_at(answer) {
+            return Ok(WalkedRun {
+                choices,
+                steps: step,
+                stop,
+            });
+        }
+    }
+    Ok(WalkedRun {
+        choices,
+        steps,
+        stop: Stop::End,
+    })
+}
+
+/// Steps the machine by the hooks' answers. At each moment it enters the interrupt of the first hook's source, otherwise of the second
+/// one's; otherwise it executes an instruction with the devices' byte as input. The run ends at its first stop, or after exactly `steps`
+/// choices, at most 16,777,216. If memory runs out, the machine is where some first choices left it.
+pub fn simulate<
+    F: Fn(&Moment<'_>, &Menu) -> Option<usize>,
+    G: Fn(&Moment<'_>, &Menu) -> Option<usize>,
+>(
+    alloc: Global,
+    devices: &Devices,
+    timers: &Hook<'_, F>,
+    receivers: &Hook<'_, G>,
+    machine: &mut Machine,
+    flash: &Flash,
+    assumptions: &Assumptions,
+    steps: u32,
+) -> Result<DeviceTrace, AllocError>
+    requires first { IsHook F.Fn timers.now.0 timers.now.1 }
+    requires second { IsHook G.Fn receivers.now.0 receivers.now.1 }
+    requires first_devices { timers.now.0 ≡ devices.now }
+    requires second_devices { receivers.now.0 ≡ devices.now }
+    requires device { machine.old.state.device ≡ device_of flash.now }
+    requires few { steps ≤ most_steps }
+    ensures ok { IfOk result (λ t. IsTrace (setting (ByHooks F.Fn G.Fn timers.now receivers.now) devices.now flash.now assumptions.now) steps machine.old t machine.new) }
+    ensures err { OnErr result (Halts (setting (ByHooks F.Fn G.Fn timers.now receivers.now) devices.now flash.now assumptions.now) steps machine.old machine.new) }
+{
+    let wiring = Wiring {
+        devices,
+        timers,
+        receivers,
+        flash,
+        assumptions,
+    };
+    let walk = walk(alloc, &wiring, machine, steps, true)?;
+    Ok(DeviceTrace {
+        choices: walk.choices,
+        depth: machine.depth(),
+        stop: walk.stop,
+    })
+}

@@ -1,6 +1,0 @@
-use Rattle.std.proofs.Common.{◌≡◌, ◌≤◌, drop}
-use Rattle.sb_base.specs.Digits.{number_from}
-use Rattle.sb_base.proofs.digits.dec_number.Given as goal
-
-abbrev pub invariant-loop-digit : goal.invariant-loop-digit
-invariant-loop-digit l = (number_from 10 l.number (drop l.digit-index l.digits) ≡ number_from 10 0 l.digits) × (l.number ≤ l.most)

@@ -1,6 +1,0 @@
-use Rattle.std.proofs.Common.{◌≡◌, drop}
-use Rattle.sb_base.specs.Memory.{is_listed}
-use Rattle.sb_base.proofs.memory.has_call.Given as goal
-
-abbrev pub invariant-loop-listed : goal.invariant-loop-listed
-invariant-loop-listed l = is_listed l.call l.calls ≡ is_listed l.call (drop l.listed-index l.calls)

@@ -1,0 +1,6 @@
+use Rattle.std.proofs.Common.{◌≡◌, ◌++◌, drop}
+use Rattle.store_clear.specs.Settling.{places_from}
+use Rattle.store_clear.proofs.words.addresses.Given as goal
+
+abbrev pub invariant-loop-at : goal.invariant-loop-at
+invariant-loop-at l = places_from 0 l.marks ≡ l.addresses ++ places_from l.at (drop l.at l.marks)
