@@ -3,9 +3,10 @@
 import os
 import tempfile
 import unittest
+from types import SimpleNamespace
 
 from stored import path
-from stackcheck_tools.firmware.elf import Elf, NoElf
+from stackcheck_tools.firmware.elf import STUBS, Elf, NoElf
 
 
 class Reading(unittest.TestCase):
@@ -28,6 +29,13 @@ class Reading(unittest.TestCase):
         elf = Elf(path("late.elf"))
         self.assertEqual(elf.word(0), elf.word(elf.around))
         self.assertEqual(elf.word(0) & 0xFE0E, 0x940C)
+
+    def test_stubs_are_functions_by_the_names_of_their_targets(self) -> None:
+        flash = bytearray(8) + bytes.fromhex("0d943412" "0d940000" "0c943412")  # jmp 0x11234, jmp 0x10000, jmp 0x1234
+        elf = SimpleNamespace(all=dict(zip(STUBS, (8, 20))), flash=flash, stub_at={})
+        found = list(Elf.stubs(elf, {0x22468: "far", 0x2468: "near"}))
+        self.assertEqual([(it.name, it.address, it.size, it.is_function) for it in found], [("far@stub", 8, 4, True), ("near@stub", 16, 4, True)])
+        self.assertEqual([Elf.pointed(elf, it) for it in (0x22468, 0x20000)], [8, 0x20000])
 
     def test_static_data_ends_behind_bss(self) -> None:
         self.assertEqual(Elf(path("sensor.elf")).static_end(), 0x900 - 2007)

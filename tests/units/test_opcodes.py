@@ -11,8 +11,8 @@ from stackcheck_tools.firmware import opcodes
 class Flash:
     """Words of flash, FFFF where none is given."""
 
-    def __init__(self, words: Dict[int, int]) -> None:
-        self.words, self.chip = words, SimpleNamespace(words=0x4000)
+    def __init__(self, words: Dict[int, int], count: int = 0x4000) -> None:
+        self.words, self.chip = words, SimpleNamespace(words=count)
 
     def word(self, word: int) -> int:
         return self.words.get(word, 0xFFFF)
@@ -32,6 +32,18 @@ class Opcodes(unittest.TestCase):
         self.assertEqual(opcodes.call_target(flash, 0x13), 0x123)
         self.assertEqual(opcodes.jump_target(flash, 0x15), 1)
         self.assertIsNone(opcodes.call_target(flash, 0x10))
+
+    def test_a_long_target_has_22_bits(self) -> None:
+        words = {0: 0x940D, 1: 0x2345, 2: 0x95FF, 3: 0xFFFF}
+        self.assertEqual(opcodes.jump_target(Flash(words, 0x20000), 0), 0x12345)
+        self.assertEqual(opcodes.jump_target(Flash(words), 0), 0x2345)
+        self.assertEqual(opcodes.call_target(Flash(words, 0x20000), 2), 0x1FFFF)
+
+    def test_transfers_through_pointers(self) -> None:
+        found = [it for it in range(0x10000) if opcodes.is_indirect(it)]
+        self.assertEqual(found, [opcodes.IJMP, opcodes.EIJMP, opcodes.ICALL, opcodes.EICALL])
+        self.assertEqual([opcodes.group(it) for it in found], [None, "eijmp", None, "eijmp"])
+        self.assertEqual([opcodes.group(it) for it in (0x95D8, 0x9006, 0x9007)], ["elpm", "elpmx", "elpmx"])
 
     def test_what_may_follow_an_instruction(self) -> None:
         flash = Flash({0: 0xF409, 1: 0xF3F1, 2: 0x1301, 3: 0x9000, 4: 0x0100, 5: opcodes.IJMP, 6: 0xC000})

@@ -8,7 +8,7 @@ from typing import Iterator, Optional, Tuple
 
 from stackcheck_tools.analysis.mending import Analysis
 from stackcheck_tools.analysis.telling import line_of_spec, text_of_stop, why_not
-from stackcheck_tools.analysis.trials import INPUTS, Stop, Trials, handled, reads_inputs
+from stackcheck_tools.analysis.trials import Stop, Trials, handled
 from stackcheck_tools.firmware.firmware import Firmware
 from stackcheck_tools.habits import FAULTS, Words, in_words
 from stackcheck_tools.spec.lines import Lines
@@ -39,7 +39,7 @@ def text_of(search: Analysis, stop: Stop, kind: Optional[str]) -> Iterator[str]:
         yield f"  {why_not(search.firmware, stop)}"
         return
     yield f"  {search.lines.line(stop.word, kind)}"
-    added = Lines()
+    added = Lines(search.firmware.device)
     added.put(stop.word, kind, {stop.other} if kind in ("jump", "store") else ())
     if spec := line_of_spec(search.firmware, added, stop.word, kind):
         yield f"  spec: {spec}"
@@ -71,7 +71,5 @@ def main() -> int:
     except (*FAULTS, SpecFault) as fault:
         print(f"flagged: {in_words(fault)}", file=sys.stderr)
         return 3
-    if reads_inputs(firmware.elf, firmware.device):
-        print(INPUTS)
     print(f"{count} found; the search is incomplete")
     return 1 if count else 0

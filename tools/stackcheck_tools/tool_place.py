@@ -37,5 +37,5 @@ def main() -> int:
         return 3
     lines = Lines(elf, words[0])
     for number in numbers:
-        print(f"{number:04X} {place(elf, lines, number)}")
+        print(f"{elf.chip.word(number)} {place(elf, lines, number)}")
     return 0

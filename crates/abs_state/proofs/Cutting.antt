@@ -1,7 +1,10 @@
 -- Cuts of one pair of a state.
 use Rattle.std.proofs.lemmas.Grind.{elements}
-use Rattle.std.proofs.Common.{◌≡◌, ◌≢◌, refl, sym, ◌∙◌, ap, subst, subst₂, ℕ, ◌+◌, ◌*◌, ◌<◌, ◌⊎◌, inl, inr, List, length, Option, Some, None, slice_set, slice_index, length-set, arith}
+use Rattle.std.proofs.Common.{◌≡◌, ◌≢◌, refl, sym, ◌∙◌, ap, subst, subst₂, ℕ, ◌+◌, ◌*◌, ◌<◌, ◌⊎◌, inl, inr, Bool, true, List, length, Option, Some, None, slice_set, slice_index, length-set, arith}
 use Rattle.std.proofs.lemmas.Bool.{cases_eq}
+use Rattle.avr_model.specs.declared.device.Device.{Device}
+use Rattle.avr_model.specs.State.{RAMPZ, EIND}
+use Rattle.sp_domain.specs.declared.tags.Tag.{Tag}
 use Rattle.sp_domain.specs.Tags.{Origin}
 use Rattle.pair_domain.specs.declared.intervals.Interval.{Interval}
 use Rattle.pair_domain.specs.declared.facts.PairFacts.{PairFacts}
@@ -20,6 +23,7 @@ use Rattle.abs_state.specs.Order.{IsByteWithin, IsStateWithin}
 use Rattle.abs_state.specs.Formed.{NamesRegister, ByteFits, IsWhole, IsFormed}
 use Rattle.abs_state.specs.Laws.{HoldsAt}
 use Rattle.abs_state.specs.Cuts.{pair_of, pair_set, with_pair, cut_known, KeepsPair, SaysMore, LeavesFit, StatesAreCut}
+use Rattle.abs_state.specs.Banks.{IsBankIn, IsStateWith}
 use Rattle.abs_state.proofs.Whole.{states_are_ordered}
 
 -- ---- registers and intervals with one written
@@ -36,7 +40,7 @@ interval_there is n i lt = grind (arith, elements)
 pub interval_other : (is : List Interval) (n k : ℕ) (i : Interval) → k ≢ n → interval_at (slice_set is n i) k ≡ interval_at is k
 interval_other is n k i ne = grind (arith, elements)
 
-module _ (vs : List AbsByte) (n : ℕ) (p : PairSet) (count : length vs ≡ 32) (lt : n < 16) where
+module _ (vs : List AbsByte) (n : ℕ) (p : PairSet) (count : length vs ≡ 34) (lt : n < 16) where
   low_there : value_at (pair_set vs n p) (2 * n) ≡ valued (value_at vs (2 * n)).tag p.low
   low_there =
       value_other (slice_set vs (2 * n) (valued (value_at vs (2 * n)).tag p.low)) (2 * n + 1) (2 * n) (valued (value_at vs (2 * n + 1)).tag p.high) (omega arith)
@@ -53,8 +57,8 @@ module _ (vs : List AbsByte) (n : ℕ) (p : PairSet) (count : length vs ≡ 32) 
       ∙ value_other vs (2 * n) r (valued (value_at vs (2 * n)).tag p.low) low
 
 -- a property of the pair's registers and of each other register holds of all
-each_register : (Q : ℕ → AbsByte → Type 0) (vs : List AbsByte) (n : ℕ) (p : PairSet) → length vs ≡ 32 → n < 16 → Q (2 * n) (valued (value_at vs (2 * n)).tag p.low)
-    → Q (2 * n + 1) (valued (value_at vs (2 * n + 1)).tag p.high) → ((r : ℕ) → r < 32 → Q r (value_at vs r)) → (r : ℕ) → r < 32 → Q r (value_at (pair_set vs n p) r)
+each_register : (Q : ℕ → AbsByte → Type 0) (vs : List AbsByte) (n : ℕ) (p : PairSet) → length vs ≡ 34 → n < 16 → Q (2 * n) (valued (value_at vs (2 * n)).tag p.low)
+    → Q (2 * n + 1) (valued (value_at vs (2 * n + 1)).tag p.high) → ((r : ℕ) → r < 34 → Q r (value_at vs r)) → (r : ℕ) → r < 34 → Q r (value_at (pair_set vs n p) r)
 each_register Q vs n p count lt low high rest r small = by (cases_eq r (2 * n + 1)) (cases_eq r (2 * n))
   where
     by : (r ≡ 2 * n + 1) ⊎ (r ≡ 2 * n + 1 → ⊥) → (r ≡ 2 * n) ⊎ (r ≡ 2 * n → ⊥) → Q r (value_at (pair_set vs n p) r)
@@ -77,10 +81,10 @@ each_interval Q is n i count lt here rest k small = by (cases_eq k n)
     by (inr ne) = subst (Q k) (sym (interval_other is n k i ne)) (rest k small)
 
 -- a relation of the pair's registers and of each other register holds of all, in two lists
-both_registers : (vs ws : List AbsByte) (n : ℕ) (p q : PairSet) → length vs ≡ 32 → length ws ≡ 32 → n < 16
+both_registers : (vs ws : List AbsByte) (n : ℕ) (p q : PairSet) → length vs ≡ 34 → length ws ≡ 34 → n < 16
     → IsByteWithin (valued (value_at vs (2 * n)).tag p.low) (valued (value_at ws (2 * n)).tag q.low)
-    → IsByteWithin (valued (value_at vs (2 * n + 1)).tag p.high) (valued (value_at ws (2 * n + 1)).tag q.high) → ((r : ℕ) → r < 32 → IsByteWithin (value_at vs r) (value_at ws r))
-    → (r : ℕ) → r < 32 → IsByteWithin (value_at (pair_set vs n p) r) (value_at (pair_set ws n q) r)
+    → IsByteWithin (valued (value_at vs (2 * n + 1)).tag p.high) (valued (value_at ws (2 * n + 1)).tag q.high) → ((r : ℕ) → r < 34 → IsByteWithin (value_at vs r) (value_at ws r))
+    → (r : ℕ) → r < 34 → IsByteWithin (value_at (pair_set vs n p) r) (value_at (pair_set ws n q) r)
 both_registers vs ws n p q m k lt low high rest r small = by (cases_eq r (2 * n + 1)) (cases_eq r (2 * n))
   where
     by : (r ≡ 2 * n + 1) ⊎ (r ≡ 2 * n + 1 → ⊥) → (r ≡ 2 * n) ⊎ (r ≡ 2 * n → ⊥) → IsByteWithin (value_at (pair_set vs n p) r) (value_at (pair_set ws n q) r)
@@ -237,10 +241,26 @@ formed_known cut s t n offset lt fit a (Some f) fits e =
       };
     }
 
+-- a cut keeps tags, and it is of r0 to r31
+of_known : (cut : PairSet → Option PairSet) (good : Tag → Bool) (device : Device) (is_root : Bool) (s t : AbsState) (n : ℕ) → IsWhole s → n < 16 → IsStateWith good device is_root s
+    → (x : Option PairFacts) → cut_known cut s n x ≡ Some t → IsStateWith good device is_root t
+of_known cut good device is_root s t n whole lt a None e = let same : s ≡ t = cc in subst (IsStateWith good device is_root) same a
+of_known cut good device is_root s t n whole lt a (Some f) e =
+    let was = with_was s t f n (cut (pair_of s.registers f.intervals n)) e in
+    let tags = each_register (λ (r : ℕ) (v : AbsByte). r < 32 → good v.tag ≡ true) s.registers n was.0 whole.registers lt (a.registers (2 * n)) (a.registers (2 * n + 1))
+    (λ r small. a.registers r) in
+    subst (IsStateWith good device is_root) was.1.1 record {
+      registers = λ r low. tags r (omega (arith, low)) low;
+      slots = a.slots;
+      rampz = subst (IsBankIn good device is_root RAMPZ) (sym (rest_there s.registers n was.0 whole.registers lt RAMPZ (omega (arith, lt)) (omega (arith, lt)))) a.rampz;
+      eind = subst (IsBankIn good device is_root EIND) (sym (rest_there s.registers n was.0 whole.registers lt EIND (omega (arith, lt)) (omega (arith, lt)))) a.eind;
+    }
+
 pub states_are_cut : StatesAreCut
 states_are_cut = record {
   keeps = λ cut o s n registers sreg whole lt keep stand h. keeps_known cut o s n registers sreg whole lt keep stand s.facts refl whole.pairs h;
   under = λ cut s t n whole lt says e. under_known cut s t n whole lt says s.facts refl whole.pairs e;
   formed = λ cut s t n offset lt fit a e. formed_known cut s t n offset lt fit a s.facts a.facts e;
+  of = λ cut good device is_root s t n whole lt a e. of_known cut good device is_root s t n whole lt a s.facts e;
   more = λ cut cut' s s' t n a b lt says mono le e. more_known cut cut' s s' t n a b lt says mono le s.facts s'.facts refl a.pairs b.pairs le.facts e;
 }

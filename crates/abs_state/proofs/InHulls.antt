@@ -23,7 +23,7 @@ use Rattle.abs_state.specs.Ended.{hull_at}
 use Rattle.abs_state.specs.Hulls.{AreInHulls, IsInHulls, HullsHoldIntervals}
 use Rattle.abs_state.proofs.Ordered.{values_are_ordered}
 use Rattle.abs_state.proofs.Listed.{value_at-join}
-use Rattle.abs_state.proofs.Start.{entered_value}
+use Rattle.abs_state.proofs.Start.{entered_value, root_value}
 use Rattle.abs_state.proofs.PairsBack.{collected_was, cut_was, with_pairs_was}
 use Rattle.abs_state.proofs.KnownBack.{following_was}
 
@@ -35,8 +35,8 @@ unknown_hull = refl
 
 following_holds : (n : ℕ) → n < 16 → IsIntervalWithin (interval_at (replicate 16 whole) n) (hull_at root.registers n)
 following_holds n lt =
-    let lo : value_at root.registers (2 * n) ≡ unknown = get_or-replicate 32 (2 * n) unknown unknown (omega (arith, lt)) in
-    let hi : value_at root.registers (2 * n + 1) ≡ unknown = get_or-replicate 32 (2 * n + 1) unknown unknown (omega (arith, lt)) in
+    let lo : value_at root.registers (2 * n) ≡ unknown = root_value (2 * n) (omega (arith, lt)) in
+    let hi : value_at root.registers (2 * n + 1) ≡ unknown = root_value (2 * n + 1) (omega (arith, lt)) in
     let is : hull_at root.registers n ≡ whole = ap₂ (λ (v w : AbsByte). hull (set_of v) (set_of w)) lo hi ∙ unknown_hull in
     subst₂ IsIntervalWithin (sym (get_or-replicate 16 n whole whole lt)) (sym is) (intervals_are_ordered.same whole)
 
@@ -49,7 +49,7 @@ hull_more : (v w v' w' : AbsByte) → IsByteWithin v v' → IsByteWithin w w' �
 hull_more v w v' w' a b = hulls_hold.more (set_of v) (set_of w) (set_of v') (set_of w') (set_less v v' a) (set_less w w' b)
 
 module _ (s t : AbsState) (m : IsWhole s) (k : IsWhole t) where
-  value_is : (r : ℕ) → r < 32 → value_at (values_join s.registers t.registers) r ≡ value_join (value_at s.registers r) (value_at t.registers r)
+  value_is : (r : ℕ) → r < 34 → value_at (values_join s.registers t.registers) r ≡ value_join (value_at s.registers r) (value_at t.registers r)
   value_is r lt = value_at-join s.registers t.registers r (omega (arith, lt, m.registers)) (omega (arith, lt, k.registers))
 
   hull_is : (n : ℕ) → n < 16 → hull_at (values_join s.registers t.registers) n
@@ -74,11 +74,11 @@ module _ (s t : AbsState) (m : IsWhole s) (k : IsWhole t) where
 
 -- ---- at an entry
 
-entered_hull : (s : AbsState) (n : ℕ) → length s.registers ≡ 32 → n < 16 → hull_at (entered s).registers n ≡ hull_at s.registers n
+entered_hull : (s : AbsState) (n : ℕ) → length s.registers ≡ 34 → n < 16 → hull_at (entered s).registers n ≡ hull_at s.registers n
 entered_hull s n count lt =
     ap₂ (λ (v w : AbsByte). hull (set_of v) (set_of w)) (entered_value s (2 * n) count (omega (arith, lt))) (entered_value s (2 * n + 1) count (omega (arith, lt)))
 
-enters_by : (s : AbsState) → length s.registers ≡ 32 → (x : Option PairFacts) → AreInHulls s.registers x → AreInHulls (entered s).registers (known_entered x)
+enters_by : (s : AbsState) → length s.registers ≡ 34 → (x : Option PairFacts) → AreInHulls s.registers x → AreInHulls (entered s).registers (known_entered x)
 enters_by s count None h = tt
 enters_by s count (Some f) h = λ n lt. subst (IsIntervalWithin (interval_at f.intervals n)) (sym (entered_hull s n count lt)) (h n lt)
 

@@ -45,17 +45,17 @@ both false b e = absurd (false≢true e)
 
 -- ---- what holds
 
-module _ (o callee : Origin) (exit after : List AbsByte) (registers : List ℕ) (out : RegistersStand callee exit registers) (names : (r : ℕ) → r < 32 → NamesRegister (value_at exit r).tag)
+module _ (o callee : Origin) (exit after : List AbsByte) (registers : List ℕ) (out : RegistersStand callee exit registers) (names : (r : ℕ) → r < 34 → NamesRegister (value_at exit r).tag)
     (in_frame : RegistersStand o after registers) where
-  held_at : (r : ℕ) → r < 32 → SetHas (set_of (value_at after r)) (slice_index registers r)
+  held_at : (r : ℕ) → r < 34 → SetHas (set_of (value_at after r)) (slice_index registers r)
   held_at r lt = let h = in_frame r lt in record { bits = h.bits; low = h.low; high = h.high; small = h.small }
 
-  entry_value : (r a : ℕ) → r < 32 → (value_at exit r).tag ≡ tag.Entry a → (slice_index registers r ≡ slice_index callee.registers a) × (a < 32)
+  entry_value : (r a : ℕ) → r < 34 → (value_at exit r).tag ≡ tag.Entry a → (slice_index registers r ≡ slice_index callee.registers a) × (a < 34)
   entry_value r a lt e =
       (subst (λ (t : Tag). TagHolds callee t (slice_index registers r)) e (out r lt).tag, subst NamesRegister e (names r lt))
 
   kept_register : (r : ℕ) → r < 32 → keeps exit r ≡ true → slice_index registers r ≡ slice_index callee.registers r
-  kept_register r lt e = (entry_value r r lt (same_entry (value_at exit r).tag r e)).0
+  kept_register r lt e = (entry_value r r (omega (arith, lt)) (same_entry (value_at exit r).tag r e)).0
 
   interval_holds : (caller found : List Interval) → ((n : ℕ) → n < 16 → InInterval (interval_at caller n) (pair_number callee.registers (2 * n)))
       → ((n : ℕ) → n < 16 → InInterval (interval_at found n) (pair_number registers (2 * n)))
@@ -69,7 +69,7 @@ module _ (o callee : Origin) (exit after : List AbsByte) (registers : List ℕ) 
       let x = entry_value (2 * n) (2 * a) (omega (arith, lt)) is.first in
       let y = entry_value (2 * n + 1) (2 * a + 1) (omega (arith, lt)) is.second in
       let same : pair_number callee.registers (2 * a) ≡ w = omega (arith, x.0, y.0) in
-      subst (InInterval (interval_at caller a)) same (known a (omega (arith, x.1))) in
+      subst (InInterval (interval_at caller a)) same (known a is.small) in
       let kept = kept_holds caller (kept_pair t u) (interval_at found n) w from (h n lt) in
       let lo = set_of (value_at after (2 * n)) in
       let hi = set_of (value_at after (2 * n + 1)) in
@@ -178,13 +178,13 @@ module _ (o callee : Origin) (exit after : List AbsByte) (registers : List ℕ) 
 
 -- ---- what is more
 
-module _ (exit exit' after after' : List AbsByte) (over : (r : ℕ) → r < 32 → IsByteWithin (value_at exit r) (value_at exit' r))
-    (above : (r : ℕ) → r < 32 → IsByteWithin (value_at after r) (value_at after' r)) where
-  set_above : (r : ℕ) → r < 32 → IsSetWithin (set_of (value_at after r)) (set_of (value_at after' r))
+module _ (exit exit' after after' : List AbsByte) (over : (r : ℕ) → r < 34 → IsByteWithin (value_at exit r) (value_at exit' r))
+    (above : (r : ℕ) → r < 34 → IsByteWithin (value_at after r) (value_at after' r)) where
+  set_above : (r : ℕ) → r < 34 → IsSetWithin (set_of (value_at after r)) (set_of (value_at after' r))
   set_above r lt = let h = above r lt in record { bits = h.bits; low = h.low; high = h.high }
 
   interval_more : (caller caller' found found' : List Interval) → ((n : ℕ) → n < 16 → IsIntervalWithin (interval_at caller n) (interval_at caller' n))
-      → ((n : ℕ) → n < 16 → IsIntervalWithin (interval_at found n) (interval_at found' n)) → ((r : ℕ) → r < 32 → NamesRegister (value_at exit' r).tag)
+      → ((n : ℕ) → n < 16 → IsIntervalWithin (interval_at found n) (interval_at found' n)) → ((r : ℕ) → r < 34 → NamesRegister (value_at exit' r).tag)
       → (n : ℕ) → n < 16 → (m : Interval) → interval_back caller exit found after n ≡ Some m
       → (m' : Interval) × ((interval_back caller' exit' found' after' n ≡ Some m') × IsIntervalWithin m m')
   interval_more caller caller' found found' a b names n lt m e =
@@ -198,9 +198,7 @@ module _ (exit exit' after after' : List AbsByte) (over : (r : ℕ) → r < 32 �
       (set_above (2 * n) (omega (arith, lt))) (set_above (2 * n + 1) (omega (arith, lt))) in
       let was = cut_was h (interval_kept caller (kept_pair t u) (interval_at found n)) m e in
       let small : (k : ℕ) → kept_pair t' u' ≡ Some k → k < 16 = λ k is.
-      let pair = kept_is t' u' k is in
-      let name : 2 * k < 32 = subst NamesRegister pair.first (names (2 * n) (omega (arith, lt))) in
-      omega (arith, name) in
+      (kept_is t' u' k is).small in
       let kept =
       kept_more caller caller' (kept_pair t u) (kept_pair t' u') (interval_at found n) (interval_at found' n) was.0
       (kept_less t u t' u' (over (2 * n) (omega (arith, lt))).tag (over (2 * n + 1) (omega (arith, lt))).tag) (λ k is. a k (small k is)) (b n lt) was.1.0 in
@@ -210,7 +208,7 @@ module _ (exit exit' after after' : List AbsByte) (over : (r : ℕ) → r < 32 �
   -- the lesser keeps what the greater keeps
   keeps_more : (r : ℕ) → r < 32 → keeps exit' r ≡ true → keeps exit r ≡ true
   keeps_more r lt e =
-      let is : IsTagWithin (value_at exit r).tag (tag.Entry r) = subst (IsTagWithin (value_at exit r).tag) (same_entry (value_at exit' r).tag r e) (over r lt).tag in
+      let is : IsTagWithin (value_at exit r).tag (tag.Entry r) = subst (IsTagWithin (value_at exit r).tag) (same_entry (value_at exit' r).tag r e) (over r (omega (arith, lt))).tag in
       ap (λ (t : Tag). is_same_tag t (tag.Entry r)) is ∙ eq-eqb r r refl
 
   both_true : (a b : Bool) → a ≡ true → b ≡ true → a && b ≡ true
@@ -307,7 +305,7 @@ module _ (exit exit' after after' : List AbsByte) (over : (r : ℕ) → r < 32 �
   facts_more f f' is is' k false true fits le within same e = absurd (false≢true (same refl))
 
   pub known_more : (caller caller' found found' : Option PairFacts) (entry entry' : Bool) → KnownFits caller' → IsKnownWithin caller caller' → IsKnownWithin found found'
-      → (entry' ≡ true → entry ≡ true) → ((r : ℕ) → r < 32 → NamesRegister (value_at exit' r).tag) → (x : Option PairFacts) → known_back caller exit entry found after ≡ Some x
+      → (entry' ≡ true → entry ≡ true) → ((r : ℕ) → r < 34 → NamesRegister (value_at exit' r).tag) → (x : Option PairFacts) → known_back caller exit entry found after ≡ Some x
       → (x' : Option PairFacts) × ((known_back caller' exit' entry' found' after' ≡ Some x') × IsKnownWithin x x')
   known_more caller None found found' entry entry' fits le over same names x e = (None, (refl, tt))
   known_more caller (Some f') found None entry entry' fits le over same names x e = (None, (refl, tt))

@@ -32,7 +32,7 @@ kept_flags callee true left_sreg sreg new h kept same e =
 kept_flags callee false left_sreg sreg new h kept same e = absurd (cc)
 
 -- parts of the state after a return, if it exists
-pub answer_none : (caller exit : AbsState) → length exit.registers ≡ 32 → (t : Option AbsState) → t ≡ returned caller exit
+pub answer_none : (caller exit : AbsState) → length exit.registers ≡ 34 → (t : Option AbsState) → t ≡ returned caller exit
     → (t ≡ None → Conflict caller exit) × (Conflict caller exit → t ≡ None)
 answer_none caller exit n t e =
     let none = pairs_none caller exit (bytes_return.none caller exit n) in

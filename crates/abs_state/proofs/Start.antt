@@ -1,8 +1,6 @@
 -- The root's state at reset, and the states at entries.
-use Rattle.std.proofs.Common.{◌≡◌, refl, sym, ◌∙◌, ap, subst, ℕ, zero, suc, ◌+◌, ◌*◌, ◌/◌, ◌%◌, ◌^◌, ◌<◌, ◌==◌, Bool, true, false, if◌then◌else◌, List, [], ◌∷◌, length, slice_index, inl, inr, arith, Option, Some, None}
-use Rattle.std.proofs.lemmas.List.{get_or-replicate}
-use Rattle.std.proofs.Math.ListN.{length-replicate}
-use Rattle.std.proofs.lemmas.Bool.{cases_eq}
+use Rattle.std.proofs.Common.{◌≡◌, refl, sym, ◌∙◌, ap, subst, ℕ, zero, suc, ◌+◌, ◌*◌, ◌/◌, ◌%◌, ◌^◌, ◌<◌, ◌==◌, Bool, true, false, if◌then◌else◌, ◌≤◌, ◌⊎◌, List, [], ◌∷◌, ◌++◌, replicate, length, slice_index, inl, inr, arith, Option, Some, None}
+use Rattle.std.proofs.lemmas.Bool.{cases_eq, cases_lt}
 use Rattle.std.proofs.lemmas.Nat.Bits.{bit_at-zero, bit_at_cat_low}
 use Rattle.std.specs.Int.{bit_at}
 use Rattle.bit_domain.specs.declared.bits.Tri.{Tri}
@@ -19,8 +17,8 @@ use Rattle.pair_domain.specs.Rank.{KnownFits}
 use Rattle.sp_domain.specs.declared.tags.Tag.TheVariants as tag
 use Rattle.abs_state.specs.declared.values.AbsByte.{AbsByte}
 use Rattle.abs_state.specs.declared.state.AbsState.{AbsState}
-use Rattle.abs_state.specs.Values.{unknown, value_at, clear_flags, root, valued, set_of}
-use Rattle.bit_domain.specs.TriByte.{byte_any}
+use Rattle.abs_state.specs.Values.{unknown, known, value_at, clear_flags, root, valued, set_of}
+use Rattle.bit_domain.specs.TriByte.{byte_any, byte_known}
 use Rattle.sp_domain.specs.Tags.{Origin}
 use Rattle.std.proofs.lemmas.List.Elements.{All-get_or}
 use Rattle.abs_state.specs.Stands.{ByteStands}
@@ -32,8 +30,29 @@ use Rattle.abs_state.proofs.Ordered.{bits_make_values}
 
 -- ---- reset
 
-root_value : (r : ℕ) → r < 32 → value_at root.registers r ≡ unknown
-root_value r h = get_or-replicate 32 r unknown unknown h
+-- r0 to r31 are unknown, and RAMPZ and EIND are 0
+replicated_value : (n r : ℕ) (vs : List AbsByte) → r < n → value_at (replicate n unknown ++ vs) r ≡ unknown
+replicated_value zero r vs h = absurd (omega arith)
+replicated_value (suc n) zero vs h = refl
+replicated_value (suc n) (suc r) vs h = replicated_value n r vs (omega arith)
+
+pub root_value : (r : ℕ) → r < 32 → value_at root.registers r ≡ unknown
+root_value r h = replicated_value 32 r (known 0 ∷ known 0 ∷ []) h
+
+-- a property of an unknown byte and of 0 holds of each register
+replicated_each : (Q : AbsByte → Type 0) (n r : ℕ) → Q unknown → Q (known 0) → Q (value_at (replicate n unknown ++ known 0 ∷ known 0 ∷ []) r)
+replicated_each Q zero zero any none = none
+replicated_each Q zero (suc zero) any none = none
+replicated_each Q zero (suc (suc r)) any none = any
+replicated_each Q (suc n) zero any none = any
+replicated_each Q (suc n) (suc r) any none = replicated_each Q n r any none
+
+pub root_each : (Q : AbsByte → Type 0) (r : ℕ) → Q unknown → Q (known 0) → Q (value_at root.registers r)
+root_each Q r any none = replicated_each Q 32 r any none
+
+zero_stands : (o : Origin) (x : ℕ) → x ≡ 0 → ByteStands o (known 0) x
+zero_stands o x is =
+    subst (ByteStands o (known 0)) (sym is) (bits_make_values.stands o tag.None (byte_known 0) 0 (omega arith) tt ((bytes_are_sets.known 0 0 (omega arith) (omega arith)).1 refl))
 
 clear_permits : (b : Bool) → Permits (if b then Any else Zero) 0
 clear_permits true = tt
@@ -51,29 +70,43 @@ cleared = bytes_are_their_bits.from_fields (byte_of (λ i. tri_of (bit_at 0x7F i
 pub any_stands : (o : Origin) (x : ℕ) → x < 256 → ByteStands o unknown x
 any_stands o x small = bits_make_values.stands o tag.None byte_any x small tt (bytes_are_sets.built (λ _. Any) x (λ i k. tt))
 
+reset_register : (o : Origin) (registers : List ℕ) → slice_index registers 32 ≡ 0 → slice_index registers 33 ≡ 0 → (r : ℕ) → r < 34 → slice_index registers r < 256
+    → ByteStands o (value_at root.registers r) (slice_index registers r)
+reset_register o registers rampz eind r h small = by (cases_lt r 32) (cases_eq r 32)
+  where
+    by : (r < 32) ⊎ (32 ≤ r) → (r ≡ 32) ⊎ (r ≡ 32 → ⊥) → ByteStands o (value_at root.registers r) (slice_index registers r)
+    by (inl lt) _ = subst (λ (v : AbsByte). ByteStands o v (slice_index registers r)) (sym (root_value r lt)) (any_stands o (slice_index registers r) small)
+    by (inr ge) (inl is) =
+        let P : ℕ → Type 0 = λ k. ByteStands o (value_at root.registers k) (slice_index registers k) in
+        subst P (sym is) (zero_stands o (slice_index registers 32) rampz)
+    by (inr ge) (inr ne) =
+        let is : r ≡ 33 = omega (arith, h, ge, ne) in
+        let P : ℕ → Type 0 = λ k. ByteStands o (value_at root.registers k) (slice_index registers k) in
+        subst P (sym is) (zero_stands o (slice_index registers 33) eind)
+
 pub reset_stands : ResetStands
 reset_stands = record {
   stands = λ device m reset. record {
     registers = λ r h.
-        subst (λ (v : AbsByte). ByteStands (record { registers = m.registers; sreg = m.sreg; base = ramend device }) v (slice_index m.registers r)) (sym (root_value r h))
-        (any_stands (record { registers = m.registers; sreg = m.sreg; base = ramend device }) (slice_index m.registers r) (All-get_or (λ b. b < 256) m.registers r 0 (omega (arith, reset.count_registers)) reset.register_bytes));
+        reset_register (record { registers = m.registers; sreg = m.sreg; base = ramend device }) m.registers reset.rampz reset.eind r h
+        (All-get_or (λ b. b < 256) m.registers r 0 (omega (arith, reset.count_registers)) reset.register_bytes);
     flags = record { entry = tt; bits = subst (Has clear_flags) (sym reset.sreg) clear_has; carry = tt };
     less = tt;
     slots = λ d h. absurd (omega arith);
   };
   formed = record {
-    count_registers = length-replicate 32 unknown;
-    registers = λ r h. subst (λ (v : AbsByte). NamesRegister v.tag) (sym (root_value r h)) tt;
+    count_registers = refl;
+    registers = λ r h. root_each (λ (v : AbsByte). NamesRegister v.tag) r tt tt;
     bit_7 = bytes_are_their_bits.has_bits (λ i. if i == 7 then Any else Zero) 7 (omega arith);
     count_slots = refl;
     slots = λ d h. absurd (omega arith);
     carry = tt;
-    ranges = λ r h. subst ByteFits (sym (root_value r h)) (bits_make_values.fits tag.None byte_any);
+    ranges = λ r h. root_each ByteFits r (bits_make_values.fits tag.None byte_any) (bits_make_values.fits tag.None (byte_known 0));
     slot_ranges = λ d h. absurd (omega arith);
     facts = tt;
   };
   untagged = record {
-    registers = λ r h. ap (λ (v : AbsByte). v.tag) (root_value r h);
+    registers = λ r h. root_each (λ (v : AbsByte). v.tag ≡ tag.None) r refl refl;
     entry = refl;
     carry = tt;
     slots = λ d h. absurd (omega arith);
@@ -103,7 +136,7 @@ tagged_value vs r h =
     let e : 0 + r ≡ r = omega arith in
     value_at-tagged vs 0 r h ∙ ap (λ (k : ℕ). tagged (value_at vs r) k) e
 
-pub entered_value : (s : AbsState) (r : ℕ) → length s.registers ≡ 32 → r < 32 → value_at (entered s).registers r ≡ tagged (value_at s.registers r) r
+pub entered_value : (s : AbsState) (r : ℕ) → length s.registers ≡ 34 → r < 34 → value_at (entered s).registers r ≡ tagged (value_at s.registers r) r
 entered_value s r n h = tagged_value s.registers r (omega arith)
 
 -- the low k bits of a number are those of its remainder

@@ -31,7 +31,7 @@ abbrev pub is_one_of : List ℕ → ℕ → Bool
 is_one_of written r = list_any (λ n. n == r) written
 
 abbrev pub is_bit_of : ℕ → ℕ → Bool
-is_bit_of written r = nat_lt r 32 && (bit_and (written / 2 ^ r) 1 == 1)
+is_bit_of written r = nat_lt r 64 && (bit_and (written / 2 ^ r) 1 == 1)
 
 -- a register of pair r is in the set
 abbrev pub in_pair : (ℕ → Bool) → ℕ → Bool

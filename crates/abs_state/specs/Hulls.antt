@@ -1,5 +1,6 @@
 -- Intervals that lie in the hulls of their registers. Source: own.
 use Rattle.std.specs.Prelude.{ℕ, ◌≡◌, ◌<◌, ⊤, List, length, Option, Some, None}
+use Rattle.avr_model.specs.State.{REGISTERS}
 use Rattle.pair_domain.specs.declared.facts.PairFacts.{PairFacts}
 use Rattle.pair_domain.specs.Intervals.{IsIntervalWithin}
 use Rattle.pair_domain.specs.Facts.{interval_at}
@@ -25,5 +26,5 @@ pub record HullsHoldIntervals : Type 0 where
   pub root : IsInHulls root
   pub following_root : IsInHulls following_root
   pub joins : (s t : AbsState) → IsWhole s → IsWhole t → IsInHulls s → IsInHulls t → IsInHulls (state_join s t)
-  pub entered : (s : AbsState) → length s.registers ≡ 32 → IsInHulls s → IsInHulls (entered s)
+  pub entered : (s : AbsState) → length s.registers ≡ REGISTERS → IsInHulls s → IsInHulls (entered s)
   pub returned : (caller exit t : AbsState) → returned caller exit ≡ Some t → IsInHulls t

@@ -4,7 +4,7 @@ use Rattle.std.specs.Prelude.{ℕ, ◌+◌, ◌-◌, ◌%◌, ◌≡◌, ◌<◌
 use Rattle.avr_model.specs.Sreg.{flag}
 use Rattle.avr_model.specs.declared.device.Device.{Device}
 use Rattle.avr_model.specs.Devices.{ramend}
-use Rattle.avr_model.specs.State.{State, Memory, IsReset, byte_in, is_live}
+use Rattle.avr_model.specs.State.{State, Memory, IsReset, REGISTERS, byte_in, is_live}
 use Rattle.bit_domain.specs.declared.bytes.TriByte.{TriByte}
 use Rattle.bit_domain.specs.TriByte.{Has, IsWithin}
 use Rattle.sp_domain.specs.declared.slots.Slot.{Slot}
@@ -105,14 +105,14 @@ pub record ResetStands : Type 0 where
 -- An entry keeps registers and flags 0 to 6: if a state holds for the caller, the entered one holds in the new frame with these as
 -- origin.
 pub record EntriesAreTrue : Type 0 where
-  pub registers : (o : Origin) (s : AbsState) (registers : List ℕ) (sreg base : ℕ) → length s.registers ≡ 32 → RegistersStand o s.registers registers
+  pub registers : (o : Origin) (s : AbsState) (registers : List ℕ) (sreg base : ℕ) → length s.registers ≡ REGISTERS → RegistersStand o s.registers registers
       → RegistersStand (record { registers = registers; sreg = sreg; base = base }) (entered s).registers registers
   pub flags : (o : Origin) (s : AbsState) (offset : ℕ) (registers : List ℕ) (sreg new base : ℕ) → IsFormed s offset → new % 128 ≡ sreg % 128
       → FlagsStand o s.flags sreg → FlagsStand (record { registers = registers; sreg = sreg; base = base }) (entered s).flags new
   pub facts : (s : AbsState) (registers : List ℕ) (c z n c' z' n' : Bool) → KnownHolds s.facts registers c z n → KnownHolds (entered s).facts registers c' z' n'
   pub followed : (s : AbsState) → is_followed (entered s).facts ≡ is_followed s.facts
   pub formed : (s : AbsState) (offset : ℕ) → IsFormed s offset → IsFormed (entered s) 0
-  pub more : (s t : AbsState) → length s.registers ≡ 32 → length t.registers ≡ 32 → IsStateWithin s t → IsStateWithin (entered s) (entered t)
+  pub more : (s t : AbsState) → length s.registers ≡ REGISTERS → length t.registers ≡ REGISTERS → IsStateWithin s t → IsStateWithin (entered s) (entered t)
 
 -- the callee's frame began with these registers and with flags 0 to 6 of this status register
 pub record IsEnteredFrom (registers : List ℕ) (sreg : ℕ) (o : Origin) : Type 0 where
@@ -141,7 +141,7 @@ pub record ReturnsAreTrue : Type 0 where
   pub more : (caller caller' exit exit' t : AbsState) (offset : ℕ) → IsFormed caller offset → IsFormed caller' offset → IsFormed exit 0 → IsFormed exit' 0
       → IsStateWithin caller caller' → IsStateWithin exit exit' → returned caller exit ≡ Some t
       → (t' : AbsState) × (returned caller' exit' ≡ Some t') × IsStateWithin t t'
-  pub none : (caller exit : AbsState) → length exit.registers ≡ 32 → returned caller exit ≡ None ↔ Conflict caller exit
+  pub none : (caller exit : AbsState) → length exit.registers ≡ REGISTERS → returned caller exit ≡ None ↔ Conflict caller exit
 
 -- `ReturnsAreTrue` for registers, flags and slots alone.
 pub record BytesReturn : Type 0 where
@@ -158,7 +158,7 @@ pub record BytesReturn : Type 0 where
   pub more : (caller caller' exit exit' t : AbsState) (offset : ℕ) → IsFormed caller offset → IsFormed caller' offset → IsFormed exit 0 → IsFormed exit' 0
       → IsStateWithin caller caller' → IsStateWithin exit exit' → bytes_returned caller exit ≡ Some t
       → (t' : AbsState) × (bytes_returned caller' exit' ≡ Some t') × IsStateWithin t t'
-  pub none : (caller exit : AbsState) → length exit.registers ≡ 32 → bytes_returned caller exit ≡ None ↔ BytesConflict caller exit
+  pub none : (caller exit : AbsState) → length exit.registers ≡ REGISTERS → bytes_returned caller exit ≡ None ↔ BytesConflict caller exit
 
 -- A greater state is equal or of greater rank. No rank exceeds the height for its number of slots.
 pub record StatesRise : Type 0 where
@@ -169,7 +169,7 @@ pub record StatesRise : Type 0 where
 pub record TagsStayFit : Type 0 where
   pub at_reset : TagsFit root
   pub at_entry : (s : AbsState) → TagsFit (entered s) × HasByteNumbers (entered s).flags.carry
-  pub at_return : (caller exit t : AbsState) → length caller.registers ≡ 32 → TagsFit caller → returned caller exit ≡ Some t → TagsFit t
+  pub at_return : (caller exit t : AbsState) → length caller.registers ≡ REGISTERS → TagsFit caller → returned caller exit ≡ Some t → TagsFit t
   pub carry_at_return : (caller exit t : AbsState) → HasByteNumbers caller.flags.carry → returned caller exit ≡ Some t → HasByteNumbers t.flags.carry
   pub less : (s t : AbsState) → IsStateWithin s t → TagsFit s → TagsFit t
   pub carry_less : (s t : AbsState) → IsStateWithin s t → HasByteNumbers s.flags.carry → HasByteNumbers t.flags.carry

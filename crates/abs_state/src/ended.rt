@@ -5,12 +5,12 @@ ghost use Rattle.pair_domain.specs.Tags.{IsNear};
 ghost use Rattle.abs_state.specs.Ended.{is_bit_of, in_pair, in_side, sum_ended, compare_ended, zero_ended, intervals_ended, facts_ended, ended, written_hull};
 
 use crate::pairs::hull_of;
-use crate::values::AbsByte;
+use crate::values::Registers;
 use pair_domain::{CompareTag, Facts, Interval, PairFacts, Side, SumTag, ZeroTag};
 
 /// Drops the facts that a write ends. `written` has a bit for each register written, `flags` says that C, Z or S is written, `carry` that C
 /// is.
-pub fn end_facts(facts: &mut Facts, written: u32, flags: bool, carry: bool)
+pub fn end_facts(facts: &mut Facts, written: u64, flags: bool, carry: bool)
     ensures { facts.new ≡ ended (is_bit_of written) flags carry facts.old }
 {
     facts.kept();
@@ -21,7 +21,7 @@ pub fn end_facts(facts: &mut Facts, written: u32, flags: bool, carry: bool)
 }
 
 /// The interval of this register's pair, which is written, becomes the hull of its bytes.
-pub fn hull_written(facts: &mut Facts, registers: &[AbsByte; 32], register: usize)
+pub fn hull_written(facts: &mut Facts, registers: &Registers, register: usize)
     requires { register < 32 }
     ensures { facts.new ≡ written_hull registers.now register facts.old }
 {
@@ -35,7 +35,7 @@ pub fn hull_written(facts: &mut Facts, registers: &[AbsByte; 32], register: usiz
 }
 
 // The facts that are left, if pairs are followed.
-fn facts_ended(known: &PairFacts, written: u32, flags: bool, carry: bool) -> PairFacts
+fn facts_ended(known: &PairFacts, written: u64, flags: bool, carry: bool) -> PairFacts
     requires { IsNear known.now.sum }
     ensures facts { result ≡ facts_ended (is_bit_of written) flags carry known.now }
     ensures near { IsNear result.sum }
@@ -48,7 +48,7 @@ fn facts_ended(known: &PairFacts, written: u32, flags: bool, carry: bool) -> Pai
     }
 }
 
-fn intervals_ended(intervals: &[Interval; 16], written: u32) -> [Interval; 16]
+fn intervals_ended(intervals: &[Interval; 16], written: u64) -> [Interval; 16]
     ensures { result ≡ intervals_ended (is_bit_of written) 0 intervals.now }
 {
     let mut left = *intervals;
@@ -63,7 +63,7 @@ fn intervals_ended(intervals: &[Interval; 16], written: u32) -> [Interval; 16]
     left
 }
 
-fn sum_ended(tag: SumTag, written: u32, carry: bool) -> SumTag
+fn sum_ended(tag: SumTag, written: u64, carry: bool) -> SumTag
     requires { IsNear tag }
     ensures tag { result ≡ sum_ended (is_bit_of written) carry tag }
     ensures near { IsNear result }
@@ -75,7 +75,7 @@ fn sum_ended(tag: SumTag, written: u32, carry: bool) -> SumTag
     }
 }
 
-fn compare_ended(tag: CompareTag, written: u32, flags: bool) -> CompareTag
+fn compare_ended(tag: CompareTag, written: u64, flags: bool) -> CompareTag
     ensures { result ≡ compare_ended (is_bit_of written) flags tag }
 {
     match tag {
@@ -90,7 +90,7 @@ fn compare_ended(tag: CompareTag, written: u32, flags: bool) -> CompareTag
     }
 }
 
-fn zero_ended(tag: ZeroTag, written: u32, flags: bool) -> ZeroTag
+fn zero_ended(tag: ZeroTag, written: u64, flags: bool) -> ZeroTag
     ensures { result ≡ zero_ended (is_bit_of written) flags tag }
 {
     match tag {
@@ -101,13 +101,13 @@ fn zero_ended(tag: ZeroTag, written: u32, flags: bool) -> ZeroTag
 }
 
 // Whether a register of this pair is written.
-fn in_pair(written: u32, r: u8) -> bool
+fn in_pair(written: u64, r: u8) -> bool
     ensures { result ≡ in_pair (is_bit_of written) r }
 {
-    is_bit(written, r) || (r < 31 && is_bit(written, r + 1))
+    is_bit(written, r) || (r < 63 && is_bit(written, r + 1))
 }
 
-fn in_side(written: u32, y: Side) -> bool
+fn in_side(written: u64, y: Side) -> bool
     ensures { result ≡ in_side (is_bit_of written) y }
 {
     match y {
@@ -116,8 +116,8 @@ fn in_side(written: u32, y: Side) -> bool
     }
 }
 
-fn is_bit(written: u32, r: u8) -> bool
+fn is_bit(written: u64, r: u8) -> bool
     ensures { result ≡ is_bit_of written r }
 {
-    r < 32 && (written >> r) & 1 == 1
+    r < 64 && (written >> r) & 1 == 1
 }

@@ -1,6 +1,7 @@
 //! Facts on pairs after a return.
 
 ghost use Rattle.std.specs.Prelude.{ℕ, ◌≡◌, ◌+◌, ◌%◌, ◌<◌, ◌==◌, ◌&&◌, IfOk, IfSome};
+ghost use Rattle.avr_model.specs.State.{REGISTERS};
 ghost use Rattle.sp_domain.specs.declared.tags.Tag.TheVariants as tag;
 ghost use Rattle.sp_domain.specs.Tags.{is_same_tag};
 ghost use Rattle.pair_domain.specs.Intervals.{hull};
@@ -9,7 +10,7 @@ ghost use Rattle.abs_state.specs.Formed.{NamesRegister};
 ghost use Rattle.pair_domain.specs.Tags.{IsNear};
 ghost use Rattle.abs_state.specs.PairsBack.{kept_pair, interval_back, collected, keeps, keeps_side, sum_after, compare_after, zero_after, facts_with, known_back};
 
-use crate::values::AbsByte;
+use crate::values::{AbsByte, Registers};
 use pair_domain::facts::interval_at;
 use pair_domain::{CompareTag, Facts, Interval, PairFacts, Side, SumTag, ZeroTag};
 use sp_domain::Tag;
@@ -19,12 +20,12 @@ use std::alloc::{AllocError, Global};
 pub fn facts_returned(
     alloc: Global,
     caller: &Facts,
-    exit: &[AbsByte; 32],
+    exit: &Registers,
     entry: bool,
     found: &Facts,
-    registers: &[AbsByte; 32],
+    registers: &Registers,
 ) -> Result<Option<Facts>, AllocError>
-    requires { (r : ℕ) → r < 32 → NamesRegister (value_at exit.now r).tag }
+    requires { (r : ℕ) → r < REGISTERS → NamesRegister (value_at exit.now r).tag }
     ensures { IfOk result (λ o. o ≡ known_back caller.now exit.now entry found.now registers.now) }
 {
     caller.kept();
@@ -43,12 +44,12 @@ pub fn facts_returned(
 // The case that both states follow pairs.
 fn pairs_returned(
     caller: &PairFacts,
-    exit: &[AbsByte; 32],
+    exit: &Registers,
     entry: bool,
     found: &PairFacts,
-    registers: &[AbsByte; 32],
+    registers: &Registers,
 ) -> Option<PairFacts>
-    requires names { (r : ℕ) → r < 32 → NamesRegister (value_at exit.now r).tag }
+    requires names { (r : ℕ) → r < REGISTERS → NamesRegister (value_at exit.now r).tag }
     requires near { IsNear caller.now.sum }
     ensures facts { result ≡ facts_with caller.now exit.now entry (collected (interval_back caller.now.intervals exit.now found.now.intervals registers.now) 0 16) }
     ensures near { IfSome result (λ f. IsNear f.sum) }
@@ -73,11 +74,11 @@ fn pairs_returned(
 // The interval of each pair after a return.
 fn intervals_returned(
     caller: &[Interval; 16],
-    exit: &[AbsByte; 32],
+    exit: &Registers,
     found: &[Interval; 16],
-    registers: &[AbsByte; 32],
+    registers: &Registers,
 ) -> Option<[Interval; 16]>
-    requires { (r : ℕ) → r < 32 → NamesRegister (value_at exit.now r).tag }
+    requires { (r : ℕ) → r < REGISTERS → NamesRegister (value_at exit.now r).tag }
     ensures { result ≡ collected (interval_back caller.now exit.now found.now registers.now) 0 16 }
 {
     let mut intervals = *found;
@@ -94,12 +95,12 @@ fn intervals_returned(
 // return.
 fn interval_returned(
     caller: &[Interval; 16],
-    exit: &[AbsByte; 32],
+    exit: &Registers,
     found: &[Interval; 16],
-    registers: &[AbsByte; 32],
+    registers: &Registers,
     n: usize,
 ) -> Option<Interval>
-    requires names { (r : ℕ) → r < 32 → NamesRegister (value_at exit.now r).tag }
+    requires names { (r : ℕ) → r < REGISTERS → NamesRegister (value_at exit.now r).tag }
     requires inside { n < 16 }
     ensures { result ≡ interval_back caller.now exit.now found.now registers.now n }
 {
@@ -110,14 +111,12 @@ fn interval_returned(
     interval.meet(hull_of(registers[2 * n], registers[2 * n + 1]))
 }
 
-// The entry pair in the two registers of a pair, if it is one.
+// The entry pair, of r0 to r31, in the two registers of a pair, if it is one.
 fn kept_pair(low: Tag, high: Tag) -> Option<u8>
     ensures { result ≡ kept_pair low high }
 {
     match (low, high) {
-        (Tag::Entry(a), Tag::Entry(b)) if a % 2 == 0 && u16::from(b) == u16::from(a) + 1 => {
-            Some(a / 2)
-        }
+        (Tag::Entry(a), Tag::Entry(b)) if a < 32 && a % 2 == 0 && b == a + 1 => Some(a / 2),
         _ => None,
     }
 }
@@ -133,7 +132,7 @@ pub fn hull_of(low: AbsByte, high: AbsByte) -> Interval
 }
 
 // The caller's tags, if the callee preserved each register that they name.
-fn sum_returned(caller: SumTag, exit: &[AbsByte; 32]) -> SumTag
+fn sum_returned(caller: SumTag, exit: &Registers) -> SumTag
     requires { IsNear caller }
     ensures tag { result ≡ sum_after exit.now caller }
     ensures near { IsNear result }
@@ -145,7 +144,7 @@ fn sum_returned(caller: SumTag, exit: &[AbsByte; 32]) -> SumTag
     }
 }
 
-fn compare_returned(caller: CompareTag, exit: &[AbsByte; 32]) -> CompareTag
+fn compare_returned(caller: CompareTag, exit: &Registers) -> CompareTag
     ensures { result ≡ compare_after exit.now caller }
 {
     match caller {
@@ -156,7 +155,7 @@ fn compare_returned(caller: CompareTag, exit: &[AbsByte; 32]) -> CompareTag
     }
 }
 
-fn zero_returned(caller: ZeroTag, exit: &[AbsByte; 32]) -> ZeroTag
+fn zero_returned(caller: ZeroTag, exit: &Registers) -> ZeroTag
     ensures { result ≡ zero_after exit.now caller }
 {
     match caller {
@@ -166,7 +165,7 @@ fn zero_returned(caller: ZeroTag, exit: &[AbsByte; 32]) -> ZeroTag
     }
 }
 
-fn is_side_kept(exit: &[AbsByte; 32], y: Side) -> bool
+fn is_side_kept(exit: &Registers, y: Side) -> bool
     ensures { result ≡ keeps_side exit.now y }
 {
     match y {
@@ -175,16 +174,16 @@ fn is_side_kept(exit: &[AbsByte; 32], y: Side) -> bool
     }
 }
 
-fn is_pair_kept(exit: &[AbsByte; 32], r: u8) -> bool
+fn is_pair_kept(exit: &Registers, r: u8) -> bool
     ensures { result ≡ (keeps exit.now r && keeps exit.now (r + 1)) }
 {
-    is_kept(exit, r) && r < 31 && is_kept(exit, r + 1)
+    is_kept(exit, r) && r < 33 && is_kept(exit, r + 1)
 }
 
-/// Whether this register is one of the 32, and holds its own entry value.
-pub fn is_kept(registers: &[AbsByte; 32], r: u8) -> bool
+/// Whether this register is one of the 34, and holds its own entry value.
+pub fn is_kept(registers: &Registers, r: u8) -> bool
     ensures { result ≡ is_same_tag (value_at registers.now r).tag (tag.Entry r) }
 {
     let at = usize::from(r);
-    at < 32 && registers[at].tag == Tag::Entry(r)
+    at < 34 && registers[at].tag == Tag::Entry(r)
 }

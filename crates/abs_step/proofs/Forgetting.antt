@@ -3,6 +3,7 @@ use Rattle.std.proofs.Common.{◌≡◌, refl, sym, ◌∙◌, ap, ap₂, subst,
 use Rattle.std.specs.Prelude.{◌==◌, ◌&&◌, nat_lt, slice_set}
 use Rattle.std.proofs.lemmas.Bool.{cases_lt}
 use Rattle.std.proofs.lemmas.Bool.Decides.{nat_tests}
+use Rattle.avr_model.specs.declared.device.Device.{Device}
 use Rattle.avr_model.specs.declared.instruction.Instr.{Instr}
 use Rattle.avr_model.specs.Written.{written, bits_of}
 use Rattle.avr_decode.proofs.RegisterSets.{bit_of_set, none_beyond}
@@ -12,34 +13,34 @@ use Rattle.abs_state.specs.declared.state.AbsState.{AbsState}
 use Rattle.abs_state.specs.declared.values.AbsByte.{AbsByte}
 use Rattle.abs_state.specs.declared.values.AbsFlags.{AbsFlags}
 use Rattle.abs_state.specs.Ended.{is_one_of, is_bit_of, ended, written_hull}
-use Rattle.abs_state.specs.Values.{with_bits}
 use Rattle.abs_state.specs.FlagsSet.{sets_flags, sets_carry}
 use Rattle.local_rules.specs.Registers.{forgotten, before}
+use Rattle.local_rules.specs.Banks.{stored_value}
 use Rattle.local_rules.specs.Writes.{register_written, put_flags, flags_written}
 
 -- ---- a set by its bits
 
-bit_tells : (ws : List ℕ) (r : ℕ) → bits_of ws < 2 ^ 32 → is_bit_of (bits_of ws) r ≡ is_one_of ws r
+bit_tells : (ws : List ℕ) (r : ℕ) → bits_of ws < 2 ^ 64 → is_bit_of (bits_of ws) r ≡ is_one_of ws r
 bit_tells ws r small =
     ⊎_elim
     (λ lt.
-    let inside : nat_lt r 32 ≡ true = grind (arith, nat_tests) in
+    let inside : nat_lt r 64 ≡ true = grind (arith, nat_tests) in
     ap (λ (b : Bool). b && (bit_and (bits_of ws / 2 ^ r) 1 == 1)) inside ∙ bit_of_set ws r)
     (λ over.
-    let beyond : nat_lt r 32 ≡ false = grind (arith, nat_tests) in
-    ap (λ (b : Bool). b && (bit_and (bits_of ws / 2 ^ r) 1 == 1)) beyond ∙ sym (none_beyond ws r small over)) (cases_lt r 32)
+    let beyond : nat_lt r 64 ≡ false = grind (arith, nat_tests) in
+    ap (λ (b : Bool). b && (bit_and (bits_of ws / 2 ^ r) 1 == 1)) beyond ∙ sym (none_beyond ws r small over)) (cases_lt r 64)
 
-pub ended_by : (ws : List ℕ) (mask : ℕ) (flags carry : Bool) (x : Option PairFacts) → mask ≡ bits_of ws → mask < 2 ^ 32
+pub ended_by : (ws : List ℕ) (mask : ℕ) (flags carry : Bool) (x : Option PairFacts) → mask ≡ bits_of ws → mask < 2 ^ 64
     → ended (is_bit_of mask) flags carry x ≡ ended (is_one_of ws) flags carry x
 ended_by ws mask flags carry x e small =
-    let same : (r : ℕ) → is_bit_of mask r ≡ is_one_of ws r = λ r. ap (λ (n : ℕ). is_bit_of n r) e ∙ bit_tells ws r (subst (λ (n : ℕ). n < 2 ^ 32) e small) in
+    let same : (r : ℕ) → is_bit_of mask r ≡ is_one_of ws r = λ r. ap (λ (n : ℕ). is_bit_of n r) e ∙ bit_tells ws r (subst (λ (n : ℕ). n < 2 ^ 64) e small) in
     λ i. ended (λ r. same r i) flags carry x
 
 -- ---- the state with what still holds
 
 pub is_before : (instr : Instr) (s left : AbsState) (c : CarryTag) (mask : ℕ) (flags carry : Bool) (x : Option PairFacts)
     → left ≡ record s { flags = record s.flags { carry = c } } → c ≡ forgotten (written instr) s.flags.carry
-    → mask ≡ bits_of (written instr) → mask < 2 ^ 32 → flags ≡ sets_flags instr → carry ≡ sets_carry instr
+    → mask ≡ bits_of (written instr) → mask < 2 ^ 64 → flags ≡ sets_flags instr → carry ≡ sets_carry instr
     → x ≡ ended (is_bit_of mask) flags carry left.facts → record left { facts = x } ≡ before instr s
 is_before instr s left c mask flags carry x le ce me small fe se xe =
     let facts : x ≡ ended (is_one_of (written instr)) (sets_flags instr) (sets_carry instr) s.facts =
@@ -51,14 +52,14 @@ is_before instr s left c mask flags carry x le ce me small fe se xe =
 
 -- ---- a register that is written by its address
 
-pub is_register_written : (s after : AbsState) (a : ℕ) (v b : AbsByte) (registers : List AbsByte) (c : CarryTag) (mask : ℕ) (x y : Option PairFacts)
-    → b ≡ with_bits v.tag v.bits → registers ≡ slice_set s.registers a b → c ≡ forgotten (a ∷ []) s.flags.carry
+pub is_register_written : (device : Device) (s after : AbsState) (a : ℕ) (v b : AbsByte) (registers : List AbsByte) (c : CarryTag) (mask : ℕ) (x y : Option PairFacts)
+    → b ≡ stored_value device a v → registers ≡ slice_set s.registers a b → c ≡ forgotten (a ∷ []) s.flags.carry
     → after ≡ record s { registers = registers; flags = record s.flags { carry = c } }
-    → mask ≡ bits_of (a ∷ []) → mask < 2 ^ 32
+    → mask ≡ bits_of (a ∷ []) → mask < 2 ^ 64
     → x ≡ ended (is_bit_of mask) false false after.facts → y ≡ written_hull registers a x
-    → record after { facts = y } ≡ register_written s a v
-is_register_written s after a v b registers c mask x y be re ce ae me small xe ye =
-    let set : registers ≡ slice_set s.registers a (with_bits v.tag v.bits) = re ∙ ap (slice_set s.registers a) be in
+    → record after { facts = y } ≡ register_written device s a v
+is_register_written device s after a v b registers c mask x y be re ce ae me small xe ye =
+    let set : registers ≡ slice_set s.registers a (stored_value device a v) = re ∙ ap (slice_set s.registers a) be in
     let left : x ≡ ended (is_one_of (a ∷ [])) false false s.facts =
     xe ∙ ended_by (a ∷ []) mask false false after.facts me small
     ∙ ap (λ (t : AbsState). ended (is_one_of (a ∷ [])) false false t.facts) ae in

@@ -1,5 +1,5 @@
 -- Cut states keep their slots.
-use Rattle.std.specs.Prelude.{⊤, ◌/◌}
+use Rattle.std.specs.Prelude.{⊤, ◌*◌, ◌/◌}
 use Rattle.std.specs.Int.{from_bool}
 use Rattle.std.proofs.Common.{◌≡◌, refl, sym, subst, ℕ, ◌==◌, Bool, true, false, if◌then◌else◌, List, Option, Some, None}
 use Rattle.avr_model.specs.declared.instruction.Instr.{Instr}
@@ -34,7 +34,7 @@ use Rattle.pair_rules.specs.declared.told.Told.{Told}
 use Rattle.pair_rules.specs.declared.told.Told.TheVariants as told
 use Rattle.pair_rules.specs.Told.{told_by}
 use Rattle.pair_rules.specs.Flash.{pair_permits, few_in_flash, flash_joined}
-use Rattle.pair_rules.specs.Values.{doubled_by, with_joined, flash_read, z_of, retold}
+use Rattle.pair_rules.specs.Values.{doubled_by, with_joined, flash_read, extended_read, rampz_of, z_of, retold}
 use Rattle.pair_rules.specs.Refined.{meet_pair, cut_told, with_hulls, tags_then, told_then, refined_known, refined}
 use Rattle.pair_cuts.specs.declared.places.CutPlace.{CutPlace}
 use Rattle.pair_cuts.specs.declared.places.CutPlace.TheVariants as place
@@ -77,9 +77,14 @@ read_keeps : (t : AbsState) (d : ℕ) (o : Option AbsByte) → KeepsSlots t.slot
 read_keeps t d None = tt
 read_keeps t d (Some v) = refl
 
-flash_keeps : (image : Image) (t : AbsState) (d : ℕ) (permits : ℕ → Bool) → KeepsSlots t.slots (flash_read image t d permits)
-flash_keeps image t d permits =
-    kept_where (few_in_flash image permits) t.slots (with_joined t d (flash_joined image permits)) (Some t) (read_keeps t d (flash_joined image permits)) refl
+flash_keeps : (image : Image) (from : ℕ) (t : AbsState) (d : ℕ) (permits : ℕ → Bool) → KeepsSlots t.slots (flash_read image from t d permits)
+flash_keeps image from t d permits =
+    kept_where (few_in_flash image from permits) t.slots (with_joined t d (flash_joined image from permits)) (Some t)
+    (read_keeps t d (flash_joined image from permits)) refl
+
+extended_keeps : (image : Image) (bank : Option ℕ) (t : AbsState) (d : ℕ) (permits : ℕ → Bool) → KeepsSlots t.slots (extended_read image bank t d permits)
+extended_keeps image None t d permits = refl
+extended_keeps image (Some bank) t d permits = flash_keeps image (65536 * bank) t d permits
 
 doubled_keeps : (b : Bool) (s : AbsState) (op : BinaryOp) (d : ℕ) (t : AbsState) → (if b then doubled_by s op d t else t).slots ≡ t.slots
 doubled_keeps true s binary.Add d t = refl
@@ -89,9 +94,12 @@ doubled_keeps false s op d t = refl
 
 retold_keeps : (image : Image) (s : AbsState) (f : PairFacts) (instr : Instr) (t : AbsState) → KeepsSlots t.slots (retold image s f instr t)
 retold_keeps image s f (i.Binary op d r) t = doubled_keeps (d == r) s op d t
-retold_keeps image s f (i.LpmZ d) t = flash_keeps image t d (pair_permits (z_of s f))
-retold_keeps image s f (i.LpmZPlus d) t = flash_keeps image t d (pair_permits (z_of s f))
-retold_keeps image s f i.Lpm t = flash_keeps image t 0 (pair_permits (z_of s f))
+retold_keeps image s f (i.LpmZ d) t = flash_keeps image 0 t d (pair_permits (z_of s f))
+retold_keeps image s f (i.LpmZPlus d) t = flash_keeps image 0 t d (pair_permits (z_of s f))
+retold_keeps image s f i.Lpm t = flash_keeps image 0 t 0 (pair_permits (z_of s f))
+retold_keeps image s f (i.ElpmZ d) t = extended_keeps image (rampz_of s) t d (pair_permits (z_of s f))
+retold_keeps image s f (i.ElpmZPlus d) t = extended_keeps image (rampz_of s) t d (pair_permits (z_of s f))
+retold_keeps image s f i.Elpm t = extended_keeps image (rampz_of s) t 0 (pair_permits (z_of s f))
 retold_keeps image s f _ t = refl
 
 told_keeps : (ms : List ℕ) (x : Told) (t : AbsState) → KeepsSlots t.slots (cut_told ms x t)

@@ -32,6 +32,7 @@ use Rattle.local_rules.specs.declared.local.NodeFault.TheVariants.{UntrackedSp, 
 use Rattle.local_rules.specs.Faults.{least}
 use Rattle.local_rules.specs.Raw.{Raw}
 use Rattle.local_rules.specs.Registers.{with_bits}
+use Rattle.local_rules.specs.Settling.{settled_state}
 use Rattle.local_rules.specs.Reads.{read_at}
 use Rattle.local_rules.specs.Writes.{written_at, may_wake}
 use Rattle.local_rules.specs.Flow.{site}
@@ -80,19 +81,19 @@ faults r = r.faults
 
 -- `subi r28, 32` of the low byte of base - 5 leaves its borrow for `sbci r29, 1`
 leaves_its_borrow : carries (raw (task_with (firmware 0x52C0 0xFFFF) []) (in_call (Closed 0)) (from_base 5 5)) ≡ carry.Borrow 5 32 ∷ []
-unfolding raw table_site ijmp_from is_scratch any_below all_below decoded device_row is_frame
+unfolding raw table_site ijmp_from is_scratch any_below all_below decoded device_row is_frame settled_state
 leaves_its_borrow = refl
 
 abbrev borrowing : AbsState
 borrowing = record (from_base 37 5) { flags = record root.flags { carry = carry.Borrow 5 32 } }
 
 takes_the_borrow : tags 29 (raw (task_with (firmware 0x40D1 0xFFFF) []) (in_call (Closed 0)) borrowing) ≡ tag.SpHi 293 ∷ []
-unfolding raw table_site ijmp_from is_scratch any_below all_below decoded device_row is_frame
+unfolding raw table_site ijmp_from is_scratch any_below all_below decoded device_row is_frame settled_state
 takes_the_borrow = refl
 
 -- `out 0x3f, r29` of the flags of the entry restores them
 restores_flags : entries (raw (task_with (firmware 0xBFDF 0xFFFF) []) (in_call (Closed 0)) (with_pair 28 unknown (with_bits tag.EntryFlags (byte_known 128)))) ≡ true ∷ []
-unfolding raw table_site ijmp_from is_scratch any_below all_below decoded device_row written_at packed
+unfolding raw table_site ijmp_from is_scratch any_below all_below decoded device_row written_at packed settled_state
 restores_flags = refl
 
 -- `ldd r16, Y+1` at base - 1 reads the slot at the base
@@ -100,35 +101,35 @@ abbrev with_slot : AbsState
 with_slot = record (from_base 1 1) { slots = Guarded (with_bits (tag.Entry 4) unknown.bits) ∷ [] }
 
 reads_a_slot : tags 16 (raw (task_with (firmware 0x8109 0xFFFF) []) (in_call (Closed 1)) with_slot) ≡ tag.Entry 4 ∷ []
-unfolding raw table_site ijmp_from is_scratch any_below all_below decoded device_row read_at packed
+unfolding raw table_site ijmp_from is_scratch any_below all_below decoded device_row read_at packed settled_state
 reads_a_slot = refl
 
 -- `st X, r16` of an unknown byte, with X = 0x003D, and 0x003D and 0x005D listed: nothing changes, or the two enable bits do
 stores_at_listed : enables (raw (task_with (firmware 0x930C 0xFFFF) (Store 0 (0x3D ∷ 0x5D ∷ []) ∷ [])) (in_call (Closed 0)) (with_pair 26 (known 0x3D) (known 0))) ≡ 0 ∷ 0 ∷ 1 ∷ 2 ∷ 3 ∷ []
-unfolding raw table_site ijmp_from is_scratch is_fixed path_behind is_loaded_behind is_proved is_freed is_fixed_site store_line any_below all_below decoded device_row written_at numbers_of enable_tri enable_place_at enable_places common_tri packed permits_below may_wake admits_enables reads_masks has_masks
+unfolding raw table_site ijmp_from is_scratch is_fixed path_behind is_loaded_behind is_proved is_freed is_fixed_site store_line any_below all_below decoded device_row written_at numbers_of enable_tri enable_place_at enable_places common_tri packed permits_below may_wake admits_enables reads_masks has_masks settled_state
 stores_at_listed = refl
 
 -- `ijmp` with Z = 5 goes to the one listed word that Z permits
 jumps_to_listed : words (raw (task_with (firmware 0x9409 0xFFFF) (Jump 0 (5 ∷ 7 ∷ []) ∷ [])) (in_call (Closed 0)) (with_pair 30 (known 5) (known 0))) ≡ 5 ∷ []
-unfolding raw table_site ijmp_from is_scratch jump_line any_below all_below decoded device_row numbers_of packed
+unfolding raw table_site ijmp_from is_scratch jump_line any_below all_below decoded device_row numbers_of packed settled_state
 jumps_to_listed = refl
 
 -- `call 0x0010`, `ret` and `reti`
 calls_a_word : calls (raw (task_with (firmware 0x940E 0x0010) []) (in_call (Closed 0)) root) ≡ site 16 2 ∷ []
-unfolding raw table_site ijmp_from is_scratch any_below all_below decoded device_row
+unfolding raw table_site ijmp_from is_scratch any_below all_below decoded device_row settled_state
 calls_a_word = refl
 
 returns : leaves (raw (task_with (firmware 0x9508 0xFFFF) []) (in_call (Closed 0)) root) ≡ Some (record { masks = 0; i = true; delay = false })
-unfolding raw table_site ijmp_from is_scratch any_below all_below decoded device_row
+unfolding raw table_site ijmp_from is_scratch any_below all_below decoded device_row settled_state
 returns = refl
 
 returns_from_interrupt : leaves (raw (task_with (firmware 0x9518 0xFFFF) []) (record (in_call (Closed 0)) { i = false }) root) ≡ Some (record { masks = 0; i = true; delay = true })
-unfolding raw table_site ijmp_from is_scratch any_below all_below decoded device_row
+unfolding raw table_site ijmp_from is_scratch any_below all_below decoded device_row settled_state
 returns_from_interrupt = refl
 
 -- an interrupt may come while the stack pointer is half written
 hangs : faults (raw (task_with (firmware 0x0000 0xFFFF) []) (record (in_call (Open 0 (Tagged 2))) { masks = 32768 }) root) ≡ UntrackedSp 0 ∷ []
-unfolding raw table_site ijmp_from is_scratch any_below all_below decoded device_row may_come is_never is_enabled has_enable_place enable_places
+unfolding raw table_site ijmp_from is_scratch any_below all_below decoded device_row may_come is_never is_enabled has_enable_place enable_places settled_state
 hangs = refl
 
 -- of two depths the smaller one is the fault

@@ -9,10 +9,13 @@ use Rattle.local_rules.specs.Raw.{Raw}
 use Rattle.local_rules.specs.Site.{Task, Site}
 use Rattle.local_rules.specs.HighBytes.{view_of}
 use Rattle.bit_domain.specs.declared.bytes.TriByte.{TriByte}
-use Rattle.local_rules.specs.Flow.{words_on, z_with}
+use Rattle.avr_model.specs.Assumptions.{jump_line}
+use Rattle.local_rules.specs.Registers.{before}
+use Rattle.local_rules.specs.Flow.{words_on, z_with, targets_by}
+use Rattle.local_rules.specs.Settling.{settled_state}
 use Rattle.local_rules.specs.Writes.{ByteWrite, reaches, may_wake, waking, woken, unfixed_write, pointer_write}
-use Rattle.local_rules.specs.Local.{node_of, paired_branch, picked_row, picking, plain_row, pointer_load, row_in, storing, register_write}
-use Rattle.abs_step.specs.Adding.{refined_if}
+use Rattle.local_rules.specs.Local.{node_of, paired_branch, picked_row, picking, plain_row, pointer_load, row_in, row_of, storing, register_write, refined_if}
+use Rattle.abs_step.specs.Adding.{refining_if}
 use Rattle.abs_step.specs.declared.site.Site.{Site as Here}
 use Rattle.abs_step.specs.declared.site.ByteWrite.{ByteWrite as Write}
 use Rattle.abs_step.specs.declared.pointer_stores.Indirect.{Indirect}
@@ -32,6 +35,14 @@ write_of w = record { device = w.device; pc = w.pc; key = w.key; state = w.state
 -- the words that the bits of Z with this third byte permit
 abbrev pub z_words : Device → AbsState → TriByte → List ℕ
 z_words device s bank = words_on device (z_with s bank)
+
+-- the possible targets of an indirect transfer with this third byte above Z
+abbrev pub targets_above : Here → TriByte → Option (List ℕ)
+targets_above site bank = targets_by site.device (jump_line site.assumptions.now site.key.now.pc) (z_with site.state.now bank)
+
+-- the successors by the rows alone
+abbrev pub row_before : Here → Bool → Instr → Raw
+row_before site scratch instr = row_of (task_of site) scratch (record (site_of site) { state = before instr site.state.now }) instr
 
 -- ---- through a pointer
 
@@ -64,7 +75,11 @@ stored_by site to after r = pointer_write (task_of site) site.state.now to.r to.
 -- the successors by the plain rules, refined or not
 abbrev pub row_through : Here → Bool → Instr → Bool → Raw
 row_through site scratch instr refines =
-    refined_if refines site.flash.now instr site.state.now (plain_row (task_of site) scratch (site_of site) instr)
+    refining_if refines site.flash.now instr site.state.now (plain_row (task_of site) scratch (site_of site) instr)
+
+-- what is left of a state in which a pointer has moved
+abbrev pub refined_moved : Here → Instr → AbsState → Option AbsState
+refined_moved site instr moved = refined_if (task_of site) instr site.state.now (settled_state (view_of (site_of site)) moved)
 
 -- an `st`, if anything is left of the state in which its pointer has moved
 abbrev pub stored : Here → StoreInstr → Option AbsState → Raw

@@ -6,7 +6,7 @@ use Rattle.local_rules.specs.Writes.{ByteWrite, closing, flags_written, masks_wr
 
 -- to a register
 abbrev pub register_by : ByteWrite → ℕ → Raw
-register_by w d = one w.key (register_written w.state d w.value)
+register_by w d = one w.key (register_written w.device w.state d w.value)
 
 -- to SPL, which closes the pair at this offset
 abbrev pub closing_by : ByteWrite → Option ℕ → Raw

@@ -1,6 +1,6 @@
 //! Data transfer: loads, stores, bytes of flash, and I/O.
 
-ghost use Rattle.std.specs.Prelude.{Some};
+ghost use Rattle.std.specs.Prelude.{◌≡◌, Some};
 ghost use Rattle.local_rules.specs.Local.{read_row};
 ghost use Rattle.local_rules.specs.Local as rows;
 ghost use Rattle.abs_step.specs.Adding.{Adds};
@@ -11,20 +11,22 @@ use crate::pointer_stores::{Indirect, pointer_write};
 use crate::site::{ByteWrite, Site};
 use crate::stores::written_at;
 use crate::successors::{at_word, changed, setting};
-use abs_state::AbsByte;
-use avr_model::instruction::{Base, Pointer, Register};
+use abs_state::{AbsByte, Registers};
+use avr_model::device::RAMPZ;
+use avr_model::instruction::{Pointer, Register};
+use local_reads::banks::{extended_constant, stepped_bank, z_constant};
 use local_reads::flow::further;
-use local_reads::pointers::{flash_value, pair_constant, point, read_pointed, step_before};
+use local_reads::pointers::{flash_value, point, read_pointed, step_before};
 use local_reads::reads::read_at;
-use local_rows::registers::{set, value};
-use local_rows::transfer::{base_register, pointer_moved, pointer_register};
+use local_rows::registers::{set, set_at, value};
+use local_rows::transfer::{pointer_moved, pointer_register};
 use local_rules::local::NodeFault;
 
 /// `ld` and `ldd`: register `d` of these gets the byte at an address in registers. No successor if nothing can be read.
 pub fn load_row(
     nodes: &mut Moves<'_>,
     site: &Site<'_>,
-    registers: &[AbsByte; 32],
+    registers: &Registers,
     d: Register,
     from: Indirect,
 ) -> Result<(), NodeFault>
@@ -63,20 +65,41 @@ pub fn read_row(
 pub fn lpm_row(
     nodes: &mut Moves<'_>,
     site: &Site<'_>,
-    registers: &[AbsByte; 32],
+    registers: &Registers,
     d: Register,
 ) -> Result<(), NodeFault>
     ensures { Adds nodes.old nodes.new result (rows.lpm_row site.now.flash.now (site_of site.now) registers.now d) }
 {
-    let z = pair_constant(site.state, base_register(Base::Z));
-    set_row(nodes, site, registers, d, flash_value(site.flash, z))
+    let value = flash_value(site.flash, z_constant(site.state));
+    set_row(nodes, site, registers, d, value)
 }
 
-/// `elpm`: register `d` gets this value.
-pub fn set_row(
+/// `elpm`: register `d` of these gets a byte of flash in the bank that RAMPZ chooses.
+pub fn elpm_row(
     nodes: &mut Moves<'_>,
     site: &Site<'_>,
-    registers: &[AbsByte; 32],
+    registers: &Registers,
+    d: Register,
+) -> Result<(), NodeFault>
+    ensures { Adds nodes.old nodes.new result (rows.elpm_row site.now.flash.now (site_of site.now) registers.now d) }
+{
+    let value = flash_value(site.flash, extended_constant(site.state));
+    set_row(nodes, site, registers, d, value)
+}
+
+/// The registers with Z, and with it RAMPZ, as behind Z+.
+pub fn extended_moved(site: &Site<'_>) -> Registers
+    ensures { result ≡ rows.extended_moved (site_of site.now) }
+{
+    let moved = pointer_moved(site.view(), Pointer::ZPlus, site.state);
+    set_at(&moved, RAMPZ, stepped_bank(site.device, site.state))
+}
+
+// Register `d` of these gets this value.
+fn set_row(
+    nodes: &mut Moves<'_>,
+    site: &Site<'_>,
+    registers: &Registers,
     d: Register,
     value: AbsByte,
 ) -> Result<(), NodeFault>

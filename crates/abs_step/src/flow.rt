@@ -5,12 +5,11 @@ ghost use Rattle.avr_model.specs.Assumptions.{lists};
 ghost use Rattle.avr_model.specs.Effects.{port};
 ghost use Rattle.local_rules.specs.declared.local.NodeFault.TheVariants.{Memory};
 ghost use Rattle.local_rules.specs.Raw.{Raw, further};
-ghost use Rattle.local_rules.specs.Flow.{icall_row};
 ghost use Rattle.local_rules.specs.Flow as flow;
 ghost use Rattle.local_rules.specs.Local.{bit_skip, node_of};
 ghost use Rattle.abs_step.specs.Adding.{Moving, Adds};
 ghost use Rattle.abs_step.specs.Leading.{FindsWords, LeadsOn};
-ghost use Rattle.abs_step.specs.Sites.{task_of, site_of, z_words};
+ghost use Rattle.abs_step.specs.Sites.{task_of, site_of, z_words, targets_above};
 
 use crate::cuts::carry_branch;
 use crate::moves::Moves;
@@ -138,11 +137,10 @@ fn unlisted_targets(
     }
 }
 
-// The possible targets of an indirect transfer.
-pub(crate) fn targets_at(site: &Site<'_>) -> Result<Vec<u32>, NodeFault>
-    ensures { FindsWords result (flow.targets_at site.now.assumptions.now (site_of site.now)) site.now.key.now.pc }
+// The possible targets of an indirect transfer with this third byte above Z.
+pub(crate) fn targets_at(site: &Site<'_>, bank: TriByte) -> Result<Vec<u32>, NodeFault>
+    ensures { FindsWords result (targets_above site.now bank) site.now.key.now.pc }
 {
-    let bank = TriByte::of(0);
     match site.assumptions.jumps(site.key.pc) {
         Some(listed) => listed_targets(site.alloc, site.device, site.state, bank, listed),
         None => unlisted_targets(site.alloc, site.device, site.state, bank, site.key.pc),
@@ -164,11 +162,15 @@ fn add_words(nodes: &mut Moves<'_>, site: &Site<'_>, words: &[u32]) -> Result<()
     Ok(())
 }
 
-// An indirect jump.
-pub(crate) fn jumping(nodes: &mut Moves<'_>, site: &Site<'_>) -> Result<(), NodeFault>
-    ensures { Adds nodes.old nodes.new result (flow.ijmp_row site.now.assumptions.now (site_of site.now)) }
+// An indirect jump, with this third byte above Z.
+pub(crate) fn jumping(
+    nodes: &mut Moves<'_>,
+    site: &Site<'_>,
+    bank: TriByte,
+) -> Result<(), NodeFault>
+    ensures { Adds nodes.old nodes.new result (flow.jumping (targets_above site.now bank) site.now.key.now site.now.state.now) }
 {
-    let words = targets_at(site)?;
+    let words = targets_at(site, bank)?;
     let added = add_words(nodes, site, &words);
     drop(words);
     added
@@ -227,11 +229,11 @@ pub(crate) fn calling(
     }
 }
 
-// An indirect call.
-pub(crate) fn indirect_call(site: &Site<'_>) -> Result<Outgoing, NodeFault>
-    ensures { (nodes : Moving) → LeadsOn nodes nodes result (icall_row site.now.assumptions.now (site_of site.now)) }
+// An indirect call, with this third byte above Z.
+pub(crate) fn indirect_call(site: &Site<'_>, bank: TriByte) -> Result<Outgoing, NodeFault>
+    ensures { (nodes : Moving) → LeadsOn nodes nodes result (flow.indirect_call site.now.device (targets_above site.now bank) site.now.key.now) }
 {
-    let entries = targets_at(site)?;
+    let entries = targets_at(site, bank)?;
     let back = further(site.device, site.key, 1);
     let outside = calling(site.alloc, site.key, back, &entries);
     drop(entries);

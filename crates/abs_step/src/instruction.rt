@@ -5,9 +5,9 @@ ghost use Rattle.local_rules.specs.declared.local.NodeFault.TheVariants.{Memory}
 ghost use Rattle.avr_model.specs.Written.{written};
 ghost use Rattle.sp_domain.specs.declared.tags.CarryTag.TheVariants as tag;
 ghost use Rattle.local_rules.specs.Registers as registers;
-ghost use Rattle.local_rules.specs.Local.{plain_row, fetched_row};
+ghost use Rattle.local_rules.specs.Local.{fetched_row};
 ghost use Rattle.abs_step.specs.Leading.{LeadsOn, LeadsAs};
-ghost use Rattle.abs_step.specs.Sites.{task_of, site_of};
+ghost use Rattle.abs_step.specs.Sites.{task_of, site_of, row_before};
 
 use crate::flow::Outgoing;
 use crate::moves::Moves;
@@ -64,14 +64,14 @@ fn ends(carry: CarryTag, instr: &Instr) -> bool
     }
 }
 
-// The successors by the plain rules. The state is copied only if some fact may end.
+// The successors by the rows. The state is copied only if some fact may end.
 pub(crate) fn row_forgetting(
     nodes: &mut Moves<'_>,
     site: &Site<'_>,
     scratch: bool,
     instr: &Instr,
 ) -> Result<Outgoing, NodeFault>
-    ensures { LeadsOn nodes.old nodes.new result (plain_row (task_of site.now) scratch (site_of site.now) instr.now) }
+    ensures { LeadsOn nodes.old nodes.new result (row_before site.now scratch instr.now) }
 {
     let state = site.state;
     if !is_ended(state, instr) {

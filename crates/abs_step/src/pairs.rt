@@ -9,7 +9,7 @@ ghost use Rattle.local_rules.specs.Local as rows;
 ghost use Rattle.abs_step.specs.Adding.{Inserts};
 ghost use Rattle.abs_step.specs.Leading.{LeadsAs};
 ghost use Rattle.abs_step.specs.Conditions.{IsTest, cut_by, both_by, skip_by};
-ghost use Rattle.abs_step.specs.Sites.{task_of, site_of, row_through, stored, branched};
+ghost use Rattle.abs_step.specs.Sites.{task_of, site_of, row_through, stored, branched, refined_moved};
 
 use crate::flow::{Outgoing, skip_words, staying};
 use crate::instruction::{before, row_forgetting};
@@ -22,6 +22,7 @@ use avr_decode::near;
 use avr_model::instruction::{BinaryOp, Bit, Instr, Pointer, Register};
 use local_reads::flow::further;
 use local_reads::pointers::step_before;
+use local_reads::settling::settle;
 use local_rows::transfer::{pointer_moved, pointer_register};
 use local_rules::local::{NodeFault, Nodes};
 use pair_cuts::{bit_cut, equal_cut, flag_cut};
@@ -133,8 +134,19 @@ fn skip_unless(
     both_ways(nodes, site, test, on, ways)
 }
 
-// `st`: the pointer moves, and its pair is refined, before the byte is stored.
+// Settles and refines the state in which a pointer has moved. Returns whether anything is left.
 #[tactic(auto, using(crate::proofs::Slots::told_slots))]
+fn is_moved_left(site: &Site<'_>, instr: &Instr, moved: &mut AbsState) -> bool
+    ensures left { left_in result moved.new ≡ refined_moved site.now instr.now moved.old }
+    ensures slots { result ≡ true → moved.new.slots ≡ moved.old.slots }
+{
+    if !settle(site.view(), moved) {
+        return false;
+    }
+    refine(site.flash, instr, site.state, moved)
+}
+
+// `st`: the pointer moves, and its pair is settled and refined, before the byte is stored.
 fn store_row(
     nodes: &mut Nodes,
     site: &Site<'_>,
@@ -146,7 +158,7 @@ fn store_row(
     let instr = Instr::St(pointer, r);
     let mut moved = before(site.alloc, site.state, &instr)?;
     moved.registers = pointer_moved(site.view(), pointer, site.state);
-    let left = refine(site.flash, &instr, site.state, &mut moved);
+    let left = is_moved_left(site, &instr, &mut moved);
     let store = StoreInstr {
         instr: &instr,
         pointer,
@@ -176,13 +188,13 @@ fn stored(
         up: step_before(store.pointer),
     };
     let so_far = mem::replace(nodes, Nodes::new(site.alloc));
-    let mut moves = Moves::new(so_far, site, store.instr, false);
+    let mut moves = Moves::plain(so_far, site, store.instr);
     let added = pointer_write(&mut moves, site, to, store.r, moved);
     *nodes = moves.into_nodes();
     added
 }
 
-// The successors by the plain rules, refined by the transfer function of pairs if `refines`.
+// The successors by the plain rules, settled, and refined by the transfer function of pairs if `refines`.
 pub(crate) fn row_through(
     nodes: &mut Nodes,
     site: &Site<'_>,

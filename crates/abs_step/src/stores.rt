@@ -1,8 +1,10 @@
 //! The effect of writing a byte to a known data address.
 
-ghost use Rattle.std.specs.Prelude.{◌≡◌, ◌∷◌, [], IfOk, IfErr};
+ghost use Rattle.std.specs.Prelude.{◌≡◌, ◌<◌, ◌∷◌, [], IfOk, IfErr};
+ghost use Rattle.avr_model.specs.State.{REGISTERS};
 ghost use Rattle.avr_model.specs.Written.{bits_of};
 ghost use Rattle.sp_domain.specs.Slots.{resized};
+ghost use Rattle.abs_state.specs.Ended.{written_hull};
 ghost use Rattle.local_rules.specs.declared.local.NodeFault.TheVariants.{Memory};
 ghost use Rattle.local_rules.specs.Registers.{forgotten};
 ghost use Rattle.local_rules.specs.Writes as writes;
@@ -13,16 +15,17 @@ ghost use Rattle.abs_step.specs.Stores.{register_by, closing_by, flags_by, masks
 use crate::moves::Moves;
 use crate::site::ByteWrite;
 use crate::successors::{add_copy, add_two, changed, copied};
-use abs_state::{AbsByte, AbsFlags, AbsState, end_facts, hull_written};
-use avr_model::device::{REGISTERS_END, SPH, SPL, SREG};
-use avr_model::instruction::Register;
+use abs_state::{AbsFlags, AbsState, Registers, end_facts, hull_written};
+use avr_model::device::{RAMPZ, REGISTERS, SPH, SPL, SREG};
 use bit_domain::Tri;
+use local_reads::banks::stored_value;
 use local_reads::stack_pointer::{closing_offset, high_part};
 use local_rows::bits::I;
-use local_rows::registers::set;
+use local_rows::registers::set_at;
 use local_rows::status::flags_written;
 use local_rules::local::NodeFault;
 use node_keys::{High, NodeKey, SpForm, split};
+use pair_domain::Facts;
 use sp_domain::CarryTag;
 use std::alloc::Global;
 use vector_table::Masks;
@@ -122,12 +125,12 @@ fn masks_written(
 }
 
 // The carry tag ends if it names the written register.
-fn forgotten(carry: CarryTag, d: Register) -> CarryTag
+fn forgotten(carry: CarryTag, d: u16) -> CarryTag
     ensures { result ≡ forgotten (d ∷ []) carry }
 {
     match carry {
         CarryTag::Less(r, _) => {
-            if d.get() == u16::from(r) {
+            if d == u16::from(r) {
                 CarryTag::None
             } else {
                 carry
@@ -137,33 +140,46 @@ fn forgotten(carry: CarryTag, d: Register) -> CarryTag
     }
 }
 
-// A write of a register by its address. The register gets the byte's bits and tag.
+// A write of a register by its address. The register gets the byte's bits and tag; RAMPZ and EIND have fewer bits.
 fn register_written(
     nodes: &mut Moves<'_>,
     alloc: Global,
     write: &ByteWrite<'_>,
-    d: Register,
+    d: u16,
 ) -> Result<(), NodeFault>
+    requires { d < REGISTERS }
     ensures { Adds nodes.old nodes.new result (register_by (write_of write.now) d) }
 {
     let state = write.state;
-    let value = AbsByte::of_bits(write.value.tag, write.value.bits);
-    let registers = set(&state.registers, d, value);
+    let value = stored_value(write.device, d, write.value);
+    let registers = set_at(&state.registers, d, value);
     let flags = AbsFlags {
         carry: forgotten(state.flags.carry, d),
         ..state.flags
     };
     let mut after = changed(alloc, state, &registers, flags)?;
     end_facts(&mut after.facts, set_of(d), false, false);
-    hull_written(&mut after.facts, &registers, usize::from(d.get()));
+    end_hull(&mut after.facts, &registers, d);
     nodes.add(write.key, after)
 }
 
+// The interval of the written register's pair; RAMPZ and EIND are in none.
+fn end_hull(facts: &mut Facts, registers: &Registers, d: u16)
+    requires { d < REGISTERS }
+    ensures { facts.new ≡ written_hull registers.now d facts.old }
+{
+    facts.kept();
+    if d < RAMPZ {
+        hull_written(facts, registers, usize::from(d));
+    }
+}
+
 // The set of one register, as a bit.
-fn set_of(d: Register) -> u32
+fn set_of(d: u16) -> u64
+    requires { d < REGISTERS }
     ensures { result ≡ bits_of (d ∷ []) }
 {
-    1u32 << d.get()
+    1u64 << d
 }
 
 // A write of the status register by its address: one successor for each permitted value of I.
@@ -200,9 +216,11 @@ pub fn written_at(
 ) -> Result<(), NodeFault>
     ensures { Adds nodes.old nodes.new result (writes.written_at (write_of write.now) is_out address) }
 {
+    if let Some(r) = write.device.register_at(address) {
+        return register_written(nodes, alloc, write, r);
+    }
     let (inst, sp) = (&write.key.inst, write.key.sp);
     match address {
-        0..REGISTERS_END => register_written(nodes, alloc, write, Register::new(address)),
         SPL => {
             let offset = closing_offset(write.device, inst.kind, sp, write.value);
             closing(nodes, alloc, offset, write)

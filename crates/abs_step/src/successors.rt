@@ -12,7 +12,7 @@ ghost use Rattle.abs_step.specs.Sites.{site_of};
 
 use crate::moves::Moves;
 use crate::site::Site;
-use abs_state::{AbsByte, AbsFlags, AbsState};
+use abs_state::{AbsFlags, AbsState, Registers};
 use avr_model::device::Device;
 use bit_domain::Tri;
 use local_reads::flow::further;
@@ -32,7 +32,7 @@ pub fn copied(alloc: Global, state: &AbsState) -> Result<AbsState, NodeFault>
 pub fn changed(
     alloc: Global,
     state: &AbsState,
-    registers: &[AbsByte; 32],
+    registers: &Registers,
     flags: AbsFlags,
 ) -> Result<AbsState, NodeFault>
     ensures ok { IfOk result (λ s. s ≡ record state.now { registers = registers.now; flags = flags }) }
@@ -117,7 +117,7 @@ pub fn going_to(nodes: &mut Moves<'_>, site: &Site<'_>, pc: u32) -> Result<(), N
 pub fn setting(
     nodes: &mut Moves<'_>,
     site: &Site<'_>,
-    registers: &[AbsByte; 32],
+    registers: &Registers,
     flags: AbsFlags,
 ) -> Result<(), NodeFault>
     ensures { Adds nodes.old nodes.new result (raw.setting (site_of site.now) registers.now flags) }

@@ -7,7 +7,9 @@ ghost use Rattle.abs_step.specs.Leading.{LeadsOn};
 ghost use Rattle.abs_step.specs.Sites.{task_of, site_of};
 
 use crate::bits::{bit_row, flag_row};
-use crate::data_transfer::{known_write, load_row, lpm_row, read_row, set_row, store_row};
+use crate::data_transfer::{
+    elpm_row, extended_moved, known_write, load_row, lpm_row, read_row, store_row,
+};
 use crate::flow::{
     Outgoing, calling, flag_branch, indirect_call, jumping, port_skip, relative_call, returning,
     skipping, staying,
@@ -17,12 +19,13 @@ use crate::pointer_stores::{Indirect, pointer_write};
 use crate::site::Site;
 use crate::stack::{is_free, pop_row, push_row};
 use crate::successors::{going_to, setting};
-use abs_state::AbsByte;
 use avr_decode::{far, near};
+use avr_model::device::EIND;
 use avr_model::instruction::{BinaryOp, Instr, Pointer, Register};
+use bit_domain::TriByte;
 use local_reads::flow::{further, port, register_bit};
 use local_reads::pointers::step_before;
-use local_rows::registers::bits;
+use local_rows::registers::{bits, value_at};
 use local_rows::rows::{binary_at, computed_by};
 use local_rows::transfer::{base_register, pointer_moved, pointer_register};
 use local_rules::local::{Exit, NodeFault};
@@ -39,8 +42,13 @@ fn flow_row(
     let (a, device) = (site.alloc, site.device);
     let (key, state) = (site.key, site.state);
     let added = match instr {
-        Instr::Ijmp => jumping(nodes, site),
-        Instr::Icall => return indirect_call(site),
+        Instr::Ijmp => jumping(nodes, site, TriByte::of(0)),
+        Instr::Icall => return indirect_call(site, TriByte::of(0)),
+        Instr::Eijmp => jumping(nodes, site, value_at(&state.registers, EIND).bits),
+        Instr::Eicall => {
+            let bank = value_at(&state.registers, EIND).bits;
+            return indirect_call(site, bank);
+        }
         Instr::Ret => {
             let (masks, i, delay) = (key.masks, key.i, false);
             return returning(site, Exit { masks, i, delay });
@@ -122,18 +130,12 @@ fn memory_row(
             lpm_row(nodes, site, &moved, *d)
         }
         Instr::Lpm => lpm_row(nodes, site, &state.registers, Register::new(0)),
-        Instr::ElpmZ(d) => set_row(nodes, site, &state.registers, *d, AbsByte::unknown()),
+        Instr::ElpmZ(d) => elpm_row(nodes, site, &state.registers, *d),
         Instr::ElpmZPlus(d) => {
-            let moved = pointer_moved(site.view(), Pointer::ZPlus, state);
-            set_row(nodes, site, &moved, *d, AbsByte::unknown())
+            let moved = extended_moved(site);
+            elpm_row(nodes, site, &moved, *d)
         }
-        Instr::Elpm => set_row(
-            nodes,
-            site,
-            &state.registers,
-            Register::new(0),
-            AbsByte::unknown(),
-        ),
+        Instr::Elpm => elpm_row(nodes, site, &state.registers, Register::new(0)),
         Instr::Pop(d) => pop_row(nodes, site, *d),
         Instr::Push(r) => push_row(nodes, site, is_free(site, scratch), *r),
         Instr::In(d, i) => read_row(nodes, site, 1, *d, port(*i)),

@@ -1,6 +1,6 @@
 -- What a device's texts admit, a list may have.
 use Rattle.std.proofs.Common.{◌≡◌, ◌∙◌, refl, sym, ap, ap₂, ℕ, suc, ◌<◌, ◌≤◌, ◌&&◌, ◌||◌, Bool, true, false, List, [], ◌∷◌, length, arith, ◌⊎◌, inl, inr, eqb}
-use Rattle.std.specs.Prelude.{nat_le}
+use Rattle.std.specs.Prelude.{nat_le, nat_lt, ◌==◌}
 use Rattle.std.specs.List.{All, list_all, list_any}
 use Rattle.std.proofs.lemmas.Bool.{and_parts, and_from, cases_Bool, eqb-true}
 use Rattle.std.proofs.lemmas.Bool.Decides.{nat_tests}
@@ -9,8 +9,8 @@ use Rattle.avr_model.specs.declared.rows.EnablePlace.{EnablePlace}
 use Rattle.avr_model.specs.declared.assumption.Entry.{Entry}
 use Rattle.avr_model.specs.declared.assumption.Entry.TheVariants.{Pairs, Masks, Jump, Store, Prove, Free, Never, Frame, Recur, Scratch}
 use Rattle.avr_model.specs.State.{SIZE}
-use Rattle.avr_model.specs.Devices.{io_end, depth_of, has_sph}
-use Rattle.avr_model.specs.Vectors.{enable_places, has_enables, is_core_by, is_core, is_protected, is_vector}
+use Rattle.avr_model.specs.Devices.{io_end, depth_of, has_sph, has_elpm, has_eijmp}
+use Rattle.avr_model.specs.Vectors.{enable_places, has_enables, is_core, is_protected, is_vector}
 use Rattle.avr_model.proofs.AllLaws.{devices_are_alike, places_are_apart}
 use Rattle.vector_table.specs.Entries.{fits_device, is_word, is_word_of, is_io, ascends}
 use Rattle.assumption_files.specs.Reading.{is_entry_of}
@@ -38,9 +38,9 @@ or_false : (b : Bool) → b ≡ (b || false)
 or_false true = refl
 or_false false = refl
 
-core_io : (high : Bool) (a : ℕ) → is_core_by high a ≡ true → is_io a ≡ true
-core_io true a h = grind (arith, nat_tests, h)
-core_io false a h = grind (arith, nat_tests, h)
+core_io : (high elpm eijmp : Bool) (a : ℕ)
+    → (nat_lt a 0x20 || ((a == 0x5D) || ((a == 0x5F) || ((high && (a == 0x5E)) || ((elpm && (a == 0x5B)) || (eijmp && (a == 0x5C))))))) ≡ true → is_io a ≡ true
+core_io high elpm eijmp a h = grind (arith, nat_tests, h)
 
 protected_io : (d : Device) (a : ℕ) → is_protected d a ≡ true → is_io a ≡ true
 unfolding has_enables
@@ -49,7 +49,7 @@ protected_io d a h = elim (cases_Bool (has_enables d a)) [
       let small = some_place d (enable_places d) a (places_are_apart.each d) held in
       let most = devices_are_alike.most_io d in
       grind (arith, nat_tests)
-  | inr none ↦ core_io (has_sph d) a (let rest : (is_core d a || false) ≡ true = rw none at h in or_false (is_core d a) ∙ rest)
+  | inr none ↦ core_io (has_sph d) (has_elpm d) (has_eijmp d) a (let rest : (is_core d a || false) ≡ true = rw none at h in or_false (is_core d a) ∙ rest)
 ]
 
 all_more : (p q : ℕ → Bool) → ((n : ℕ) → p n ≡ true → q n ≡ true) → (ns : List ℕ) → list_all p ns ≡ true → list_all q ns ≡ true

@@ -23,7 +23,8 @@ pub(crate) fn leaves(instr: &Instr) -> bool
 {
     match *instr {
         Instr::Binary(BinaryOp::Cpse, _, _) => true,
-        Instr::Ijmp | Instr::Icall | Instr::Ret | Instr::Reti => true,
+        Instr::Ijmp | Instr::Icall | Instr::Eijmp | Instr::Eicall => true,
+        Instr::Ret | Instr::Reti => true,
         Instr::Jmp(_) | Instr::Call(_) | Instr::Rjmp(_) | Instr::Rcall(_) => true,
         Instr::Brbs(_, _) | Instr::Brbc(_, _) => true,
         Instr::Sbic(_, _) | Instr::Sbis(_, _) | Instr::Sbrc(_, _) | Instr::Sbrs(_, _) => true,
@@ -36,7 +37,7 @@ pub fn sets(instr: &Instr, register: u16) -> bool
     ensures { result ≡ sets register instr.now }
 {
     let set = writes(instr).bits;
-    register < 32 && (set >> register) & 1 == 1
+    register < 64 && (set >> register) & 1 == 1
 }
 
 // The low register of the pointer of `st` or `std`.

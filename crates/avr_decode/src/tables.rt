@@ -1,4 +1,4 @@
-//! The rule of jump tables: an index is added to a table's address and an `ijmp` follows.
+//! The rule of jump tables: an index is added to a table's address and an `ijmp` or `eijmp` follows.
 
 ghost use Rattle.std.specs.Prelude.{◌≡◌, ◌<◌, ◌≤◌, ◌+◌, ◌^◌, ◌&&◌};
 ghost use Rattle.avr_model.specs.Devices.{IsFlash, image_of};
@@ -12,7 +12,7 @@ use crate::targets::far;
 use avr_model::device::Device;
 use avr_model::instruction::{ImmediateOp, Instr};
 
-// The greatest number of instructions from the sum to the `ijmp`, itself counted.
+// The greatest number of instructions from the sum to the jump, itself counted.
 const MOST: u8 = 16;
 
 /// `subi` of r30, which adds to the low byte of Z.
@@ -62,10 +62,10 @@ fn onward(at: u32, size: u16, instr: &Instr) -> Option<u32>
 fn is_ijmp(instr: &Instr) -> bool
     ensures { result ≡ is_ijmp instr.now }
 {
-    matches!(*instr, Instr::Ijmp)
+    matches!(*instr, Instr::Ijmp | Instr::Eijmp)
 }
 
-// The word of the `ijmp` that at most `most` instructions from word `at` reach, itself counted.
+// The word of the `ijmp` or `eijmp` that at most `most` instructions from word `at` reach, itself counted.
 #[tactic(auto, using(crate::proofs::JumpTables::none_left, crate::proofs::JumpTables::undefined, crate::proofs::JumpTables::ended, crate::proofs::JumpTables::left, crate::proofs::JumpTables::went_on))]
 fn ijmp_from(device: Device, words: &[u16], most: u8, at: u32) -> Option<u32>
     requires at { at < WORDS }
@@ -87,8 +87,8 @@ fn ijmp_from(device: Device, words: &[u16], most: u8, at: u32) -> Option<u32>
     ijmp_from(device, words, most - 1, device.wrap(next))
 }
 
-/// The word of the `ijmp` of a table site, if one begins at `a`. Word `a` is a `subi` of r30 and the next one an `sbci` of r31. At most 16
-/// instructions lead from there to the `ijmp`, itself counted, along `jmp` and `rjmp` and without a branch, skip, call, return or undefined
+/// The word of the `ijmp` or `eijmp` of a table site, if one begins at `a`. Word `a` is a `subi` of r30 and the next one an `sbci` of r31. At most 16
+/// instructions lead from there to that jump, itself counted, along `jmp` and `rjmp` and without a branch, skip, call, return or undefined
 /// word. `words` are those of the device's flash, modulo whose number addresses count. Source: own.
 #[tactic(auto, using(crate::proofs::JumpTables::of_32), unfolding(avr_model::specs::Sites::table_site))]
 pub fn table_site(device: Device, words: &[u16], a: u32) -> Option<u32>

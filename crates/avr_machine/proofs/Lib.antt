@@ -1,5 +1,6 @@
 pub mod ByteBits
 pub mod Writing
+pub mod Banks
 pub mod Living
 pub mod Remembering
 pub mod Alike

@@ -12,7 +12,7 @@ use Rattle.avr_model.specs.State.{State, register, pair, plus16, minus_sp}
 use Rattle.avr_model.specs.Bits.{with_bit}
 use Rattle.avr_model.specs.Vectors.{kept_byte}
 use Rattle.avr_model.specs.Text.{far}
-use Rattle.avr_model.specs.Effects.{effect_of, storing, store_effect, further, out_effect, port, bit_effect, pointed, set, way_back, going_to}
+use Rattle.avr_model.specs.Effects.{effect_of, storing, store_effect, further, out_effect, port, bit_effect, pointed, set, way_back, going_to, extended_word}
 use Rattle.avr_model.specs.Step.{answer_to, unless_listed}
 use Rattle.avr_machine.specs.Quiet.{is_quiet, is_still, protected_at, moves_at, refused_at, store_answer, push_effect_to, push_answer, jump_answer}
 use Rattle.avr_model.proofs.AllLaws.{devices_are_alike}
@@ -84,6 +84,18 @@ ijmp_row image entries m instr b1 b2 is =
     subst (λ x. jump_answer m (unless_listed (jump_line entries m.pc) (wrapped m.device (pair m 30))) (pair m 30) ≡ answer_to image entries m x (effect_of image (is_still image entries) m x b1 b2)) (sym is)
     (jumped_answer image entries m i.Ijmp (pair m 30) (unless_listed (jump_line entries m.pc) (wrapped m.device (pair m 30))) refl (jump_refused image entries m i.Ijmp (going_to m (pair m 30)) refl refl))
 
+pub eicall_row : (image : Image) (entries : List Entry) (m : State) (instr : Instr) (b1 b2 : ℕ) → instr ≡ i.Eicall
+    → push_answer (not (is_scratch image m.pc)) m (refused_at image entries m (unless_listed (jump_line entries m.pc) (wrapped m.device (extended_word m))) (wrapped m.device (extended_word m))) (way_back m.device m.sp (further m 1)) (minus_sp m.device m.sp (back_of m.device)) (extended_word m) ≡ answer_to image entries m instr (effect_of image (is_still image entries) m instr b1 b2)
+eicall_row image entries m instr b1 b2 is =
+    subst (λ x. push_answer (not (is_scratch image m.pc)) m (refused_at image entries m (unless_listed (jump_line entries m.pc) (wrapped m.device (extended_word m))) (wrapped m.device (extended_word m))) (way_back m.device m.sp (further m 1)) (minus_sp m.device m.sp (back_of m.device)) (extended_word m) ≡ answer_to image entries m x (effect_of image (is_still image entries) m x b1 b2)) (sym is)
+    (pushed_answer image entries m i.Eicall (way_back m.device m.sp (further m 1)) (minus_sp m.device m.sp (back_of m.device)) (extended_word m) (not (is_scratch image m.pc)) (refused_at image entries m (unless_listed (jump_line entries m.pc) (wrapped m.device (extended_word m))) (wrapped m.device (extended_word m))) refl (guards_unless image entries m.pc i.Eicall refl) (indirect_refused image entries m i.Eicall (push_effect_to m (way_back m.device m.sp (further m 1)) (minus_sp m.device m.sp (back_of m.device)) (extended_word m)) refl refl))
+
+pub eijmp_row : (image : Image) (entries : List Entry) (m : State) (instr : Instr) (b1 b2 : ℕ) → instr ≡ i.Eijmp
+    → jump_answer m (unless_listed (jump_line entries m.pc) (wrapped m.device (extended_word m))) (extended_word m) ≡ answer_to image entries m instr (effect_of image (is_still image entries) m instr b1 b2)
+eijmp_row image entries m instr b1 b2 is =
+    subst (λ x. jump_answer m (unless_listed (jump_line entries m.pc) (wrapped m.device (extended_word m))) (extended_word m) ≡ answer_to image entries m x (effect_of image (is_still image entries) m x b1 b2)) (sym is)
+    (jumped_answer image entries m i.Eijmp (extended_word m) (unless_listed (jump_line entries m.pc) (wrapped m.device (extended_word m))) refl (jump_refused image entries m i.Eijmp (going_to m (extended_word m)) refl refl))
+
 -- stores, with given parts
 pub std_row : (image : Image) (entries : List Entry) (m : State) (instr : Instr) (b1 b2 : ℕ) (b : Base) (n r address byte next : ℕ) (protected : Option ℕ) → instr ≡ i.Std b n r → address ≡ plus16 (pair m (base_register b)) n → byte ≡ register m r → next ≡ further m 1 → protected ≡ protected_at image entries m.pc (record { address = address; byte = byte })
     → store_answer m protected (moves_at image entries (record { address = address; byte = byte })) (record (storing m address byte) { pc = next; delay = false }) ≡ answer_to image entries m instr (effect_of image (is_still image entries) m instr b1 b2)
@@ -115,6 +127,13 @@ icall_answer image entries m instr b1 b2 unlisted back target is other there to 
     ∙ ap₂ (λ (back target : ℕ). push_answer (not (is_scratch image m.pc)) m (refused_at image entries m (unless_listed (jump_line entries m.pc) (wrapped m.device (pair m 30))) (wrapped m.device target)) (way_back m.device m.sp back) (minus_sp m.device m.sp (back_of m.device)) target) there to
     ∙ icall_row image entries m instr b1 b2 is
 
+pub eicall_answer : (image : Image) (entries : List Entry) (m : State) (instr : Instr) (b1 b2 : ℕ) (unlisted : Option ℕ) (back target : ℕ) → instr ≡ i.Eicall → unlisted ≡ unless_listed (jump_line entries m.pc) (wrapped m.device (extended_word m)) → back ≡ further m 1 → target ≡ extended_word m
+    → push_answer (not (is_scratch image m.pc)) m (refused_at image entries m unlisted (wrapped m.device target)) (way_back m.device m.sp back) (minus_sp m.device m.sp (back_of m.device)) target ≡ answer_to image entries m instr (effect_of image (is_still image entries) m instr b1 b2)
+eicall_answer image entries m instr b1 b2 unlisted back target is other there to =
+    ap (λ (o : Option ℕ). push_answer (not (is_scratch image m.pc)) m (refused_at image entries m o (wrapped m.device target)) (way_back m.device m.sp back) (minus_sp m.device m.sp (back_of m.device)) target) other
+    ∙ ap₂ (λ (back target : ℕ). push_answer (not (is_scratch image m.pc)) m (refused_at image entries m (unless_listed (jump_line entries m.pc) (wrapped m.device (extended_word m))) (wrapped m.device target)) (way_back m.device m.sp back) (minus_sp m.device m.sp (back_of m.device)) target) there to
+    ∙ eicall_row image entries m instr b1 b2 is
+
 -- there is no further instruction
 pub none_left : (instr : Instr) → is_quiet instr ≡ false
     → ((b : Base) (n r : ℕ) → instr ≡ i.Std b n r → ⊥)
@@ -128,55 +147,59 @@ pub none_left : (instr : Instr) → is_quiet instr ≡ false
     → ((k : ℕ) → instr ≡ i.Rcall k → ⊥)
     → (instr ≡ i.Icall → ⊥)
     → (instr ≡ i.Ijmp → ⊥)
+    → (instr ≡ i.Eicall → ⊥)
+    → (instr ≡ i.Eijmp → ⊥)
     → ⊥
-none_left (i.Movw d r) loud no_std no_sts no_st no_out no_cbi no_sbi no_push no_call no_rcall no_icall no_ijmp = absurd (cc)
-none_left (i.Muls d r) loud no_std no_sts no_st no_out no_cbi no_sbi no_push no_call no_rcall no_icall no_ijmp = absurd (cc)
-none_left (i.Mulsu d r) loud no_std no_sts no_st no_out no_cbi no_sbi no_push no_call no_rcall no_icall no_ijmp = absurd (cc)
-none_left (i.Fmul d r) loud no_std no_sts no_st no_out no_cbi no_sbi no_push no_call no_rcall no_icall no_ijmp = absurd (cc)
-none_left (i.Fmuls d r) loud no_std no_sts no_st no_out no_cbi no_sbi no_push no_call no_rcall no_icall no_ijmp = absurd (cc)
-none_left (i.Fmulsu d r) loud no_std no_sts no_st no_out no_cbi no_sbi no_push no_call no_rcall no_icall no_ijmp = absurd (cc)
-none_left (i.Immediate op d k) loud no_std no_sts no_st no_out no_cbi no_sbi no_push no_call no_rcall no_icall no_ijmp = absurd (cc)
-none_left (i.Unary op d) loud no_std no_sts no_st no_out no_cbi no_sbi no_push no_call no_rcall no_icall no_ijmp = absurd (cc)
-none_left (i.Adiw d k) loud no_std no_sts no_st no_out no_cbi no_sbi no_push no_call no_rcall no_icall no_ijmp = absurd (cc)
-none_left (i.Sbiw d k) loud no_std no_sts no_st no_out no_cbi no_sbi no_push no_call no_rcall no_icall no_ijmp = absurd (cc)
-none_left (i.Bset s) loud no_std no_sts no_st no_out no_cbi no_sbi no_push no_call no_rcall no_icall no_ijmp = absurd (cc)
-none_left (i.Bclr s) loud no_std no_sts no_st no_out no_cbi no_sbi no_push no_call no_rcall no_icall no_ijmp = absurd (cc)
-none_left (i.Bld d b) loud no_std no_sts no_st no_out no_cbi no_sbi no_push no_call no_rcall no_icall no_ijmp = absurd (cc)
-none_left (i.Bst d b) loud no_std no_sts no_st no_out no_cbi no_sbi no_push no_call no_rcall no_icall no_ijmp = absurd (cc)
-none_left (i.Ldd d b n) loud no_std no_sts no_st no_out no_cbi no_sbi no_push no_call no_rcall no_icall no_ijmp = absurd (cc)
-none_left (i.Lds d k) loud no_std no_sts no_st no_out no_cbi no_sbi no_push no_call no_rcall no_icall no_ijmp = absurd (cc)
-none_left (i.Ld d p) loud no_std no_sts no_st no_out no_cbi no_sbi no_push no_call no_rcall no_icall no_ijmp = absurd (cc)
-none_left (i.LpmZ d) loud no_std no_sts no_st no_out no_cbi no_sbi no_push no_call no_rcall no_icall no_ijmp = absurd (cc)
-none_left (i.ElpmZ d) loud no_std no_sts no_st no_out no_cbi no_sbi no_push no_call no_rcall no_icall no_ijmp = absurd (cc)
-none_left (i.LpmZPlus d) loud no_std no_sts no_st no_out no_cbi no_sbi no_push no_call no_rcall no_icall no_ijmp = absurd (cc)
-none_left (i.ElpmZPlus d) loud no_std no_sts no_st no_out no_cbi no_sbi no_push no_call no_rcall no_icall no_ijmp = absurd (cc)
-none_left i.Lpm loud no_std no_sts no_st no_out no_cbi no_sbi no_push no_call no_rcall no_icall no_ijmp = absurd (cc)
-none_left i.Elpm loud no_std no_sts no_st no_out no_cbi no_sbi no_push no_call no_rcall no_icall no_ijmp = absurd (cc)
-none_left (i.Pop d) loud no_std no_sts no_st no_out no_cbi no_sbi no_push no_call no_rcall no_icall no_ijmp = absurd (cc)
-none_left (i.In d a) loud no_std no_sts no_st no_out no_cbi no_sbi no_push no_call no_rcall no_icall no_ijmp = absurd (cc)
-none_left i.Ret loud no_std no_sts no_st no_out no_cbi no_sbi no_push no_call no_rcall no_icall no_ijmp = absurd (cc)
-none_left i.Reti loud no_std no_sts no_st no_out no_cbi no_sbi no_push no_call no_rcall no_icall no_ijmp = absurd (cc)
-none_left (i.Jmp k) loud no_std no_sts no_st no_out no_cbi no_sbi no_push no_call no_rcall no_icall no_ijmp = absurd (cc)
-none_left (i.Rjmp k) loud no_std no_sts no_st no_out no_cbi no_sbi no_push no_call no_rcall no_icall no_ijmp = absurd (cc)
-none_left (i.Brbs s k) loud no_std no_sts no_st no_out no_cbi no_sbi no_push no_call no_rcall no_icall no_ijmp = absurd (cc)
-none_left (i.Brbc s k) loud no_std no_sts no_st no_out no_cbi no_sbi no_push no_call no_rcall no_icall no_ijmp = absurd (cc)
-none_left (i.Sbic a b) loud no_std no_sts no_st no_out no_cbi no_sbi no_push no_call no_rcall no_icall no_ijmp = absurd (cc)
-none_left (i.Sbis a b) loud no_std no_sts no_st no_out no_cbi no_sbi no_push no_call no_rcall no_icall no_ijmp = absurd (cc)
-none_left (i.Sbrc r b) loud no_std no_sts no_st no_out no_cbi no_sbi no_push no_call no_rcall no_icall no_ijmp = absurd (cc)
-none_left (i.Sbrs r b) loud no_std no_sts no_st no_out no_cbi no_sbi no_push no_call no_rcall no_icall no_ijmp = absurd (cc)
-none_left i.Nop loud no_std no_sts no_st no_out no_cbi no_sbi no_push no_call no_rcall no_icall no_ijmp = absurd (cc)
-none_left i.Sleep loud no_std no_sts no_st no_out no_cbi no_sbi no_push no_call no_rcall no_icall no_ijmp = absurd (cc)
-none_left i.Break loud no_std no_sts no_st no_out no_cbi no_sbi no_push no_call no_rcall no_icall no_ijmp = absurd (cc)
-none_left i.Wdr loud no_std no_sts no_st no_out no_cbi no_sbi no_push no_call no_rcall no_icall no_ijmp = absurd (cc)
-none_left (i.Binary op d r) loud no_std no_sts no_st no_out no_cbi no_sbi no_push no_call no_rcall no_icall no_ijmp = absurd (cc)
-none_left (i.Std b n r) loud no_std no_sts no_st no_out no_cbi no_sbi no_push no_call no_rcall no_icall no_ijmp = no_std b n r refl
-none_left (i.Sts k r) loud no_std no_sts no_st no_out no_cbi no_sbi no_push no_call no_rcall no_icall no_ijmp = no_sts k r refl
-none_left (i.St p r) loud no_std no_sts no_st no_out no_cbi no_sbi no_push no_call no_rcall no_icall no_ijmp = no_st p r refl
-none_left (i.Push r) loud no_std no_sts no_st no_out no_cbi no_sbi no_push no_call no_rcall no_icall no_ijmp = no_push r refl
-none_left (i.Out a r) loud no_std no_sts no_st no_out no_cbi no_sbi no_push no_call no_rcall no_icall no_ijmp = no_out a r refl
-none_left (i.Cbi a b) loud no_std no_sts no_st no_out no_cbi no_sbi no_push no_call no_rcall no_icall no_ijmp = no_cbi a b refl
-none_left (i.Sbi a b) loud no_std no_sts no_st no_out no_cbi no_sbi no_push no_call no_rcall no_icall no_ijmp = no_sbi a b refl
-none_left i.Ijmp loud no_std no_sts no_st no_out no_cbi no_sbi no_push no_call no_rcall no_icall no_ijmp = no_ijmp refl
-none_left i.Icall loud no_std no_sts no_st no_out no_cbi no_sbi no_push no_call no_rcall no_icall no_ijmp = no_icall refl
-none_left (i.Call k) loud no_std no_sts no_st no_out no_cbi no_sbi no_push no_call no_rcall no_icall no_ijmp = no_call k refl
-none_left (i.Rcall k) loud no_std no_sts no_st no_out no_cbi no_sbi no_push no_call no_rcall no_icall no_ijmp = no_rcall k refl
+none_left (i.Movw d r) loud no_std no_sts no_st no_out no_cbi no_sbi no_push no_call no_rcall no_icall no_ijmp no_eicall no_eijmp = absurd (cc)
+none_left (i.Muls d r) loud no_std no_sts no_st no_out no_cbi no_sbi no_push no_call no_rcall no_icall no_ijmp no_eicall no_eijmp = absurd (cc)
+none_left (i.Mulsu d r) loud no_std no_sts no_st no_out no_cbi no_sbi no_push no_call no_rcall no_icall no_ijmp no_eicall no_eijmp = absurd (cc)
+none_left (i.Fmul d r) loud no_std no_sts no_st no_out no_cbi no_sbi no_push no_call no_rcall no_icall no_ijmp no_eicall no_eijmp = absurd (cc)
+none_left (i.Fmuls d r) loud no_std no_sts no_st no_out no_cbi no_sbi no_push no_call no_rcall no_icall no_ijmp no_eicall no_eijmp = absurd (cc)
+none_left (i.Fmulsu d r) loud no_std no_sts no_st no_out no_cbi no_sbi no_push no_call no_rcall no_icall no_ijmp no_eicall no_eijmp = absurd (cc)
+none_left (i.Immediate op d k) loud no_std no_sts no_st no_out no_cbi no_sbi no_push no_call no_rcall no_icall no_ijmp no_eicall no_eijmp = absurd (cc)
+none_left (i.Unary op d) loud no_std no_sts no_st no_out no_cbi no_sbi no_push no_call no_rcall no_icall no_ijmp no_eicall no_eijmp = absurd (cc)
+none_left (i.Adiw d k) loud no_std no_sts no_st no_out no_cbi no_sbi no_push no_call no_rcall no_icall no_ijmp no_eicall no_eijmp = absurd (cc)
+none_left (i.Sbiw d k) loud no_std no_sts no_st no_out no_cbi no_sbi no_push no_call no_rcall no_icall no_ijmp no_eicall no_eijmp = absurd (cc)
+none_left (i.Bset s) loud no_std no_sts no_st no_out no_cbi no_sbi no_push no_call no_rcall no_icall no_ijmp no_eicall no_eijmp = absurd (cc)
+none_left (i.Bclr s) loud no_std no_sts no_st no_out no_cbi no_sbi no_push no_call no_rcall no_icall no_ijmp no_eicall no_eijmp = absurd (cc)
+none_left (i.Bld d b) loud no_std no_sts no_st no_out no_cbi no_sbi no_push no_call no_rcall no_icall no_ijmp no_eicall no_eijmp = absurd (cc)
+none_left (i.Bst d b) loud no_std no_sts no_st no_out no_cbi no_sbi no_push no_call no_rcall no_icall no_ijmp no_eicall no_eijmp = absurd (cc)
+none_left (i.Ldd d b n) loud no_std no_sts no_st no_out no_cbi no_sbi no_push no_call no_rcall no_icall no_ijmp no_eicall no_eijmp = absurd (cc)
+none_left (i.Lds d k) loud no_std no_sts no_st no_out no_cbi no_sbi no_push no_call no_rcall no_icall no_ijmp no_eicall no_eijmp = absurd (cc)
+none_left (i.Ld d p) loud no_std no_sts no_st no_out no_cbi no_sbi no_push no_call no_rcall no_icall no_ijmp no_eicall no_eijmp = absurd (cc)
+none_left (i.LpmZ d) loud no_std no_sts no_st no_out no_cbi no_sbi no_push no_call no_rcall no_icall no_ijmp no_eicall no_eijmp = absurd (cc)
+none_left (i.ElpmZ d) loud no_std no_sts no_st no_out no_cbi no_sbi no_push no_call no_rcall no_icall no_ijmp no_eicall no_eijmp = absurd (cc)
+none_left (i.LpmZPlus d) loud no_std no_sts no_st no_out no_cbi no_sbi no_push no_call no_rcall no_icall no_ijmp no_eicall no_eijmp = absurd (cc)
+none_left (i.ElpmZPlus d) loud no_std no_sts no_st no_out no_cbi no_sbi no_push no_call no_rcall no_icall no_ijmp no_eicall no_eijmp = absurd (cc)
+none_left i.Lpm loud no_std no_sts no_st no_out no_cbi no_sbi no_push no_call no_rcall no_icall no_ijmp no_eicall no_eijmp = absurd (cc)
+none_left i.Elpm loud no_std no_sts no_st no_out no_cbi no_sbi no_push no_call no_rcall no_icall no_ijmp no_eicall no_eijmp = absurd (cc)
+none_left (i.Pop d) loud no_std no_sts no_st no_out no_cbi no_sbi no_push no_call no_rcall no_icall no_ijmp no_eicall no_eijmp = absurd (cc)
+none_left (i.In d a) loud no_std no_sts no_st no_out no_cbi no_sbi no_push no_call no_rcall no_icall no_ijmp no_eicall no_eijmp = absurd (cc)
+none_left i.Ret loud no_std no_sts no_st no_out no_cbi no_sbi no_push no_call no_rcall no_icall no_ijmp no_eicall no_eijmp = absurd (cc)
+none_left i.Reti loud no_std no_sts no_st no_out no_cbi no_sbi no_push no_call no_rcall no_icall no_ijmp no_eicall no_eijmp = absurd (cc)
+none_left (i.Jmp k) loud no_std no_sts no_st no_out no_cbi no_sbi no_push no_call no_rcall no_icall no_ijmp no_eicall no_eijmp = absurd (cc)
+none_left (i.Rjmp k) loud no_std no_sts no_st no_out no_cbi no_sbi no_push no_call no_rcall no_icall no_ijmp no_eicall no_eijmp = absurd (cc)
+none_left (i.Brbs s k) loud no_std no_sts no_st no_out no_cbi no_sbi no_push no_call no_rcall no_icall no_ijmp no_eicall no_eijmp = absurd (cc)
+none_left (i.Brbc s k) loud no_std no_sts no_st no_out no_cbi no_sbi no_push no_call no_rcall no_icall no_ijmp no_eicall no_eijmp = absurd (cc)
+none_left (i.Sbic a b) loud no_std no_sts no_st no_out no_cbi no_sbi no_push no_call no_rcall no_icall no_ijmp no_eicall no_eijmp = absurd (cc)
+none_left (i.Sbis a b) loud no_std no_sts no_st no_out no_cbi no_sbi no_push no_call no_rcall no_icall no_ijmp no_eicall no_eijmp = absurd (cc)
+none_left (i.Sbrc r b) loud no_std no_sts no_st no_out no_cbi no_sbi no_push no_call no_rcall no_icall no_ijmp no_eicall no_eijmp = absurd (cc)
+none_left (i.Sbrs r b) loud no_std no_sts no_st no_out no_cbi no_sbi no_push no_call no_rcall no_icall no_ijmp no_eicall no_eijmp = absurd (cc)
+none_left i.Nop loud no_std no_sts no_st no_out no_cbi no_sbi no_push no_call no_rcall no_icall no_ijmp no_eicall no_eijmp = absurd (cc)
+none_left i.Sleep loud no_std no_sts no_st no_out no_cbi no_sbi no_push no_call no_rcall no_icall no_ijmp no_eicall no_eijmp = absurd (cc)
+none_left i.Break loud no_std no_sts no_st no_out no_cbi no_sbi no_push no_call no_rcall no_icall no_ijmp no_eicall no_eijmp = absurd (cc)
+none_left i.Wdr loud no_std no_sts no_st no_out no_cbi no_sbi no_push no_call no_rcall no_icall no_ijmp no_eicall no_eijmp = absurd (cc)
+none_left (i.Binary op d r) loud no_std no_sts no_st no_out no_cbi no_sbi no_push no_call no_rcall no_icall no_ijmp no_eicall no_eijmp = absurd (cc)
+none_left (i.Std b n r) loud no_std no_sts no_st no_out no_cbi no_sbi no_push no_call no_rcall no_icall no_ijmp no_eicall no_eijmp = no_std b n r refl
+none_left (i.Sts k r) loud no_std no_sts no_st no_out no_cbi no_sbi no_push no_call no_rcall no_icall no_ijmp no_eicall no_eijmp = no_sts k r refl
+none_left (i.St p r) loud no_std no_sts no_st no_out no_cbi no_sbi no_push no_call no_rcall no_icall no_ijmp no_eicall no_eijmp = no_st p r refl
+none_left (i.Push r) loud no_std no_sts no_st no_out no_cbi no_sbi no_push no_call no_rcall no_icall no_ijmp no_eicall no_eijmp = no_push r refl
+none_left (i.Out a r) loud no_std no_sts no_st no_out no_cbi no_sbi no_push no_call no_rcall no_icall no_ijmp no_eicall no_eijmp = no_out a r refl
+none_left (i.Cbi a b) loud no_std no_sts no_st no_out no_cbi no_sbi no_push no_call no_rcall no_icall no_ijmp no_eicall no_eijmp = no_cbi a b refl
+none_left (i.Sbi a b) loud no_std no_sts no_st no_out no_cbi no_sbi no_push no_call no_rcall no_icall no_ijmp no_eicall no_eijmp = no_sbi a b refl
+none_left i.Ijmp loud no_std no_sts no_st no_out no_cbi no_sbi no_push no_call no_rcall no_icall no_ijmp no_eicall no_eijmp = no_ijmp refl
+none_left i.Icall loud no_std no_sts no_st no_out no_cbi no_sbi no_push no_call no_rcall no_icall no_ijmp no_eicall no_eijmp = no_icall refl
+none_left i.Eijmp loud no_std no_sts no_st no_out no_cbi no_sbi no_push no_call no_rcall no_icall no_ijmp no_eicall no_eijmp = no_eijmp refl
+none_left i.Eicall loud no_std no_sts no_st no_out no_cbi no_sbi no_push no_call no_rcall no_icall no_ijmp no_eicall no_eijmp = no_eicall refl
+none_left (i.Call k) loud no_std no_sts no_st no_out no_cbi no_sbi no_push no_call no_rcall no_icall no_ijmp no_eicall no_eijmp = no_call k refl
+none_left (i.Rcall k) loud no_std no_sts no_st no_out no_cbi no_sbi no_push no_call no_rcall no_icall no_ijmp no_eicall no_eijmp = no_rcall k refl

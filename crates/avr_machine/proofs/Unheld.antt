@@ -1,5 +1,5 @@
 -- Addresses at which no vector is enabled.
-use Rattle.std.proofs.Common.{◌≡◌, ◌∙◌, sym, ap, subst, refl, ℕ, ◌+◌, ◌<◌, ◌≤◌, ◌^◌, ◌==◌, ◌||◌, Bool, true, false, List, [], ◌∷◌, arith}
+use Rattle.std.proofs.Common.{◌≡◌, ◌∙◌, sym, ap, subst, refl, ℕ, ◌+◌, ◌<◌, ◌≤◌, ◌^◌, ◌==◌, ◌||◌, nat_lt, ◌&&◌, Bool, true, false, List, [], ◌∷◌, arith}
 use Rattle.std.proofs.lemmas.Bool.{ne_eqb, or_parts}
 use Rattle.std.proofs.lemmas.List.Elements.{All-head, All-tail}
 use Rattle.std.proofs.lemmas.Bool.Decides.{nat_tests}
@@ -11,8 +11,8 @@ use Rattle.vector_table.proofs.AllLaws as tables
 use Rattle.avr_model.specs.declared.device.Device.{Device}
 use Rattle.avr_model.specs.declared.rows.EnablePlace.{EnablePlace}
 use Rattle.avr_model.specs.Bits.{number_of}
-use Rattle.avr_model.specs.Devices.{io_end, has_sph}
-use Rattle.avr_model.specs.Vectors.{enable_places, enable_count, has_enables, enable_place_at, written_enable, written_enables, with_enable, io_bit, io_byte, kept_byte, is_vector, is_core_by, is_core, is_protected}
+use Rattle.avr_model.specs.Devices.{io_end, has_sph, has_elpm, has_eijmp}
+use Rattle.avr_model.specs.Vectors.{enable_places, enable_count, has_enables, enable_place_at, written_enable, written_enables, with_enable, io_bit, io_byte, kept_byte, is_vector, is_core, is_protected}
 use Rattle.avr_model.proofs.AllLaws.{devices_are_alike, places_are_apart}
 
 -- places are in I/O
@@ -51,12 +51,12 @@ enables_stay device enables address byte small none =
     let same : (k : ℕ) → bit_at enables k ≡ f k = λ k i. written_enable (sym (enables_are_vectors.none device (k + 2) address here) i) byte (bit_at enables k) in
     numbers_are_their_bits.same (enable_count device) enables f small (λ k lt. same k)
 
-core_by : (high : Bool) (a : ℕ) → 0x5F < a → is_core_by high a ≡ false
-core_by true a above = grind (arith, nat_tests)
-core_by false a above = grind (arith, nat_tests)
+core_above : (high elpm eijmp : Bool) (a : ℕ) → 0x5F < a
+    → (nat_lt a 0x20 || ((a == 0x5D) || ((a == 0x5F) || ((high && (a == 0x5E)) || ((elpm && (a == 0x5B)) || (eijmp && (a == 0x5C))))))) ≡ false
+core_above high elpm eijmp a above = grind (arith, nat_tests)
 
 core_below : (device : Device) (a : ℕ) → 0x5F < a → is_core device a ≡ false
-core_below device a above = core_by (has_sph device) a above
+core_below device a above = core_above (has_sph device) (has_elpm device) (has_eijmp device) a above
 
 pub none_protected : (device : Device) (a : ℕ) → io_end device < a → is_protected device a ≡ false
 none_protected device a above =

@@ -3,7 +3,7 @@ use Rattle.std.specs.Prelude.{ℕ, ◌||◌, not, Bool, true, false, if◌then�
 use Rattle.avr_model.specs.declared.instruction.Instr.{Instr}
 use Rattle.avr_model.specs.declared.instruction.Instr.TheVariants as i
 use Rattle.avr_model.specs.declared.effect.Effect.{Effect}
-use Rattle.avr_model.specs.State.{State, fall}
+use Rattle.avr_model.specs.State.{State, pair, fall}
 use Rattle.avr_model.specs.declared.assumption.Entry.{Entry}
 use Rattle.avr_model.specs.declared.effect.Write.{Write}
 use Rattle.avr_model.specs.Assumptions.{is_fixed_site, recur_line}
@@ -11,12 +11,14 @@ use Rattle.avr_model.specs.Masks.{reads_masks}
 use Rattle.avr_model.specs.Sites.{is_scratch}
 use Rattle.avr_model.specs.Devices.{Image, device_of}
 use Rattle.avr_model.specs.Step.{Answer, Overflow, after, all_inside, is_refused, unless_within, first_of, flagged_or, flag_by, live_write, flagged_write, moves_vectors}
-use Rattle.avr_model.specs.Effects.{going_to}
+use Rattle.avr_model.specs.Effects.{going_to, extended_word}
 
 -- jumps, calls, returns, branches and skips
 abbrev pub is_quiet_flow : Instr → Bool
 is_quiet_flow i.Ijmp = false
 is_quiet_flow i.Icall = false
+is_quiet_flow i.Eijmp = false
+is_quiet_flow i.Eicall = false
 is_quiet_flow (i.Call k) = false
 is_quiet_flow (i.Rcall k) = false
 is_quiet_flow _ = true
@@ -60,6 +62,10 @@ push_answer guarded m transfer pushes sp target =
 -- the word that a call enters, if that is refused: it is unlisted, or its `recur` line does not permit the call so deep
 abbrev pub refused_at : Image → List Entry → State → Option ℕ → ℕ → Option ℕ
 refused_at image A m unlisted word = first_of unlisted (if not (is_scratch image m.pc) then unless_within (recur_line A word) (fall m) word else None)
+
+-- the word in Z; if `extended`, the one in EIND and Z
+abbrev pub computed_word : State → Bool → ℕ
+computed_word m extended = if extended then extended_word m else pair m 30
 
 -- the answer to a jump to a computed word
 abbrev pub jump_answer : State → Option ℕ → ℕ → Answer

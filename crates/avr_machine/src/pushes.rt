@@ -5,16 +5,17 @@ ghost use Rattle.avr_model.specs.Devices.{back_of, wrapped};
 ghost use Rattle.avr_model.specs.Vectors.{is_vector, watchdog};
 ghost use Rattle.avr_model.specs.Assumptions.{jump_line, recur_line, has_scratch};
 ghost use Rattle.avr_model.specs.Sites.{is_scratch};
-ghost use Rattle.avr_model.specs.State.{pair, register, minus_sp, fall};
+ghost use Rattle.avr_model.specs.State.{register, minus_sp, fall};
 ghost use Rattle.avr_model.specs.Effects.{set, way_back, further};
 ghost use Rattle.avr_model.specs.Step.{all_inside, unless_listed, unless_within, entering, take, result_of, state_after};
-ghost use Rattle.avr_machine.specs.Quiet.{push_answer, refused_at, jump_answer};
+ghost use Rattle.avr_machine.specs.Quiet.{push_answer, refused_at, computed_word, jump_answer};
 
 use crate::flags::{flag_by, lists_word};
 use crate::processor::Processor;
 use crate::transfers::Z;
 use avr_alu::Sreg;
 use avr_model::choice::StepResult;
+use avr_model::device::EIND;
 use avr_model::effect::{Write, Writes};
 use flash_image::Flash;
 use vector_table::Assumptions;
@@ -134,12 +135,24 @@ impl Processor {
         )
     }
 
-    /// The word in Z, and the word of flash that it stands for if the site does not list it.
-    pub fn computed(&self, assumptions: &Assumptions) -> (u32, Option<u32>)
-        ensures target { result.0 ≡ pair self.now 30 }
-        ensures unlisted { result.1 ≡ unless_listed (jump_line assumptions.now self.now.pc) (wrapped self.now.device (pair self.now 30)) }
+    // The word in Z; if `extended`, the one in EIND and Z.
+    fn computed_word(&self, extended: bool) -> u32
+        ensures { result ≡ computed_word self.now extended }
     {
-        let target = u32::from(self.pair(Z));
+        let z = u32::from(self.pair(Z));
+        if extended {
+            65536 * u32::from(self.register(EIND)) + z
+        } else {
+            z
+        }
+    }
+
+    /// The word in Z, or in EIND and Z, and the word of flash that it stands for if the site does not list it.
+    pub fn computed(&self, assumptions: &Assumptions, extended: bool) -> (u32, Option<u32>)
+        ensures target { result.0 ≡ computed_word self.now extended }
+        ensures unlisted { result.1 ≡ unless_listed (jump_line assumptions.now self.now.pc) (wrapped self.now.device (computed_word self.now extended)) }
+    {
+        let target = self.computed_word(extended);
         let word = self.wrap(target);
         match assumptions.jumps(self.pc) {
             Some(words) if !lists_word(words, word) => (target, Some(word)),
@@ -147,12 +160,12 @@ impl Processor {
         }
     }
 
-    /// `ijmp`.
-    pub fn jump_computed(&mut self, assumptions: &Assumptions) -> StepResult
-        ensures answer { result ≡ result_of (jump_answer self.old (unless_listed (jump_line assumptions.now self.old.pc) (wrapped self.old.device (pair self.old 30))) (pair self.old 30)) }
-        ensures state { self.new ≡ state_after self.old (jump_answer self.old (unless_listed (jump_line assumptions.now self.old.pc) (wrapped self.old.device (pair self.old 30))) (pair self.old 30)) }
+    /// `ijmp`, or `eijmp`.
+    pub fn jump_computed(&mut self, assumptions: &Assumptions, extended: bool) -> StepResult
+        ensures answer { result ≡ result_of (jump_answer self.old (unless_listed (jump_line assumptions.now self.old.pc) (wrapped self.old.device (computed_word self.old extended))) (computed_word self.old extended)) }
+        ensures state { self.new ≡ state_after self.old (jump_answer self.old (unless_listed (jump_line assumptions.now self.old.pc) (wrapped self.old.device (computed_word self.old extended))) (computed_word self.old extended)) }
     {
-        let (target, unlisted) = self.computed(assumptions);
+        let (target, unlisted) = self.computed(assumptions, extended);
         match flag_by(self.pc, None, None, unlisted, false) {
             Some(flag) => StepResult::Flagged(flag),
             None => {

@@ -11,10 +11,10 @@ use Rattle.avr_model.specs.declared.rows.EnablePlace.{EnablePlace}
 use Rattle.avr_model.specs.Families.{FAMILIES, numbered, family_of}
 use Rattle.avr_model.specs.Devices.{device_row, io_end}
 use Rattle.avr_model.specs.Bits.{any_below}
-use Rattle.avr_model.specs.Vectors.{last_vector, is_vector, enable_places, covers, is_bit, is_core_by, is_core, has_common}
+use Rattle.avr_model.specs.Vectors.{last_vector, is_vector, enable_places, covers, is_bit, is_core, has_common}
 use Rattle.avr_model.specs.Laws.{PlacesAreApart}
 use Rattle.avr_model.proofs.Below.{some_below, any_found}
-use Rattle.avr_model.proofs.Facts.{core_of_device, passes}
+use Rattle.avr_model.proofs.Facts.{passes}
 
 -- ---- pairs of items of a list
 
@@ -52,7 +52,7 @@ one_or_two R xs p q all (i, li, pi) (j, lj, qj) =
 -- ---- the places of the table
 
 abbrev is_place : EnablePlace → Bool
-is_place p = nat_le 2 p.vector && (not (is_core_by true p.address) && (nat_lt p.mask 256 && (not (is_bit p.enable) || any_below 8 (λ b. p.mask == 2 ^ b))))
+is_place p = nat_le 2 p.vector && (nat_lt p.mask 256 && (not (is_bit p.enable) || any_below 8 (λ b. p.mask == 2 ^ b)))
 
 -- no common bit, and another place of the vector has another address; the place of an enable bit is its vector's only one
 abbrev are_apart : EnablePlace → EnablePlace → Bool
@@ -88,11 +88,14 @@ one : (d : Device) (p : EnablePlace) → Contains (enable_places d) p → is_pla
 unfolding enable_places
 one d p (k, lt, is) = ap is_place (sym is) ∙ one_of is_place (enable_places d) k p (each_place (device_row d).family) lt
 
-in_row : (d : Device) (p : EnablePlace) → Contains (enable_places d) p → (nat_le p.vector (last_vector d) && nat_le p.address (io_end d)) ≡ true
+-- what is tested of a place for the row that has it
+abbrev in_device : Device → EnablePlace → Bool
+in_device d p = nat_le p.vector (last_vector d) && (nat_le p.address (io_end d) && not (is_core d p.address))
+
+in_row : (d : Device) (p : EnablePlace) → Contains (enable_places d) p → in_device d p ≡ true
 unfolding enable_places
 in_row d p (k, lt, is) =
-    let test = λ (q : EnablePlace). nat_le q.vector (last_vector d) && nat_le q.address (io_end d) in
-    ap test (sym is) ∙ one_of test (enable_places d) k p (passes d 10) lt
+    ap (in_device d) (sym is) ∙ one_of (in_device d) (enable_places d) k p (passes d 10) lt
 
 two : (d : Device) (p q : EnablePlace) → Contains (enable_places d) p → Contains (enable_places d) q → (p ≡ q) ⊎ ((are_apart p q ≡ true) ⊎ (are_apart q p ≡ true))
 unfolding enable_places
@@ -162,15 +165,15 @@ not_core : (t : Bool) → not t ≡ true → t ≡ false
 not_core true e = absurd (cc)
 not_core false e = refl
 
-parts : (d : Device) (p : EnablePlace) → is_place p ≡ true → (nat_le p.vector (last_vector d) && nat_le p.address (io_end d)) ≡ true
+parts : (d : Device) (p : EnablePlace) → is_place p ≡ true → in_device d p ≡ true
     → (is_vector d p.vector ≡ true) × ((is_core d p.address ≡ false) × ((p.address ≤ io_end d) × (p.mask < 256)))
 parts d p h g =
-    let third = nat_lt p.mask 256 && (not (is_bit p.enable) || any_below 8 (λ b. p.mask == 2 ^ b)) in
-    let a = and_parts (nat_le 2 p.vector) (not (is_core_by true p.address) && third) h in
-    let b = and_parts (not (is_core_by true p.address)) third a.1 in
-    let c = and_parts (nat_lt p.mask 256) (not (is_bit p.enable) || any_below 8 (λ k. p.mask == 2 ^ k)) b.1 in
-    let e = and_parts (nat_le p.vector (last_vector d)) (nat_le p.address (io_end d)) g in
-    (vector_test p.vector (last_vector d) a.0 e.0, (core_of_device d p.address (not_core (is_core_by true p.address) b.0), (at_most_from_test p.address (io_end d) e.1, less_from_test p.mask 256 c.0)))
+    let last = not (is_bit p.enable) || any_below 8 (λ b. p.mask == 2 ^ b) in
+    let a = and_parts (nat_le 2 p.vector) (nat_lt p.mask 256 && last) h in
+    let c = and_parts (nat_lt p.mask 256) last a.1 in
+    let e = and_parts (nat_le p.vector (last_vector d)) (nat_le p.address (io_end d) && not (is_core d p.address)) g in
+    let f = and_parts (nat_le p.address (io_end d)) (not (is_core d p.address)) e.1 in
+    (vector_test p.vector (last_vector d) a.0 e.0, (not_core (is_core d p.address) f.1, (at_most_from_test p.address (io_end d) f.0, less_from_test p.mask 256 c.0)))
 
 each : (d : Device) → All (λ (p : EnablePlace). (is_vector d p.vector ≡ true) × ((is_core d p.address ≡ false) × ((p.address ≤ io_end d) × (p.mask < 256)))) (enable_places d)
 each d k default lt = let p = slice_index_or (enable_places d) k default in let there : Contains (enable_places d) p = (k, lt, any_default (enable_places d) k p default lt) in parts d p (one d p there) (in_row d p there)
@@ -185,9 +188,8 @@ other false b h e = absurd (cc)
 one_bit : (d : Device) (p : EnablePlace) → Contains (enable_places d) p → is_bit p.enable ≡ true → (b : ℕ) × ((b < 8) × (p.mask ≡ 2 ^ b))
 one_bit d p there is =
     let last = not (is_bit p.enable) || any_below 8 (λ b. p.mask == 2 ^ b) in
-    let a = and_parts (nat_le 2 p.vector) (not (is_core_by true p.address) && (nat_lt p.mask 256 && last)) (one d p there) in
-    let b = and_parts (not (is_core_by true p.address)) (nat_lt p.mask 256 && last) a.1 in
-    let c = and_parts (nat_lt p.mask 256) last b.1 in
+    let a = and_parts (nat_le 2 p.vector) (nat_lt p.mask 256 && last) (one d p there) in
+    let c = and_parts (nat_lt p.mask 256) last a.1 in
     let f = any_found 8 (λ k. p.mask == 2 ^ k) (other (is_bit p.enable) (any_below 8 (λ k. p.mask == 2 ^ k)) c.1 is) in
     (f.0, (f.1, equal_if p.mask (2 ^ f.0) f.2))
 

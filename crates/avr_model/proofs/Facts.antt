@@ -20,8 +20,8 @@ use Rattle.avr_model.specs.declared.rows.Ivsel.{Ivsel}
 use Rattle.avr_model.specs.declared.rows.EnablePlace.{EnablePlace}
 use Rattle.avr_model.specs.declared.device_table.TheConstants.{ROWS, LAST, CLASSES, LAST_CLASS}
 use Rattle.avr_model.specs.Families.{FAMILIES, family_of}
-use Rattle.avr_model.specs.Devices.{device_row, width, words_of, io_end, size_of, ramend, back_of, has_sph, sp_count, wrapped, limit_of, word_digits, depth_of}
-use Rattle.avr_model.specs.Vectors.{last_vector, watchdog, vector_word, is_core_by, is_core, covers}
+use Rattle.avr_model.specs.Devices.{device_row, width, words_of, io_end, size_of, ramend, back_of, has_sph, has_elpm, has_eijmp, rampz_most, eind_most, sp_count, wrapped, limit_of, word_digits, depth_of}
+use Rattle.avr_model.specs.Vectors.{last_vector, watchdog, vector_word, is_core_of, covers}
 
 -- ---- what is tested of each row, and of each place
 
@@ -29,16 +29,16 @@ use Rattle.avr_model.specs.Vectors.{last_vector, watchdog, vector_word, is_core_
 abbrev pub is_apart : Row → Option Ivsel → Bool
 is_apart r None = true
 is_apart r (Some s) =
-    nat_le 0x40 s.address && (nat_le s.address r.io_end && (not (is_core_by true s.address) && (nat_lt s.bit 8 && not (list_any (covers s.address s.bit) (family_of r.family)))))
+    nat_le 0x40 s.address && (nat_le s.address r.io_end && (not (is_core_of r s.address) && (nat_lt s.bit 8 && not (list_any (covers s.address s.bit) (family_of r.family)))))
 
 abbrev pub tests : Row → List Bool
 tests r =
     nat_le 9 r.width ∷ nat_le r.width 17 ∷ nat_le 0x5F r.io_end ∷ nat_le r.io_end 0x1FF ∷ nat_le r.size 32768 ∷ nat_le 2 r.last ∷ nat_le r.last 77 ∷ nat_le r.watchdog r.last
-    ∷ nat_lt (r.step * (r.last - 1)) (2 ^ r.width) ∷ ((r.step == 1) || (r.step == 2)) ∷ list_all (λ (p : EnablePlace). nat_le p.vector r.last && nat_le p.address r.io_end) (family_of r.family)
+    ∷ nat_lt (r.step * (r.last - 1)) (2 ^ r.width) ∷ ((r.step == 1) || (r.step == 2)) ∷ list_all (λ (p : EnablePlace). nat_le p.vector r.last && (nat_le p.address r.io_end && not (is_core_of r p.address))) (family_of r.family)
     ∷ nat_lt r.family (length FAMILIES) ∷ is_apart r r.ivsel ∷ nat_le 2 r.back ∷ nat_le r.back 3 ∷ nat_le (2 ^ r.width) (256 ^ r.back)
     ∷ (r.has_sph || nat_lt (r.io_end + r.size) 256) ∷ (r.has_sph || nat_le r.size 128) ∷ (r.has_sph || r.reads_masks)
     ∷ (not r.has_elpm || (65536 * (2 ^ r.width / 32768 - 1 + 1) == 2 * 2 ^ r.width)) ∷ (not r.has_eijmp || (65536 * (2 ^ r.width / 65536 - 1 + 1) == 2 ^ r.width)) ∷ (not r.has_elpmx || r.has_elpm)
-    ∷ (not r.has_elpm || nat_le 16 r.width) ∷ (not r.has_eijmp || (r.has_elpm && (r.width == 17))) ∷ nat_lt (r.io_end + r.size) 0x8200 ∷ []
+    ∷ (not r.has_elpm || nat_le 16 r.width) ∷ (not r.has_eijmp || (r.has_elpm && (r.width == 17))) ∷ nat_lt (r.io_end + r.size) 0x8200 ∷ (not r.has_elpm || r.reads_masks) ∷ []
 
 abbrev pub is_sound : Row → Bool
 is_sound r = list_all (λ b. b) (tests r)
@@ -178,20 +178,56 @@ small d none = at_most_from_test (size_of d) 128 (other _ _ (passes d 17) none)
 pub reads : (d : Device) → has_sph d ≡ false → (device_row d).reads_masks ≡ true
 reads d none = other _ _ (passes d 18) none
 
+told : (a b : Bool) → (not a || b) ≡ true → a ≡ true → b ≡ true
+told true b h e = h
+told false b h e = absurd (cc)
+
+equal : (x y : ℕ) → (x == y) ≡ true → x ≡ y
+equal x y e = grind (arith, nat_tests)
+
+pub banks : (d : Device) → has_elpm d ≡ true → 65536 * (rampz_most d + 1) ≡ 2 * words_of d
+banks d has =
+    ap (λ (b : Bool). 65536 * ((if b then words_of d / 32768 - 1 else 0) + 1)) has
+    ∙ equal (65536 * (words_of d / 32768 - 1 + 1)) (2 * words_of d) (told (has_elpm d) _ (passes d 19) has)
+
+pub far_words : (d : Device) → has_eijmp d ≡ true → 65536 * (eind_most d + 1) ≡ words_of d
+far_words d has =
+    ap (λ (b : Bool). 65536 * ((if b then words_of d / 65536 - 1 else 0) + 1)) has
+    ∙ equal (65536 * (words_of d / 65536 - 1 + 1)) (words_of d) (told (has_eijmp d) _ (passes d 20) has)
+
+pub most_rampz : (d : Device) → rampz_most d ≤ 3
+most_rampz d = by (has_elpm d)
+  where
+    by : (b : Bool) → (if b then words_of d / 32768 - 1 else 0) ≤ 3
+    by true = let m = most_words d in omega arith
+    by false = omega arith
+
+pub most_eind : (d : Device) → eind_most d ≤ 1
+most_eind d = by (has_eijmp d)
+  where
+    by : (b : Bool) → (if b then words_of d / 65536 - 1 else 0) ≤ 1
+    by true = let m = most_words d in omega arith
+    by false = omega arith
+
+-- flash has a byte behind the first 65,536, and a word, on a device with RAMPZ, with EIND
+pub some_banks : (d : Device) (n : ℕ) → n ≡ words_of d → has_elpm d ≡ true → 1 ≤ n / 32768
+some_banks d n is has = let e = banks d has in omega arith
+
+pub some_far : (d : Device) (n : ℕ) → n ≡ words_of d → has_eijmp d ≡ true → 1 ≤ n / 65536
+some_far d n is has = let e = far_words d has in omega arith
+
+pub elpm : (d : Device) → has_eijmp d ≡ true → has_elpm d ≡ true
+elpm d has = (and_parts (has_elpm d) _ (told (has_eijmp d) _ (passes d 23) has)).0
+
+pub elpm_reads : (d : Device) → has_elpm d ≡ true → (device_row d).reads_masks ≡ true
+elpm_reads d has = told (has_elpm d) _ (passes d 25) has
+
 pub in_sp : (d : Device) → ramend d < sp_count d
 in_sp d = by (has_sph d) refl
   where
     by : (b : Bool) → has_sph d ≡ b → ramend d < (if b then 65536 else 256)
     by true is = let a = most_bytes d in let b = most_io d in omega arith
     by false is = low_end d is
-
--- what is not in the core of a device with SPH is in none
-core_by : (high : Bool) (a : ℕ) → is_core_by true a ≡ false → is_core_by high a ≡ false
-core_by true a none = none
-core_by false a none = grind (arith, nat_tests)
-
-pub core_of_device : (d : Device) (a : ℕ) → is_core_by true a ≡ false → is_core d a ≡ false
-core_of_device d a none = core_by (has_sph d) a none
 
 -- ---- what the code computes
 

@@ -10,9 +10,9 @@ use Rattle.avr_model.specs.declared.rows.Ivsel.{Ivsel}
 use Rattle.avr_model.specs.declared.rows.EnablePlace.{EnablePlace}
 use Rattle.avr_model.specs.Families.{family_of}
 use Rattle.avr_model.specs.Devices.{device_row, io_end}
-use Rattle.avr_model.specs.Vectors.{enable_places, covers, is_core_by, is_core, is_bit_of, is_ivsel, enable_of}
+use Rattle.avr_model.specs.Vectors.{enable_places, covers, is_core, is_bit_of, is_ivsel, enable_of}
 use Rattle.avr_model.specs.Laws.{IvselIsApart}
-use Rattle.avr_model.proofs.Facts.{is_apart, core_of_device, passes}
+use Rattle.avr_model.proofs.Facts.{is_apart, passes}
 
 none_found : {X : Type 0} (p : X → Bool) (xs : List X) → list_any p xs ≡ false → find p xs ≡ None
 none_found p [] h = refl
@@ -40,9 +40,9 @@ apart_at d s h =
     let enables = not (list_any (covers s.address s.bit) (family_of (device_row d).family)) in
     let one = and_parts (nat_le 0x40 s.address) _ h in
     let two = and_parts (nat_le s.address (io_end d)) _ one.1 in
-    let three = and_parts (not (is_core_by true s.address)) (nat_lt s.bit 8 && enables) two.1 in
+    let three = and_parts (not (is_core d s.address)) (nat_lt s.bit 8 && enables) two.1 in
     let four = and_parts (nat_lt s.bit 8) enables three.1 in
-    record { least = one.0; most = two.0; core = core_of_device d s.address (not_true _ three.0); bit = four.0; enable = not_true _ four.1 }
+    record { least = one.0; most = two.0; core = not_true _ three.0; bit = four.0; enable = not_true _ four.1 }
 
 same : (x y : ℕ) → (x == y) ≡ true → x ≡ y
 same x y e = grind (arith, nat_tests)

@@ -6,7 +6,7 @@ use Rattle.avr_model.specs.declared.instruction.Base.TheVariants as base
 use Rattle.avr_model.specs.declared.device.TheConstants as device
 use Rattle.avr_model.specs.Devices.{Image, M328, device_row}
 use Rattle.avr_model.specs.Image.{WORDS}
-use Rattle.avr_model.specs.State.{SIZE, SPL, SPH, SREG}
+use Rattle.avr_model.specs.State.{SIZE, SPL, SPH, SREG, RAMPZ, EIND, REGISTERS}
 use Rattle.avr_model.specs.Table.{decoded, length_of}
 use Rattle.avr_model.specs.Text.{text_of}
 use Rattle.avr_model.specs.Sites.{is_scratch, is_fixed, path_behind, is_loaded_behind, ijmp_from, table_site}
@@ -28,6 +28,15 @@ code_has_sph = refl
 
 pub code_has_sreg : SREG ≡ device.SREG
 code_has_sreg = refl
+
+pub code_has_rampz : RAMPZ ≡ device.RAMPZ
+code_has_rampz = refl
+
+pub code_has_eind : EIND ≡ device.EIND
+code_has_eind = refl
+
+pub code_has_registers : REGISTERS ≡ device.REGISTERS
+code_has_registers = refl
 
 -- the ATmega328P's flash that begins with these words, and is erased behind them
 abbrev pub firmware : List ℕ → Image

@@ -13,7 +13,7 @@ use Rattle.avr_model.specs.declared.instruction.Base.TheVariants as base
 use Rattle.avr_model.specs.declared.instruction.Pointer.{Pointer}
 use Rattle.avr_model.specs.declared.instruction.Pointer.TheVariants as pointer
 use Rattle.avr_model.specs.Bits.{any_below, all_below}
-use Rattle.avr_model.specs.Devices.{Image, has_jmp, has_mul, has_elpm, has_break, has_movw, has_lpmx, wrapped, device_of}
+use Rattle.avr_model.specs.Devices.{Image, has_jmp, has_mul, has_elpm, has_elpmx, has_eijmp, has_break, has_movw, has_lpmx, wrapped, device_of}
 use Rattle.avr_model.specs.Image.{WORDS, word_at}
 use Rattle.avr_model.specs.Table.{decoded, length_of}
 use Rattle.avr_model.specs.Text.{far}
@@ -49,6 +49,18 @@ is_elpm (i.ElpmZ d) = true
 is_elpm (i.ElpmZPlus d) = true
 is_elpm _ = false
 
+-- `elpm` into a register that it names
+abbrev pub is_elpmx : Instr → Bool
+is_elpmx (i.ElpmZ d) = true
+is_elpmx (i.ElpmZPlus d) = true
+is_elpmx _ = false
+
+-- `eijmp` and `eicall`
+abbrev pub is_extended : Instr → Bool
+is_extended i.Eijmp = true
+is_extended i.Eicall = true
+is_extended _ = false
+
 abbrev pub is_movw : Instr → Bool
 is_movw (i.Movw d r) = true
 is_movw _ = false
@@ -63,7 +75,8 @@ is_lpmx _ = false
 abbrev pub is_lacking : Device → Instr → Bool
 is_lacking device x =
     (is_long_transfer x && not (has_jmp device)) || ((is_product x && not (has_mul device)) || ((is_elpm x && not (has_elpm device))
-    || ((is_break x && not (has_break device)) || ((is_movw x && not (has_movw device)) || (is_lpmx x && not (has_lpmx device))))))
+    || ((is_break x && not (has_break device)) || ((is_movw x && not (has_movw device)) || ((is_lpmx x && not (has_lpmx device))
+    || ((is_elpmx x && not (has_elpmx device)) || (is_extended x && not (has_eijmp device))))))))
 
 -- what the device lacks is no instruction on it
 abbrev pub on_device : Device → Option Instr → Option Instr
@@ -96,6 +109,8 @@ abbrev pub leaves : Instr → Bool
 leaves (i.Binary op d r) = is_skip op
 leaves i.Ijmp = true
 leaves i.Icall = true
+leaves i.Eijmp = true
+leaves i.Eicall = true
 leaves i.Ret = true
 leaves i.Reti = true
 leaves (i.Jmp k) = true
@@ -212,8 +227,10 @@ abbrev pub is_some_that : (Instr → Bool) → Option Instr → Bool
 is_some_that p None = false
 is_some_that p (Some x) = p x
 
+-- `ijmp`, or `eijmp`
 abbrev pub is_ijmp : Instr → Bool
 is_ijmp i.Ijmp = true
+is_ijmp i.Eijmp = true
 is_ijmp _ = false
 
 -- the next word of a path: the target of a jump, or the word after an instruction of this size; none after a branch, skip, call or return
@@ -226,7 +243,7 @@ abbrev pub from_word : Device → (ℕ → Option ℕ) → Option ℕ → Option
 from_word device on None = None
 from_word device on (Some a) = on (wrapped device a)
 
--- A path ends at an `ijmp`, whose word it gives, or without one at an undefined word. `on` is the path from another word.
+-- A path ends at an `ijmp` or `eijmp`, whose word it gives, or without one at an undefined word. `on` is the path from another word.
 abbrev pub way_on : Device → (ℕ → Option ℕ) → ℕ → ℕ → Option Instr → Option ℕ
 way_on device on a size None = None
 way_on device on a size (Some x) = if is_ijmp x then Some a else from_word device on (onward a size x)

@@ -7,7 +7,7 @@ use crate::rows::{
 };
 
 /// The devices by their index: the name and the fields of `Row` in their order.
-pub const ROWS: [Row; 91] = rows! {
+pub const ROWS: [Row; 97] = rows! {
     [atmega48pa     11 2  0xFF   512 sph 1 26  7          0x0 -   mul movw lpmx -    -     -     break -     -         0]
     [atmega88pa     12 2  0xFF  1024 sph 1 26  7          0x0 -   mul movw lpmx -    -     -     break -     [0x55 1]  0]
     [atmega168pa    13 2  0xFF  1024 sph 2 26  7          0x0 jmp mul movw lpmx -    -     -     break -     [0x55 1]  0]
@@ -99,6 +99,12 @@ pub const ROWS: [Row; 91] = rows! {
     [attiny26       10 2  0x5F   128 -   1 12  0          0x0 -   -   -    -    -    -     -     -     masks -        49]
     [attiny261      10 2  0x5F   128 -   1 19 13          0x0 -   -   movw lpmx -    -     -     break masks -        37]
     [atmega64rfr2   15 2 0x1FF  8192 sph 2 77 13          0x0 jmp mul movw lpmx -    -     -     break masks [0x55 1] 50]
+    [atmega103      16 2  0x5F  4000 sph 2 24  0          0x0 jmp -   -    -    elpm -     -     -     masks -        51]
+    [atmega128rfa1  16 2 0x1FF 16384 sph 2 72 13          0x0 jmp mul movw lpmx elpm elpmx -     break masks [0x55 1] 52]
+    [atmega128rfr2  16 2 0x1FF 16384 sph 2 77 13          0x0 jmp mul movw lpmx elpm elpmx -     break masks [0x55 1] 50]
+    [atmega2560     17 3 0x1FF  8192 sph 2 57 13          0x0 jmp mul movw lpmx elpm elpmx eijmp break masks [0x55 1]  9]
+    [atmega2561     17 3 0x1FF  8192 sph 2 51 13          0x0 jmp mul movw lpmx elpm elpmx eijmp break masks [0x55 1] 53]
+    [atmega256rfr2  17 3 0x1FF 32768 sph 2 77 13          0x0 jmp mul movw lpmx elpm elpmx eijmp break masks [0x55 1] 50]
 };
 
 /// The ATmega328P, and the row of every index behind the table.
@@ -491,8 +497,37 @@ pub const FAMILY_50: [EnablePlace; 70] = enable_places! {
     [73 0xBE 0x01] [74 0xBE 0x02] [75 0xBE 0x04] [76 0xBE 0x08] [77 0xBE 0x10]
 };
 
+/// The enable places of the devices of family 51.
+pub const FAMILY_51: [EnablePlace; 23] = enable_places! {
+    [2 0x59 0x01] [3 0x59 0x02] [4 0x59 0x04] [5 0x59 0x08] [6 0x59 0x10] [7 0x59 0x20] [8 0x59 0x40] [9 0x59 0x80] [10 0x57 0x80]
+    [11 0x57 0x40] [12 0x57 0x20] [13 0x57 0x10] [14 0x57 0x08] [15 0x57 0x04] [16 0x57 0x02] [17 0x57 0x01] [18 0x2D 0x80]
+    [19 0x2A 0x80] [20 0x2A 0x20] [21 0x2A 0x40] [22 0x26 0x08] [23 0x3C 0x08] [24 0x28 0x08]
+};
+
+/// The enable places of the devices of family 52.
+pub const FAMILY_52: [EnablePlace; 65] = enable_places! {
+    [2 0x3D 0x01] [3 0x3D 0x02] [4 0x3D 0x04] [5 0x3D 0x08] [6 0x3D 0x10] [7 0x3D 0x20] [8 0x3D 0x40] [9 0x3D 0x80] [10 0x68 0x01]
+    [11 0x68 0x02] [12 0x68 0x04] [13 0x60 0x40] [14 0x70 0x02] [15 0x70 0x04] [16 0x70 0x01] [17 0x6F 0x20] [18 0x6F 0x02]
+    [19 0x6F 0x04] [20 0x6F 0x08] [21 0x6F 0x01] [22 0x6E 0x02] [23 0x6E 0x04] [24 0x6E 0x01] [25 0x4C 0x80] [26 0xC1 0x80]
+    [27 0xC1 0x20] [28 0xC1 0x40] [29 0x50 0x08] [30 0x7A 0x08] [31 0x3F 0x08] [32 0x71 0x20] [33 0x71 0x02] [34 0x71 0x04]
+    [35 0x71 0x08] [36 0x71 0x01] [37 0xC9 0x80] [38 0xC9 0x20] [39 0xC9 0x40] [40 0xBC 0x01] [41 0x57 0x80] [42 0x72 0x20]
+    [43 0x72 0x02] [44 0x72 0x04] [45 0x72 0x08] [46 0x72 0x01] [47 0x73 0x20] [48 0x73 0x02] [49 0x73 0x04] [50 0x73 0x08]
+    [51 0x73 0x01] [58 0x14E 0x01] [59 0x14E 0x02] [60 0x14E 0x04] [61 0x14E 0x08] [62 0x14E 0x10] [63 0x14E 0x20] [64 0x14E 0x40]
+    [65 0x14E 0x80] [66 0xDF 0x01] [67 0xDF 0x02] [68 0xDF 0x04] [69 0xDF 0x08] [70 0xDF 0x10] [71 0x13C 0x04] [72 0x151 0x40]
+};
+
+/// The enable places of the devices of family 53.
+pub const FAMILY_53: [EnablePlace; 47] = enable_places! {
+    [2 0x3D 0x01] [3 0x3D 0x02] [4 0x3D 0x04] [5 0x3D 0x08] [6 0x3D 0x10] [7 0x3D 0x20] [8 0x3D 0x40] [9 0x3D 0x80] [10 0x68 0x01]
+    [11 0x68 0x02] [13 0x60 0x40] [14 0x70 0x02] [15 0x70 0x04] [16 0x70 0x01] [17 0x6F 0x20] [18 0x6F 0x02] [19 0x6F 0x04]
+    [20 0x6F 0x08] [21 0x6F 0x01] [22 0x6E 0x02] [23 0x6E 0x04] [24 0x6E 0x01] [25 0x4C 0x80] [26 0xC1 0x80] [27 0xC1 0x20]
+    [28 0xC1 0x40] [29 0x50 0x08] [30 0x7A 0x08] [31 0x3F 0x08] [32 0x71 0x20] [33 0x71 0x02] [34 0x71 0x04] [35 0x71 0x08]
+    [36 0x71 0x01] [37 0xC9 0x80] [38 0xC9 0x20] [39 0xC9 0x40] [40 0xBC 0x01] [41 0x57 0x80] [43 0x72 0x02] [44 0x72 0x04]
+    [45 0x72 0x08] [46 0x72 0x01] [48 0x73 0x02] [49 0x73 0x04] [50 0x73 0x08] [51 0x73 0x01]
+};
+
 /// The name of each device in texts, by its index in the table; filled up with zeros.
-pub const CLASSES: [[u8; LONGEST]; 91] = texts! {
+pub const CLASSES: [[u8; LONGEST]; 97] = texts! {
     b"atmega48pa\0\0\0\0" b"atmega88pa\0\0\0\0" b"atmega168pa\0\0\0" b"atmega328p\0\0\0\0" b"at90can128\0\0\0\0" b"at90can32\0\0\0\0\0"
     b"at90can64\0\0\0\0\0" b"at90pwm1\0\0\0\0\0\0" b"at90pwm161\0\0\0\0" b"at90pwm2\0\0\0\0\0\0" b"at90pwm216\0\0\0\0"
     b"at90pwm81\0\0\0\0\0" b"at90usb1286\0\0\0" b"at90usb1287\0\0\0" b"at90usb162\0\0\0\0" b"at90usb646\0\0\0\0" b"at90usb647\0\0\0\0"
@@ -510,13 +545,14 @@ pub const CLASSES: [[u8; LONGEST]; 91] = texts! {
     b"at90s4414\0\0\0\0\0" b"at90s4433\0\0\0\0\0" b"at90s4434\0\0\0\0\0" b"at90s8515\0\0\0\0\0" b"at90s8535\0\0\0\0\0"
     b"atmega324pb\0\0\0" b"atmega328pb\0\0\0" b"attiny13\0\0\0\0\0\0" b"attiny22\0\0\0\0\0\0" b"attiny2313\0\0\0\0" b"attiny2313a\0\0\0"
     b"attiny24\0\0\0\0\0\0" b"attiny25\0\0\0\0\0\0" b"attiny26\0\0\0\0\0\0" b"attiny261\0\0\0\0\0" b"atmega64rfr2\0\0"
+    b"atmega103\0\0\0\0\0" b"atmega128rfa1\0" b"atmega128rfr2\0" b"atmega2560\0\0\0\0" b"atmega2561\0\0\0\0" b"atmega256rfr2\0"
 };
 
 /// The name of every index behind the table.
 pub const LAST_CLASS: [u8; LONGEST] = *b"atmega328p\0\0\0\0";
 
 /// All names, with the devices that they mean.
-pub const NAMES: [Name; 163] = names! {
+pub const NAMES: [Name; 171] = names! {
     0: b"atmega48pa\0\0\0\0" b"atmega48\0\0\0\0\0\0" b"atmega48a\0\0\0\0\0" b"atmega48p\0\0\0\0\0";
     1: b"atmega88pa\0\0\0\0" b"ata6612c\0\0\0\0\0\0" b"atmega88\0\0\0\0\0\0" b"atmega88a\0\0\0\0\0" b"atmega88p\0\0\0\0\0";
     2: b"atmega168pa\0\0\0" b"ata6613c\0\0\0\0\0\0" b"atmega168\0\0\0\0\0" b"atmega168a\0\0\0\0" b"atmega168p\0\0\0\0";
@@ -608,4 +644,10 @@ pub const NAMES: [Name; 163] = names! {
     88: b"attiny26\0\0\0\0\0\0";
     89: b"attiny261\0\0\0\0\0" b"attiny261a\0\0\0\0";
     90: b"atmega64rfr2\0\0" b"atmega644rfr2\0";
+    91: b"atmega103\0\0\0\0\0";
+    92: b"atmega128rfa1\0";
+    93: b"atmega128rfr2\0" b"atmega1284rfr2";
+    94: b"atmega2560\0\0\0\0";
+    95: b"atmega2561\0\0\0\0";
+    96: b"atmega256rfr2\0" b"atmega2564rfr2";
 };

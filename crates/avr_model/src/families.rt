@@ -62,6 +62,9 @@ pub(crate) fn family(number: u8) -> &'static [EnablePlace]
         48 => &table::FAMILY_48,
         49 => &table::FAMILY_49,
         50 => &table::FAMILY_50,
+        51 => &table::FAMILY_51,
+        52 => &table::FAMILY_52,
+        53 => &table::FAMILY_53,
         _ => &[],
     }
 }

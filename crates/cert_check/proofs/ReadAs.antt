@@ -80,11 +80,12 @@ read_node followed k s h = record {
     carry = h.formed.carry;
     ranges = h.formed.ranges;
     slot_ranges = h.formed.slot_ranges;
-    facts = read_fits followed s.registers s.facts h.formed.ranges h.formed.facts;
+    facts = read_fits followed s.registers s.facts (λ r lt. h.formed.ranges r (omega (arith, lt))) h.formed.facts;
   };
   tags = record { registers = h.tags.registers; slots = h.tags.slots };
   carry_bytes = h.carry_bytes;
   untagged = λ root. let u = h.untagged root in record { registers = u.registers; entry = u.entry; carry = u.carry; slots = u.slots };
+  registers_of = let b = h.registers_of in record { registers = b.registers; slots = b.slots; rampz = b.rampz; eind = b.eind };
   mode = read_mode followed s.registers s.facts;
   hulls = read_in_hulls followed s.registers s.facts h.hulls;
 }

@@ -12,7 +12,7 @@ use Rattle.line_reading.specs.Words.{IsWord, WordLaws}
 use Rattle.line_reading.proofs.AllLaws.{map_some, bind_some, no_words}
 use Rattle.node_keys.specs.declared.keys.InstKey.{InstKey}
 use Rattle.node_keys.specs.declared.keys.NodeKey.{NodeKey}
-use Rattle.node_keys.specs.Keys.{offset_of}
+use Rattle.node_keys.specs.Keys.{offset_of, is_root}
 use Rattle.edge_rules.specs.declared.seeded.NodeForm.{NodeForm}
 use Rattle.edge_rules.specs.declared.seeded.NodeForm.TheVariants.{State, From}
 use Rattle.certificate.specs.declared.instance.Inst.{Inst}
@@ -22,7 +22,7 @@ use Rattle.certificate.specs.Claims.{FitsAt}
 use Rattle.certificate.specs.Versions.{NodeIsOf, is_third}
 use Rattle.cert_words.specs.KeySpelling.{inst_key_words, place_words, form_words}
 use Rattle.cert_words.specs.Text.{inst_words, node_words_at}
-use Rattle.cert_words.specs.KeyReading.{is_root, inst_key_at, form_at}
+use Rattle.cert_words.specs.KeyReading.{inst_key_at, form_at}
 use Rattle.cert_words.specs.KeyLaws.{KeyWords}
 use Rattle.cert_words.proofs.AllLaws.{depth_room, word_take, dec_take, joined_words, cons}
 use Rattle.cert_format.specs.LineReading.{inst_in, place_at, whole_key_at, node_in}
@@ -114,12 +114,12 @@ unfolding node_in whole_key_at
 node_take device k v version insts at ws n e =
     let key = bind_some (whole_key_at device version insts ws) _ n e in
     let x = bind_some (place_at insts ws) _ key.0 key.1 in
-    let s = bind_some (form_at version (is_root key.0.0.inst.kind) (offset_of key.0.0.sp) at key.0.1) _ n key.2 in
+    let s = bind_some (form_at device version (is_root key.0.0.inst.kind) (offset_of key.0.0.sp) at key.0.1) _ n key.2 in
     let last = over_end {A = NodeKey × NodeForm} (key.0.0, s.0.0) n s.0.1 s.2 in
     let place = place_take k insts ws x.0 x.1 in
     let front = v.places.spelled device version x.0.0 x.0.1 key.0.1 key.0.0 x.2 in
     let form = v.forms.spelled device version at key.0.0 key.0.1 s.0.1 s.0.0 front.key_fits s.1 in
-    let behind : key.0.1 ≡ form_words version s.0.0 = form.0 ∙ ap (λ (xs : List (List ℕ)). form_words version s.0.0 ++ xs) last.0 ∙ append-nil (form_words version s.0.0) in
+    let behind : key.0.1 ≡ form_words device version s.0.0 = form.0 ∙ ap (λ (xs : List (List ℕ)). form_words device version s.0.0 ++ xs) last.0 ∙ append-nil (form_words device version s.0.0) in
     let P : NodeKey × NodeForm → Type 0 = λ y. IsNodeLine device version insts at ws y in
     subst P last.1 (record {
       place = place.place;
@@ -137,9 +137,9 @@ node_again : (device : Device) → WordLaws → KeyWords → (version : Version)
     → node_in device version insts at (node_words_at device version place n) ≡ Some n
 unfolding node_in whole_key_at
 node_again device k v version insts at place n few small i h o =
-    let rest : List (List ℕ) = place_words device version n.0 ++ form_words version n.1 in
+    let rest : List (List ℕ) = place_words device version n.0 ++ form_words device version n.1 in
     let first : place_at insts (node_words_at device version place n) ≡ Some (n.0.inst, rest) = place_again k insts place i.inst rest small i.there ∙ ap (λ (x : InstKey). Some (x, rest)) i.same in
-    let key = v.places.read device version n.0 (form_words version n.1) (key_of device (is_third version) at n.0 n.1 h) o.key in
+    let key = v.places.read device version n.0 (form_words device version n.1) (key_of device (is_third version) at n.0 n.1 h) o.key in
     let form = v.forms.read device version at n.0 n.1 few h o.form in
     rw (first, key, form) refl
 
@@ -148,7 +148,7 @@ node_plain device k v version at place n few small h o = (
   ((refl, (refl, (refl, (refl, tt)))), (refl, (refl, (refl, (refl, tt))))),
   (
     k.dec_word place (omega (arith, small)),
-    joined_words (place_words device version n.0) (form_words version n.1) (v.places.words device version n.0 (key_of device (is_third version) at n.0 n.1 h)) (v.forms.words device version at n.0 n.1 few h o.form),
+    joined_words (place_words device version n.0) (form_words device version n.1) (v.places.words device version n.0 (key_of device (is_third version) at n.0 n.1 h)) (v.forms.words device version at n.0 n.1 few h o.form),
   ),
 )
 

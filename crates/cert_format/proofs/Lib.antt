@@ -5,6 +5,7 @@ pub mod Lists
 pub mod FirstEntries
 pub mod Kept
 pub mod Parts
+pub mod Devices
 pub mod Numbers
 pub mod Stops
 pub mod Whole

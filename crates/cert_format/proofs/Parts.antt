@@ -28,9 +28,10 @@ use Rattle.cert_format.specs.declared.fault.CertFault.TheVariants as fault
 use Rattle.certificate.specs.Claims.{most_nodes}
 use Rattle.certificate.specs.declared.version.Version.{Version}
 use Rattle.certificate.specs.declared.version.Version.TheVariants.{One, Two, Three}
+use Rattle.avr_model.specs.Devices.{has_elpm}
 use Rattle.avr_model.specs.Names.{class_of, device_of_class}
 use Rattle.certificate.specs.Versions.{says_device}
-use Rattle.cert_words.specs.Text.{numbered, version_line, device_line, device_lines, heading, open_line, attained_line, witness_lines, end_line}
+use Rattle.cert_words.specs.Text.{numbered, version_word, version_line, device_line, device_lines, heading, open_line, attained_line, witness_lines, end_line}
 use Rattle.cert_format.specs.Reading.{formed, numbered_in, numbered_by, counted, count_at, count_in, count_by, limited, version_by, other_by, device_in, device_by, for_this, device_at, ending_by, items_from, heading_at, plan_if, witness_at, if_last, end_at}
 use Rattle.cert_words.proofs.AllLaws.{depth_room, same_text, word_take, dec_take, word_by_take, class_word, class_named}
 use Rattle.cert_format.proofs.FirstEntries.{version_read}
@@ -202,44 +203,58 @@ list_again by words P refused reads name xs p q few fit h =
 
 -- ---- the version
 
-version_is : (says : Bool) (t : List ℕ) (version : Version) → version_by says t ≡ Some version → t ≡ spaced (version_line says version)
+-- the first line of a text that says its device or not, with RAMPZ or without
+abbrev pub first_line : Bool → Bool → Version → List (List ℕ)
+first_line says banked version = codes "stackcert" ∷ version_word says banked version ∷ []
+
+own_is : (banked : Bool) (t : List ℕ) (version : Version) → version_by false banked t ≡ Some version → t ≡ spaced (first_line false banked version)
 unfolding version_by
-version_is true t version e =
-    let g = cond_some (bytes_eq t (spaced (version_line true Two))) Two version e in
-    (bytes_eq-Decides t (spaced (version_line true Two))).0 g.0
-version_is false t version e =
-    let P : Version → Type 0 = λ x. t ≡ spaced (version_line false x) in
-    elim (chosen (bytes_eq t (spaced (version_line false One))) _ _ (Some version) e) [
-      | inl h ↦ subst P (same_Some One version h.1) ((bytes_eq-Decides t (spaced (version_line false One))).0 h.0)
-      | inr h ↦ elim (chosen (bytes_eq t (spaced (version_line false Two))) _ _ (Some version) h.1) [
-        | inl f ↦ subst P (same_Some Two version f.1) ((bytes_eq-Decides t (spaced (version_line false Two))).0 f.0)
-        | inr f ↦ let g = cond_some (bytes_eq t (spaced (version_line false Three))) Three version f.1 in subst P g.1 ((bytes_eq-Decides t (spaced (version_line false Three))).0 g.0)
+own_is banked t version e =
+    let P : Version → Type 0 = λ x. t ≡ spaced (first_line false banked x) in
+    elim (chosen (bytes_eq t (spaced (first_line false banked One))) _ _ (Some version) e) [
+      | inl h ↦ subst P (same_Some One version h.1) ((bytes_eq-Decides t (spaced (first_line false banked One))).0 h.0)
+      | inr h ↦ elim (chosen (bytes_eq t (spaced (first_line false banked Two))) _ _ (Some version) h.1) [
+        | inl f ↦ subst P (same_Some Two version f.1) ((bytes_eq-Decides t (spaced (first_line false banked Two))).0 f.0)
+        | inr f ↦ let g = cond_some (bytes_eq t (spaced (first_line false banked Three))) Three version f.1 in subst P g.1 ((bytes_eq-Decides t (spaced (first_line false banked Three))).0 g.0)
       ]
     ]
 
+version_is : (says banked : Bool) (t : List ℕ) (version : Version) → version_by says banked t ≡ Some version → t ≡ spaced (first_line says banked version)
+unfolding version_by
+version_is true true t version e =
+    let g = cond_some (bytes_eq t (spaced (first_line true true Two))) Two version e in
+    (bytes_eq-Decides t (spaced (first_line true true Two))).0 g.0
+version_is true false t version e =
+    let g = cond_some (bytes_eq t (spaced (first_line true false Two))) Two version e in
+    (bytes_eq-Decides t (spaced (first_line true false Two))).0 g.0
+version_is false banked t version e = own_is banked t version e
+
 -- where the text says its device
-later_by : (says : Bool) (t : List ℕ) (version : Version) → version_by says t ≡ Some version → says ≡ true → version ≡ Two
+later_by : (says banked : Bool) (t : List ℕ) (version : Version) → version_by says banked t ≡ Some version → says ≡ true → version ≡ Two
 unfolding version_by
-later_by true t version e h = sym (cond_some (bytes_eq t (spaced (version_line true Two))) Two version e).1
-later_by false t version e h = absurd (false≢true h)
+later_by true true t version e h = sym (cond_some (bytes_eq t (spaced (first_line true true Two))) Two version e).1
+later_by true false t version e h = sym (cond_some (bytes_eq t (spaced (first_line true false Two))) Two version e).1
+later_by false banked t version e h = absurd (false≢true h)
 
-pub version_again : (says : Bool) (version : Version) → version_by says (spaced (version_line says version)) ≡ Some (version_read says version)
+pub version_again : (says banked : Bool) (version : Version) → version_by says banked (spaced (first_line says banked version)) ≡ Some (version_read says version)
 unfolding version_by
-version_again true version = refl
-version_again false One = refl
-version_again false Two = refl
-version_again false Three = refl
+version_again true true version = refl
+version_again true false version = refl
+version_again false banked One = refl
+version_again false banked Two = refl
+version_again false banked Three = refl
 
-pub version_take : (says : Bool) (p : Position) (z : Version × Position) → formed (line_by (version_by says) p) ≡ Ok z → Stand p (version_line says z.0 ∷ []) z.1 × (says ≡ true → z.0 ≡ Two)
-version_take says p z e =
-    let l = line_takes (version_by says) p z.0 z.1 (formed_ok (line_by (version_by says) p) z e) in
-    (as_words (version_by says) p z.0 z.1 l (version_line says z.0) (version_is says l.text z.0 l.read), later_by says l.text z.0 l.read)
+pub version_take : (says banked : Bool) (p : Position) (z : Version × Position) → formed (line_by (version_by says banked) p) ≡ Ok z → Stand p (first_line says banked z.0 ∷ []) z.1 × (says ≡ true → z.0 ≡ Two)
+version_take says banked p z e =
+    let l = line_takes (version_by says banked) p z.0 z.1 (formed_ok (line_by (version_by says banked) p) z e) in
+    (as_words (version_by says banked) p z.0 z.1 l (first_line says banked z.0) (version_is says banked l.text z.0 l.read), later_by says banked l.text z.0 l.read)
 
-pub version_plain : (says : Bool) (version : Version) → AllByRecursion IsWord (version_line says version)
-version_plain true version = plain (version_line true version) refl
-version_plain false One = plain (version_line false One) refl
-version_plain false Two = plain (version_line false Two) refl
-version_plain false Three = plain (version_line false Three) refl
+pub version_plain : (says banked : Bool) (version : Version) → AllByRecursion IsWord (first_line says banked version)
+version_plain true true version = plain (first_line true true version) refl
+version_plain true false version = plain (first_line true false version) refl
+version_plain false banked One = plain (first_line false banked One) refl
+version_plain false banked Two = plain (first_line false banked Two) refl
+version_plain false banked Three = plain (first_line false banked Three) refl
 
 -- ---- the device
 
@@ -330,15 +345,16 @@ pub heading_take : (device : Device) → WordLaws → (p : Position) (z : (Versi
 unfolding heading_at
 heading_take device k p z e =
     let says = says_device device in
-    let v = then_ok (formed (line_by (version_by says) p)) _ z e in
+    let banked = has_elpm device in
+    let v = then_ok (formed (line_by (version_by says banked) p)) _ z e in
     let d = then_ok (device_at says device v.0.1) _ z v.2 in
     let n = then_ok (formed (line_by (numbered_by (codes "bound") 0 (depth_of device)) d.0.1)) _ z d.2 in
     let b = number_take k (codes "bound") 0 (depth_of device) d.0.1 n.0 (depth_room device) n.1 in
-    let first = version_take says p v.0 v.1 in
+    let first = version_take says banked p v.0 v.1 in
     let second = stand_more v.0.1 d.0.1 n.0.1 (device_lines says device) (numbered (codes "bound") n.0.0 ∷ []) (device_take k says device v.0.1 d.0 d.1) b.0 in
     let P : (Version × ℕ) × Position → Type 0 = λ y. HeadingPart device p y in
     subst P (ok_is {A = (Version × ℕ) × Position} ((v.0.0, n.0.0), n.0.1) z n.2) (record {
-      lines = stand_more p v.0.1 n.0.1 (version_line says v.0.0 ∷ []) (device_lines says device ++ numbered (codes "bound") n.0.0 ∷ []) first.0 second;
+      lines = stand_more p v.0.1 n.0.1 (version_line device v.0.0 ∷ []) (device_lines says device ++ numbered (codes "bound") n.0.0 ∷ []) first.0 second;
       small = b.2;
       later = first.1;
     })
@@ -348,10 +364,11 @@ unfolding heading_at
 heading_again device k p version n q small h =
     let says = says_device device in
     let last : List (List (List ℕ)) = numbered (codes "bound") n ∷ [] in
-    let s = stand_cut p q (version_line says version ∷ []) (device_lines says device ++ last) h in
+    let banked = has_elpm device in
+    let s = stand_cut p q (version_line device version ∷ []) (device_lines says device ++ last) h in
     let t = stand_cut s.0 q (device_lines says device) last s.2 in
-    let first : formed (line_by (version_by says) p) ≡ Ok (version_read says version, s.0) =
-    ap formed (line_again (version_by says) p s.0 (spaced (version_line says version)) (version_read says version) (version_again says version) s.1) in
+    let first : formed (line_by (version_by says banked) p) ≡ Ok (version_read says version, s.0) =
+    ap formed (line_again (version_by says banked) p s.0 (spaced (version_line device version)) (version_read says version) (version_again says banked version) s.1) in
     let second = device_again k says device s.0 t.0 t.1 in
     let third = number_line k (codes "bound") 0 (depth_of device) n t.0 q (plain (codes "bound" ∷ []) refl).0 (depth_room device) (omega arith) small t.2 in
     rw (first, second, third) refl

@@ -13,7 +13,7 @@ use Rattle.avr_model.specs.declared.assumption.Entry.{Entry}
 use Rattle.avr_model.specs.declared.assumption.Entry.TheVariants.{Pairs}
 use Rattle.avr_model.specs.Assumptions.{has_pairs}
 use Rattle.avr_model.specs.declared.device.Device.{Device}
-use Rattle.avr_model.specs.Devices.{depth_of}
+use Rattle.avr_model.specs.Devices.{depth_of, has_elpm}
 use Rattle.avr_model.specs.Names.{class_of}
 use Rattle.text_base.specs.Answers.{Answers}
 use Rattle.text_base.specs.Lines.{TextLine, Position, words_of, spaced}
@@ -51,7 +51,7 @@ use Rattle.cert_format.proofs.Lists.{err_ok, formed_ok, AllFrom, all_of_any, adm
 use Rattle.cert_format.proofs.Items.{cells_more}
 use Rattle.cert_format.proofs.FirstEntries.{version_read, firsts, firsts_count, firsts_mode, firsts_are, with_later}
 use Rattle.cert_format.proofs.Kept.{EntryOf, entry_steady, entry_spells, entry_reads, AnyInst, inst_steady, insts_kept, inst_spells, inst_reads, inst_above_is, FitsNode, node_steady, NodesKeep, nodes_kept, node_spells, node_reads, node_above_is, keys_append}
-use Rattle.cert_format.proofs.Parts.{Stand, stand_more, plain, numbered_again, numbered_plain, number_take, nodes_take, this_again, this_take, version_again, version_take, decided, other_is, device_is, device_reads, other_name, name_words, named_word, device_take, heading_take, witness_part, ending_again, ending_words, ending_is}
+use Rattle.cert_format.proofs.Parts.{Stand, first_line, stand_more, plain, numbered_again, numbered_plain, number_take, nodes_take, this_again, this_take, version_again, version_take, decided, other_is, device_is, device_reads, other_name, name_words, named_word, device_take, heading_take, witness_part, ending_again, ending_words, ending_is}
 use Rattle.cert_format.proofs.Stops.{err_is, then_stop, formed_err, line_stop, not_next, is_next, Stop, ItemRefused, ItemsStop, items_stop}
 use Rattle.cert_format.proofs.Whole.{LowerLaws, first_take, same_line, some_keep, some_mode, some_stand, entries_take, insts_take, nodes_part, claim_of, fitting_nodes, read_is_spelled}
 
@@ -88,7 +88,7 @@ with_insts device version n es xs small h mode later hx ax few = certificate_of 
 settled_heading : (device : Device) (version : Version) (n : ℕ) (es : List Entry) (p q : Position) → Stand p (heading device version n) q → Stand p (heading device (version_with (says_device device) version es) n) q
 settled_heading device version n es p q h =
     let P : List (List ℕ) → Type 0 = λ l. Stand p (l ∷ (device_lines (says_device device) device ++ numbered (codes "bound") n ∷ [])) q in
-    subst P (same_line (says_device device) version es) h
+    subst P (same_line (says_device device) (has_elpm device) version es) h
 
 paired_settled : (says : Bool) (version : Version) (es : List Entry) → (says || is_third version) ≡ (says || is_third (version_with says version es))
 paired_settled true version es = refl
@@ -116,8 +116,9 @@ no_this line ls none ws next h = not_next (this_by (spaced line)) ls ws tt none 
 
 -- ---- the heading
 
-no_version : (says : Bool) (ls : List TextLine) → first_by (version_by says) ls ≡ None → (ws : List (List ℕ)) → IsNextLine ls ws → (version : Version) × (ws ≡ version_line says version) → ⊥
-no_version says ls none ws next h = not_next (version_by says) ls ws (version_read says h.0) none next (ap (λ (xs : List (List ℕ)). version_by says (spaced xs)) h.1 ∙ version_again says h.0)
+no_version : (says banked : Bool) (ls : List TextLine) → first_by (version_by says banked) ls ≡ None → (ws : List (List ℕ)) → IsNextLine ls ws → (version : Version) × (ws ≡ first_line says banked version) → ⊥
+no_version says banked ls none ws next h =
+    not_next (version_by says banked) ls ws (version_read says h.0) none next (ap (λ (xs : List (List ℕ)). version_by says banked (spaced xs)) h.1 ∙ version_again says banked h.0)
 
 -- ---- the device
 
@@ -133,7 +134,7 @@ no_name device k ls none ws next h =
     ∙ ap (device_in device) (k.words_stand (codes "device") (h.0 ∷ []) (name_words h.0 (named_word h.1 h.0 h.2))) ∙ device_reads device h.0 t.0 t.1)
 
 -- where the text says its device, this claim stands before it
-device_stops : (device : Device) → WordLaws → (says : Bool) → says_device device ≡ says → (version : Version) (p v : Position) (g : CertFault) → (says ≡ true → version ≡ Two) → Stand p (version_line (says_device device) version ∷ []) v → device_at says device v ≡ Err g
+device_stops : (device : Device) → WordLaws → (says : Bool) → says_device device ≡ says → (version : Version) (p v : Position) (g : CertFault) → (says ≡ true → version ≡ Two) → Stand p (version_line device version ∷ []) v → device_at says device v ≡ Err g
     → IsCertificateRefused device p g
 unfolding device_at
 device_stops device k false is version p v g later lines e = absurd (err_ok {A = Unit {0} × Position} g (tt, v) (sym e))
@@ -166,12 +167,13 @@ heading_stops : (device : Device) → WordLaws → (p : Position) (g : CertFault
 unfolding heading_at
 heading_stops device k p g e =
     let says = says_device device in
-    elim (then_stop (formed (line_by (version_by says) p)) _ g e) [
+    let banked = has_elpm device in
+    elim (then_stop (formed (line_by (version_by says banked) p)) _ g e) [
       | inl h ↦
-          let t = line_stop (version_by says) p g h in
-          malformed device p (claim_to device Two 0 [] [] [] None) Begin p g (record { is = refl; fits = bound_only device Two 0 (omega arith) (λ s. refl); room = tt; lines = passes_none p }) (no_version says p.rest t.0) t.1
+          let t = line_stop (version_by says banked) p g h in
+          malformed device p (claim_to device Two 0 [] [] [] None) Begin p g (record { is = refl; fits = bound_only device Two 0 (omega arith) (λ s. refl); room = tt; lines = passes_none p }) (no_version says banked p.rest t.0) t.1
       | inr v ↦
-          let first = version_take says p v.0 v.1 in
+          let first = version_take says banked p v.0 v.1 in
           elim (then_stop (device_at says device v.0.1) _ g v.2) [
             | inl h ↦ device_stops device k says refl v.0.0 p v.0.1 g first.1 first.0 h
             | inr d ↦ elim (then_stop (formed (line_by (numbered_by (codes "bound") 0 (depth_of device)) d.0.1)) _ g d.2) [
@@ -182,7 +184,7 @@ heading_stops device k p g e =
                     is = refl;
                     fits = bound_only device v.0.0 0 (omega arith) (λ s. ap is_first (first.1 s));
                     room = tt;
-                    lines = stand_more p v.0.1 d.0.1 (version_line says v.0.0 ∷ []) (device_lines says device) first.0 (device_take k says device v.0.1 d.0 d.1);
+                    lines = stand_more p v.0.1 d.0.1 (version_line device v.0.0 ∷ []) (device_lines says device) first.0 (device_take k says device v.0.1 d.0 d.1);
                   })
                   (no_number k (codes "bound") 0 (depth_of device) d.0.1.rest (plain (codes "bound" ∷ []) refl).0 (depth_room device) t.0) t.1
               | inr b ↦ absurd (err_ok {A = (Version × ℕ) × Position} g ((v.0.0, b.0.0), b.0.1) (sym b.2))

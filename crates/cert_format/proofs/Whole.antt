@@ -10,10 +10,10 @@ use Rattle.avr_model.specs.declared.assumption.Entry.{Entry}
 use Rattle.avr_model.specs.declared.assumption.Entry.TheVariants.{Pairs}
 use Rattle.avr_model.specs.Assumptions.{has_pairs}
 use Rattle.avr_model.specs.declared.device.Device.{Device}
-use Rattle.avr_model.specs.Devices.{depth_of}
+use Rattle.avr_model.specs.Devices.{depth_of, has_elpm}
 use Rattle.text_base.specs.Answers.{Answers}
-use Rattle.text_base.specs.Lines.{Position, lines_of, spaced, line, joined}
-use Rattle.line_reading.specs.Words.{IsWord, WordLaws}
+use Rattle.text_base.specs.Lines.{TextLine, Position, lines_of, spaced, line, joined}
+use Rattle.line_reading.specs.Words.{IsWord, WordLaws, whole}
 use Rattle.vector_table.specs.Entries.{is_entry, fits_device, most_entries}
 use Rattle.assumption_files.specs.Spelling.{entry_words}
 use Rattle.assumption_files.specs.Exact.{EntryWords, AreEntriesOf}
@@ -33,7 +33,7 @@ use Rattle.certificate.specs.Insts.{IsInst, inst_keys}
 use Rattle.certificate.specs.Claims.{Claim, AreFrom, IsClaim, IsCertificate, most_instances, most_nodes}
 use Rattle.cert_format.specs.LineLaws.{InstLines, NodeLines}
 use Rattle.avr_model.specs.Names.{class_of}
-use Rattle.cert_words.specs.Text.{numbered, version_line, device_lines, inst_words, node_words, heading, entry_lines, inst_lines, node_lines, witness_lines, end_line, front_lines, certificate_lines, text_of}
+use Rattle.cert_words.specs.Text.{numbered, device_lines, inst_words, node_words, heading, entry_lines, inst_lines, node_lines, witness_lines, end_line, front_lines, certificate_lines, text_of}
 use Rattle.cert_format.specs.Reading.{entry_by, inst_by, node_by, refused_entry, refused_inst, refused_node, formed, numbered_by, count_by, limited, heading_at, is_admitted, is_paired, version_with, least_entries, first_at, entries_at, insts_at, nodes_at, witness_at, end_at, claim_at, claim_alone, certificate_in}
 use Rattle.cert_format.specs.Exact.{ReadCertificateIsSpelled, SpelledCertificateIsRead, CertificatesHaveOneText, PartsMakeClaims}
 use Rattle.std.proofs.lemmas.Bool.{and_from}
@@ -44,7 +44,8 @@ use Rattle.cert_format.proofs.Lists.{ok_is, err_ok, then_ok, AllFrom, all_of_any
 use Rattle.cert_format.proofs.FirstEntries.{version_read, firsts, firsts_count, firsts_mode, firsts_are, begins_read, with_mode, with_later, version_settled}
 use Rattle.cert_format.proofs.Kept.{FitsEntry, EntryOf, AreFew, entry_steady, entries_kept, modes_kept, entries_admitted, entry_spells, entry_reads, AnyInst, inst_steady, insts_kept, insts_admitted, inst_spells, inst_reads, FitsNode, node_steady, NodesKeep, nodes_kept, nodes_admitted, node_spells, node_reads, node_is_plain, all_from, all_belong, all_of_version, all_fit}
 use Rattle.cert_format.proofs.Versions.{each_of, are_of}
-use Rattle.cert_format.proofs.Parts.{Stand, stand_more, stand_cut, before, stand, plain, numbered_plain, this_take, this_line, number_take, number_line, nodes_take, nodes_line, ListPart, list_take, list_again, version_plain, heading_take, heading_again, name_words, witness_part, witness_again, end_part, end_again}
+use Rattle.cert_format.proofs.Devices.{one_device}
+use Rattle.cert_format.proofs.Parts.{Stand, first_line, stand_more, stand_cut, before, stand, plain, numbered_plain, this_take, this_line, number_take, number_line, nodes_take, nodes_line, ListPart, list_take, list_again, version_plain, heading_take, heading_again, name_words, witness_part, witness_again, end_part, end_again}
 
 -- the laws of the lower crates
 pub record LowerLaws : Type 0 where
@@ -196,9 +197,10 @@ nodes_again device b version insts few p ns q keep all most s =
 -- ---- what is read is spelled so
 
 -- where the text says its device, its first line is that of every version
-pub same_line : (says : Bool) (version : Version) (es : List Entry) → version_line says version ≡ version_line says (version_with says version es)
-same_line true version es = refl
-same_line false version es = refl
+pub same_line : (says banked : Bool) (version : Version) (es : List Entry) → first_line says banked version ≡ first_line says banked (version_with says version es)
+same_line true true version es = refl
+same_line true false version es = refl
+same_line false banked version es = refl
 
 pub claim_of : (device : Device) (version : Version) (n : ℕ) (es : List Entry) (xs : List Inst) (ns : Seeds) (w : Option Plan) → n ≤ depth_of device → AreEntriesOf device es → is_third version ≡ has_pairs es → (says_device device ≡ true → is_first version ≡ false) → AllByRecursion (IsInst device) xs → IsStrictlySortedBy inst_cmp (inst_keys xs) → length xs ≤ most_instances
     → AllFrom (FitsNode device version xs) 0 ns → NodesKeep ns → length ns ≤ most_nodes → IsClaim (record { device = device; version = version; bound = n; assumptions = es; instances = xs; nodes = ns; witness = w })
@@ -258,7 +260,7 @@ claim_take device k p z e =
     let third = stand_more a.0.1 i.0.1 n.0.1 (inst_lines device i.0.0) (node_lines device version i.0.0 n.0.0) insts.lines nodes.lines in
     let second = stand_more b.0.1 a.0.1 n.0.1 (entry_lines device a.0.0) (inst_lines device i.0.0 ++ node_lines device version i.0.0 n.0.0) entries.lines third in
     let H : List (List ℕ) → Type 0 = λ l. Stand p (l ∷ (device_lines says device ++ numbered (codes "bound") b.0.0.1 ∷ [])) b.0.1 in
-    let first = stand_more p b.0.1 n.0.1 (heading device version b.0.0.1) (entry_lines device a.0.0 ++ (inst_lines device i.0.0 ++ node_lines device version i.0.0 n.0.0)) (subst H (same_line says b.0.0.0 a.0.0) top.lines) second in
+    let first = stand_more p b.0.1 n.0.1 (heading device version b.0.0.1) (entry_lines device a.0.0 ++ (inst_lines device i.0.0 ++ node_lines device version i.0.0 n.0.0)) (subst H (same_line says (has_elpm device) b.0.0.0 a.0.0) top.lines) second in
     let all = stand_more p n.0.1 d.0.1 (heading device version b.0.0.1 ++ (entry_lines device a.0.0 ++ (inst_lines device i.0.0 ++ node_lines device version i.0.0 n.0.0))) (witness_lines w.0.0 ++ end_line ∷ []) first last in
     let P : Claim × Position → Type 0 = λ y. ClaimRead device p y in
     subst P (ok_is {A = Claim × Position} (record { device = device; version = version; bound = b.0.0.1; assumptions = a.0.0; instances = i.0.0; nodes = n.0.0; witness = w.0.0 }, d.0.1) z d.2) (record {
@@ -300,10 +302,10 @@ node_plain_all : (device : Device) → LowerLaws → (version : Version) (insts 
 node_plain_all device b version insts few at [] most h = tt
 node_plain_all device b version insts few at (n ∷ ns) most h = (node_is_plain device b.nodes b.keys version insts few at n (omega (arith, most)) h.0, node_plain_all device b version insts few (at + 1) ns (omega (arith, most)) h.1)
 
-heading_plain : (says : Bool) (device : Device) (version : Version) (n : ℕ) → AllByRecursion IsWord (numbered (codes "bound") n)
-    → AllByRecursion (AllByRecursion IsWord) (version_line says version ∷ (device_lines says device ++ numbered (codes "bound") n ∷ []))
-heading_plain true device version n h = (version_plain true version, (name_words (class_of device) (class_word device), (h, tt)))
-heading_plain false device version n h = (version_plain false version, (h, tt))
+heading_plain : (says banked : Bool) (device : Device) (version : Version) (n : ℕ) → AllByRecursion IsWord (numbered (codes "bound") n)
+    → AllByRecursion (AllByRecursion IsWord) (first_line says banked version ∷ (device_lines says device ++ numbered (codes "bound") n ∷ []))
+heading_plain true banked device version n h = (version_plain true banked version, (name_words (class_of device) (class_word device), (h, tt)))
+heading_plain false banked device version n h = (version_plain false banked version, (h, tt))
 
 pub fitting_nodes : (c : Claim) → IsClaim c → AllFrom (FitsNode c.device c.version c.instances) 0 c.nodes
 fitting_nodes c h = all_fit c.device c.version c.instances 0 c.nodes (subst (λ followed. AreFrom c.device followed 0 c.nodes) (sym h.of_list) h.nodes_fit) h.nodes_belong (each_of c.version c.nodes h.of_version)
@@ -322,7 +324,7 @@ front_plain b c h =
       numbered_plain k (codes "nodes") (length c.nodes) (plain (codes "nodes" ∷ []) refl).0 (omega (arith, h.few_nodes)),
       node_plain_all c.device b c.version c.instances h.few_insts 0 c.nodes (omega (arith, h.few_nodes)) (fitting_nodes c h),
     ) in
-    joined_plain (heading c.device c.version c.bound) (entry_lines c.device c.assumptions ++ (inst_lines c.device c.instances ++ node_lines c.device c.version c.instances c.nodes)) (heading_plain (says_device c.device) c.device c.version c.bound bound) (joined_plain (entry_lines c.device c.assumptions) (inst_lines c.device c.instances ++ node_lines c.device c.version c.instances c.nodes) entries (joined_plain (inst_lines c.device c.instances) (node_lines c.device c.version c.instances c.nodes) insts nodes))
+    joined_plain (heading c.device c.version c.bound) (entry_lines c.device c.assumptions ++ (inst_lines c.device c.instances ++ node_lines c.device c.version c.instances c.nodes)) (heading_plain (says_device c.device) (has_elpm c.device) c.device c.version c.bound bound) (joined_plain (entry_lines c.device c.assumptions) (inst_lines c.device c.instances ++ node_lines c.device c.version c.instances c.nodes) entries (joined_plain (inst_lines c.device c.instances) (node_lines c.device c.version c.instances c.nodes) insts nodes))
 
 again_at : LowerLaws → (c : Claim) → IsClaim c → (p q : Position) → Stand p (front_lines c) q
     → (a : Position) × (d : Position) × (f : Position) × (heading_at c.device p ≡ Ok ((version_read (says_device c.device) c.version, c.bound), a)) × (entries_at c.device (version_read (says_device c.device) c.version) a ≡ Ok (c.assumptions, d)) × (insts_at c.device d ≡ Ok (c.instances, f)) × (nodes_at c.device c.version c.instances f ≡ Ok (c.nodes, q))
@@ -363,8 +365,21 @@ spelled_is_read b c h =
     let a = claim_again b c h in
     ap (λ (text : List ℕ). claim_alone (claim_at c.device (before 0 text))) (text_parts c) ∙ ap claim_alone a.1
 
+-- the lines of a certificate's text begin with those before the schedule
+opening : LowerLaws → (c : Claim) → IsCertificate c → (rest : List TextLine) × (lines_of (text_of c) ≡ map whole (front_lines c) ++ rest)
+opening k c h =
+    let text : List ℕ = flat_map line (witness_lines c.witness) ++ flat_map line (end_line ∷ []) in
+    let s = stand k.words (front_lines c) 0 text (front_plain k c h.claim) in
+    (lines_of text, ap lines_of (text_parts c) ∙ s.lines)
+
 pub one_text : LowerLaws → CertificatesHaveOneText
-one_text k a b h g same e = ok_is a b (sym (spelled_is_read k a h) ∙ ap₂ (λ (d : Device) (text : List ℕ). certificate_in d text) same e ∙ spelled_is_read k b g)
+one_text k a b h g same e =
+    let x = opening k a h in
+    let y = opening k b g in
+    let rest : Claim → List (List (List ℕ)) = λ c. entry_lines c.device c.assumptions ++ (inst_lines c.device c.instances ++ node_lines c.device c.version c.instances c.nodes) in
+    let bound : Claim → List (List (List ℕ)) = λ c. numbered (codes "bound") c.bound ∷ [] in
+    let device = one_device k.words a.device b.device (says_device a.device) (says_device b.device) refl refl (has_elpm a.device) (has_elpm b.device) a.version b.version (bound a) (rest a) (bound b) (rest b) x.0 y.0 (sym x.1 ∙ ap lines_of e ∙ y.1) same in
+    ok_is a b (sym (spelled_is_read k a h) ∙ ap₂ (λ (d : Device) (text : List ℕ). certificate_in d text) device e ∙ spelled_is_read k b g)
 
 -- ---- what is answered
 

@@ -1,5 +1,5 @@
 -- The texts that are certificates for a device, by the spelling alone.
-use Rattle.std.specs.Prelude.{◌≡◌, ◌≤◌, ℕ, List, None, Result, Ok}
+use Rattle.std.specs.Prelude.{◌≡◌, ◌≤◌, ℕ, List, false, None, Result, Ok}
 use Rattle.avr_model.specs.declared.assumption.Entry.{Entry}
 use Rattle.avr_model.specs.declared.device.Device.{Device}
 use Rattle.avr_model.specs.Devices.{depth_of}
@@ -27,9 +27,11 @@ ReadCertificateIsSpelled = (device : Device) (text : List ℕ) (c : Claim) → c
 abbrev pub SpelledCertificateIsRead : Type 0
 SpelledCertificateIsRead = (c : Claim) → IsCertificate c → certificate_in c.device (text_of c) ≡ Ok c
 
--- the text of two certificates for one device is that of one certificate
+-- Two certificates with one text are equal if they are for one device, or if the text says its device.
 abbrev pub CertificatesHaveOneText : Type 0
-CertificatesHaveOneText = (a b : Claim) → IsCertificate a → IsCertificate b → a.device ≡ b.device → text_of a ≡ text_of b → a ≡ b
+CertificatesHaveOneText =
+    (a b : Claim) → IsCertificate a → IsCertificate b → (says_device a.device ≡ false → says_device b.device ≡ false → a.device ≡ b.device)
+    → text_of a ≡ text_of b → a ≡ b
 
 -- the parts that are read form a claim
 abbrev pub PartsMakeClaims : Type 0

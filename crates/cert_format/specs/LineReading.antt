@@ -6,11 +6,11 @@ use Rattle.avr_model.specs.Devices.{depth_of}
 use Rattle.line_reading.specs.Reading.{◌>>=◌, dec_at, word_at, is_over}
 use Rattle.node_keys.specs.declared.keys.InstKey.{InstKey}
 use Rattle.node_keys.specs.declared.keys.NodeKey.{NodeKey}
-use Rattle.node_keys.specs.Keys.{offset_of}
+use Rattle.node_keys.specs.Keys.{offset_of, is_root}
 use Rattle.edge_rules.specs.declared.seeded.NodeForm.{NodeForm}
 use Rattle.certificate.specs.declared.instance.Inst.{Inst}
 use Rattle.certificate.specs.declared.version.Version.{Version}
-use Rattle.cert_words.specs.KeyReading.{is_root, inst_key_at, node_key_at, form_at}
+use Rattle.cert_words.specs.KeyReading.{inst_key_at, node_key_at, form_at}
 
 unfoldable pub inst_in : Device → List (List ℕ) → Option Inst
 inst_in device ws = do
@@ -36,5 +36,5 @@ whole_key_at device version insts ws = place_at insts ws >>= λ x. node_key_at d
 unfoldable pub node_in : Device → Version → List Inst → ℕ → List (List ℕ) → Option (NodeKey × NodeForm)
 node_in device version insts at ws = do
   key ← whole_key_at device version insts ws
-  form ← form_at version (is_root key.0.inst.kind) (offset_of key.0.sp) at key.1
+  form ← form_at device version (is_root key.0.inst.kind) (offset_of key.0.sp) at key.1
   if is_over form.1 then Some (key.0, form.0) else None

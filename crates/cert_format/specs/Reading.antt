@@ -7,7 +7,7 @@ use Rattle.avr_model.specs.declared.assumption.Entry.{Entry}
 use Rattle.avr_model.specs.declared.assumption.Entry.TheVariants.{Pairs, Masks, Jump, Store, Prove, Free, Never, Frame, Recur, Scratch}
 use Rattle.avr_model.specs.declared.device.Device.{Device}
 use Rattle.avr_model.specs.Names.{class_of, device_of_class}
-use Rattle.avr_model.specs.Devices.{depth_of}
+use Rattle.avr_model.specs.Devices.{depth_of, has_elpm}
 use Rattle.text_base.specs.Answers.{Answers}
 use Rattle.text_base.specs.Digits.{dec_answer}
 use Rattle.text_base.specs.declared.digits.DigitFault.{DigitFault}
@@ -101,10 +101,12 @@ inst_by device text = inst_in device (words_of text)
 abbrev pub node_by : Device → Version → List Inst → ℕ → List ℕ → Option (NodeKey × NodeForm)
 node_by device version insts at text = node_in device version insts at (words_of text)
 
--- The version by a text's first line. Where the text says its device, the second stands until the assumptions are read.
-unfoldable pub version_by : Bool → List ℕ → Option Version
-version_by true text = if bytes_eq text (codes "stackcert 4") then Some Two else None
-version_by false text =
+-- The version by a text's first line. Where the text says its device, with RAMPZ or without, the second stands until the assumptions are
+-- read.
+unfoldable pub version_by : Bool → Bool → List ℕ → Option Version
+version_by true true text = if bytes_eq text (codes "stackcert 5") then Some Two else None
+version_by true false text = if bytes_eq text (codes "stackcert 4") then Some Two else None
+version_by false banked text =
     if bytes_eq text (codes "stackcert 1") then Some One
     else (if bytes_eq text (codes "stackcert 2") then Some Two else (if bytes_eq text (codes "stackcert 3") then Some Three else None))
 
@@ -220,7 +222,7 @@ device_at false device p = Ok (tt, p)
 -- the version, the device and the bound
 unfoldable pub heading_at : Device → Position → Result ((Version × ℕ) × Position) CertFault
 heading_at device p =
-    then_at (formed (line_by (version_by (says_device device)) p)) (λ v.
+    then_at (formed (line_by (version_by (says_device device) (has_elpm device)) p)) (λ v.
     then_at (device_at (says_device device) device v.1) (λ d.
     then_at (formed (line_by (numbered_by (codes "bound") 0 (depth_of device)) d.1)) (λ b. Ok ((v.0, b.0), b.1))))
 

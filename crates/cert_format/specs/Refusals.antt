@@ -52,8 +52,8 @@ pub data CertPart : Type 0 where
 -- the lines of a certificate before this part, with the items read so far
 abbrev pub lines_to : Claim → CertPart → List (List (List ℕ))
 lines_to c Begin = []
-lines_to c Named = version_line (says_device c.device) c.version ∷ []
-lines_to c Bound = version_line (says_device c.device) c.version ∷ device_lines (says_device c.device) c.device
+lines_to c Named = version_line c.device c.version ∷ []
+lines_to c Bound = version_line c.device c.version ∷ device_lines (says_device c.device) c.device
 lines_to c Assume = heading c.device c.version c.bound
 lines_to c (FirstEntry n) = heading c.device c.version c.bound ++ numbered (codes "assume") n ∷ []
 lines_to c (AnEntry n) = heading c.device c.version c.bound ++ numbered (codes "assume") n ∷ map (entry_words c.device) c.assumptions
@@ -118,7 +118,7 @@ IsNaming P ws = (name : List ℕ) × (device : Device) × (device_of_class name 
 
 -- words of the form of this part
 abbrev pub IsOfForm : Claim → CertPart → List (List ℕ) → Type 0
-IsOfForm c Begin ws = (version : Version) × (ws ≡ version_line (says_device c.device) version)
+IsOfForm c Begin ws = (version : Version) × (ws ≡ version_line c.device version)
 IsOfForm c Named ws = IsNaming (λ name device. ⊤) ws
 IsOfForm c Bound ws = IsNumbered (codes "bound") 0 (depth_of c.device) ws
 IsOfForm c Assume ws = IsNumbered (codes "assume") (least_entries c.version) most_entries ws

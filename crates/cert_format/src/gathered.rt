@@ -16,6 +16,7 @@ use crate::lines::{instance_of, node_of};
 use assumption_files::entry_of;
 use avr_model::assumption::Entry;
 use avr_model::device::Device;
+use cert_words::Form;
 use certificate::{Inst, Limit, MOST_CELLS, Version, says_device};
 use edge_rules::NodeForm;
 use node_keys::NodeKey;
@@ -277,7 +278,11 @@ impl<'a> Gathered for NodeList<'a> {
         at: usize,
     ) -> Result<(), CertFault> {
         let number = self.nodes.len();
-        match node_of(alloc, text, device, self.version, self.instances, number)? {
+        let form = Form {
+            device,
+            version: self.version,
+        };
+        match node_of(alloc, form, text, self.instances, number)? {
             Some(node) => self.append(node, at),
             None => Err(CertFault::Malformed(at)),
         }

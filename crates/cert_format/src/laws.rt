@@ -19,8 +19,8 @@ pub fn item_lines()
     key_words();
 }
 
-/// Reading and spelling of certificates are inverse, and no text is that of two certificates. A refused line has the reason. The parts of
-/// a text form a claim.
+/// Reading and spelling of certificates are inverse. Two certificates with one text are equal if they are for one device, or if the text
+/// says its device. A refused line has the reason. The parts of a text form a claim.
 pub fn certificate_texts()
     ensures read { ReadCertificateIsSpelled }
     ensures spelled { SpelledCertificateIsRead }

@@ -8,8 +8,8 @@ ghost use Rattle.node_keys.specs.Keys.{offset_of};
 ghost use Rattle.cert_format.specs.LineReading.{inst_in, whole_key_at, node_in};
 
 use avr_model::device::Device;
-use cert_words::{inst_key_of, is_root, node_form_of, node_key_of};
-use certificate::{Inst, Version};
+use cert_words::{Form, inst_key_of, node_form_of, node_key_of};
+use certificate::Inst;
 use edge_rules::NodeForm;
 use line_reading::{dec_word, expect_word, is_over};
 use node_keys::NodeKey;
@@ -45,47 +45,40 @@ pub(crate) fn instance_of(device: Device, text: &[u8]) -> Option<Inst>
 
 // A node's key: its place, and its instance by number.
 #[tactic(auto, unfolding(crate::specs::LineReading::whole_key_at, crate::specs::LineReading::place_at))]
-fn whole_key_of(
-    words: &mut Words<'_>,
-    device: Device,
-    version: Version,
-    instances: &[Inst],
-) -> Option<NodeKey>
-    ensures exact { option_map (λ k. (k, words.new)) result ≡ whole_key_at device version instances.now words.old }
-    ensures small { IfSome result (λ k. offset_of k.sp ≤ depth_of device) }
+fn whole_key_of(form: Form, words: &mut Words<'_>, instances: &[Inst]) -> Option<NodeKey>
+    ensures exact { option_map (λ k. (k, words.new)) result ≡ whole_key_at form.device form.version instances.now words.old }
+    ensures small { IfSome result (λ k. offset_of k.sp ≤ depth_of form.device) }
 {
     let (Some(()), Some(place)) = (expect_word(words, b"node"), dec_word(words, 65_535)) else {
         return None;
     };
     let instance = instances.get(place as usize)?;
-    node_key_of(words, device, version, &instance.key)
+    node_key_of(form, words, &instance.key)
 }
 
-// The node of the line number `at` in a certificate for the device, of this version.
+// The node of the line number `at` in a certificate of this form.
 #[tactic(auto, unfolding(crate::specs::LineReading::node_in))]
 pub(crate) fn node_of(
     alloc: Global,
+    form: Form,
     text: &[u8],
-    device: Device,
-    version: Version,
     instances: &[Inst],
     at: usize,
 ) -> Result<Option<(NodeKey, NodeForm)>, AllocError>
-    ensures exact { IfOk result (λ o. o ≡ node_in device version instances.now at (words_of text.now)) }
-    ensures small { IfOk result (λ o. IfSome o (λ n. offset_of n.0.sp ≤ depth_of device)) }
+    ensures exact { IfOk result (λ o. o ≡ node_in form.device form.version instances.now at (words_of text.now)) }
+    ensures small { IfOk result (λ o. IfSome o (λ n. offset_of n.0.sp ≤ depth_of form.device)) }
 {
     let mut words = Words::new(text);
-    let Some(key) = whole_key_of(&mut words, device, version, instances) else {
+    let Some(key) = whole_key_of(form, &mut words, instances) else {
         return Ok(None);
     };
-    let root = is_root(key.inst.kind);
-    let Some(form) = node_form_of(alloc, &mut words, version, root, key.offset(), at)? else {
+    let Some(node_form) = node_form_of(alloc, form, &mut words, &key, at)? else {
         return Ok(None);
     };
     if is_over(&mut words) {
-        Ok(Some((key, form)))
+        Ok(Some((key, node_form)))
     } else {
-        drop(form);
+        drop(node_form);
         Ok(None)
     }
 }

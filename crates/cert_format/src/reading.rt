@@ -21,6 +21,7 @@ use crate::laws::certificate_texts;
 use assumption_files::MOST_ENTRIES;
 use avr_model::device::Device;
 use avr_model::naming::{class_of, device_of_class};
+use cert_words::Form;
 use certificate::{
     Certificate, Inst, Limit, MOST_INSTANCES, MOST_NODES, Version, says_device, written_version,
 };
@@ -140,16 +141,15 @@ fn read_first(
 #[tactic(auto, unfolding(crate::specs::Reading::entries_at))]
 fn read_entries(
     alloc: Global,
-    device: Device,
+    form: Form,
     reader: &mut LineReader<'_>,
-    version: Version,
 ) -> Result<Assumptions, CertFault>
-    ensures { Reads reader.new result (entries_at device version reader.old) }
+    ensures { Reads reader.new result (entries_at form.device form.version reader.old) }
 {
-    let least = least_entries(version);
+    let least = least_entries(form.version);
     let count = read_numbered(reader, b"assume", least, MOST_ENTRIES as u64)?;
-    let mut list = read_first(alloc, reader, version)?;
-    read_each(alloc, device, reader, &mut list, count - least)?;
+    let mut list = read_first(alloc, reader, form.version)?;
+    read_each(alloc, form.device, reader, &mut list, count - least)?;
     Ok(list)
 }
 
@@ -172,16 +172,15 @@ fn read_instances(
 #[tactic(auto, unfolding(crate::specs::Reading::nodes_at))]
 fn read_nodes(
     alloc: Global,
-    device: Device,
+    form: Form,
     reader: &mut LineReader<'_>,
-    version: Version,
     instances: &[Inst],
 ) -> Result<Vec<(NodeKey, NodeForm)>, CertFault>
-    ensures { ReadsAs (λ v. v.items) reader.new result (nodes_at device version instances.now reader.old) }
+    ensures { ReadsAs (λ v. v.items) reader.new result (nodes_at form.device form.version instances.now reader.old) }
 {
     let count = read_count(reader)?;
-    let mut list = NodeList::empty(alloc, version, instances);
-    let told = read_each(alloc, device, reader, &mut list, count);
+    let mut list = NodeList::empty(alloc, form.version, instances);
+    let told = read_each(alloc, form.device, reader, &mut list, count);
     told.and(Ok(list.into_nodes()))
 }
 
@@ -221,17 +220,31 @@ fn read_witness(
     }
 }
 
+// The version in the next line of a text that says its device, with RAMPZ or without.
+#[tactic(auto, unfolding(crate::specs::Reading::version_by))]
+fn said_version(text: &[u8], banked: bool) -> Option<Version>
+    ensures { result ≡ version_by true banked text.now }
+{
+    let line = if banked {
+        b"stackcert 5"
+    } else {
+        b"stackcert 4"
+    };
+    if text == line.as_slice() {
+        Some(Version::Two)
+    } else {
+        None
+    }
+}
+
 // The version in the next line of a text that says its device, or doesn't.
 #[tactic(auto, unfolding(crate::specs::Reading::version_by))]
-fn version_of(reader: &LineReader<'_>, says: bool) -> Option<Version>
-    ensures { result ≡ first_by (version_by says) reader.now.rest }
+fn version_of(reader: &LineReader<'_>, says: bool, banked: bool) -> Option<Version>
+    ensures { result ≡ first_by (version_by says banked) reader.now.rest }
 {
     let text = peek_text(reader)?;
     if says {
-        if text == b"stackcert 4".as_slice() {
-            return Some(Version::Two);
-        }
-        return None;
+        return said_version(text, banked);
     }
     if text == b"stackcert 1".as_slice() {
         Some(Version::One)
@@ -297,7 +310,7 @@ fn read_heading(device: Device, reader: &mut LineReader<'_>) -> Result<(Version,
     ensures small { IfOk result (λ h. h.1 ≤ depth_of device) }
 {
     let says = says_device(device);
-    let found = version_of(reader, says);
+    let found = version_of(reader, says, device.has_elpm());
     let version = take_line(reader, found)?;
     read_device(device, says, reader)?;
     let bound = read_numbered(reader, b"bound", 0, u64::from(device.depth()))?;
@@ -338,10 +351,14 @@ fn read_claim(
 {
     certificate_texts();
     let (first, bound) = read_heading(device, reader)?;
-    let assumptions = read_entries(alloc, device, reader, first)?;
+    let entries_form = Form {
+        device,
+        version: first,
+    };
+    let assumptions = read_entries(alloc, entries_form, reader)?;
     let instances = read_instances(alloc, device, reader)?;
     let version = version_with(device, first, &assumptions);
-    let nodes = read_nodes(alloc, device, reader, version, &instances)?;
+    let nodes = read_nodes(alloc, Form { device, version }, reader, &instances)?;
     let witness = read_witness(alloc, device, reader)?;
     read_end(reader)?;
     let claim = Certificate::of_version(

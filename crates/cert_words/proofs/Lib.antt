@@ -3,11 +3,13 @@ pub mod Classes
 pub mod Pieces
 pub mod PairHulls
 pub mod Any
+pub mod Tags
 pub mod Words
 pub mod Loops
 pub mod Fields
 pub mod InstKeys
 pub mod NodeKeys
+pub mod Banks
 pub mod States
 pub mod Places
 pub mod AllLaws

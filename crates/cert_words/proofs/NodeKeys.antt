@@ -24,7 +24,7 @@ use Rattle.node_keys.specs.declared.keys.High.{High}
 use Rattle.node_keys.specs.declared.keys.High.TheVariants as high
 use Rattle.node_keys.specs.declared.keys.SpForm.{SpForm}
 use Rattle.node_keys.specs.declared.keys.SpForm.TheVariants.{Closed, Open}
-use Rattle.node_keys.specs.Keys.{offset_of, PickFits}
+use Rattle.node_keys.specs.Keys.{offset_of, is_root, PickFits}
 use Rattle.local_rules.specs.Cover.{HighFitsKind, FormFitsKind, IsKey}
 use Rattle.certificate.specs.declared.version.Version.{Version}
 use Rattle.certificate.specs.declared.version.Version.TheVariants.{One, Two, Three}
@@ -32,7 +32,7 @@ use Rattle.certificate.specs.Versions.{PickIsOf}
 use Rattle.cert_words.specs.Spelling.{form_word}
 use Rattle.cert_words.specs.KeySpelling.{masks_digits, pick_word, pick_words, place_words}
 use Rattle.cert_words.specs.Reading.{form_in}
-use Rattle.cert_words.specs.KeyReading.{masks_at, flag_at, is_root, pick_in, pick_at, node_key_at}
+use Rattle.cert_words.specs.KeyReading.{masks_at, flag_at, pick_in, pick_at, node_key_at}
 use Rattle.cert_words.specs.Fits.{IsHigh, IsSpForm}
 use Rattle.cert_words.specs.Laws.{ValueWords}
 use Rattle.cert_words.specs.KeyLaws.{IsPlaceSpelled, PlaceWords}

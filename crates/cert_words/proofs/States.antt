@@ -1,5 +1,5 @@
 -- Reading and spelling of the form of a node are inverse.
-use Rattle.std.proofs.Common.{ℕ, ◌<◌, ◌≤◌, ◌≡◌, inl, inr, List, [], ◌∷◌, ◌++◌, length, length-append, map, codes, Bool, true, false, refl, ap, ap₂, sym, ◌∙◌, arith, Option, Some, None, nat_lt, subst, lit<, append_assoc}
+use Rattle.std.proofs.Common.{ℕ, ◌<◌, ◌≤◌, ◌≡◌, inl, inr, List, [], ◌∷◌, ◌++◌, length, length-append, map, take, codes, Bool, true, false, refl, ap, ap₂, sym, ◌∙◌, arith, Option, Some, None, nat_lt, subst, lit<, append_assoc}
 use Rattle.std.specs.List.{AllByRecursion}
 use Rattle.std.specs.Str.{bytes_eq}
 use Rattle.std.proofs.lemmas.Bool.Decides.{nat_tests}
@@ -24,14 +24,16 @@ use Rattle.pair_domain.specs.Rank.{KnownFits}
 use Rattle.abs_state.specs.declared.values.AbsByte.{AbsByte}
 use Rattle.abs_state.specs.declared.values.AbsFlags.{AbsFlags}
 use Rattle.abs_state.specs.declared.state.AbsState.{AbsState}
-use Rattle.abs_state.specs.Values.{unknown}
+use Rattle.abs_state.specs.Values.{unknown, value_at}
 use Rattle.abs_state.specs.Hulls.{AreInHulls}
+use Rattle.abs_state.specs.Banks.{is_tag_of, IsSlotOf, IsStateOf}
 use Rattle.abs_state.specs.Formed.{SlotNamesRegister, SlotByteFits, SlotIsUntagged, IsFormed, IsUntagged}
 use Rattle.node_keys.specs.declared.keys.Kind.{Kind}
 use Rattle.node_keys.specs.declared.keys.Kind.TheVariants.{Root, Call, Vector}
 use Rattle.node_keys.specs.declared.keys.NodeKey.{NodeKey}
 use Rattle.avr_model.specs.declared.device.Device.{Device}
-use Rattle.node_keys.specs.Keys.{offset_of}
+use Rattle.avr_model.specs.State.{RAMPZ, EIND}
+use Rattle.node_keys.specs.Keys.{offset_of, is_root}
 use Rattle.local_rules.specs.Cover.{SlotFits, TagsFit, IsNodeIn, IsKey}
 use Rattle.edge_rules.specs.declared.seeded.NodeForm.{NodeForm}
 use Rattle.edge_rules.specs.declared.seeded.NodeForm.TheVariants.{State, From}
@@ -44,15 +46,16 @@ use Rattle.pair_words.specs.Laws.{AreHulls, FitWithin, FactsWords}
 use Rattle.pair_words.specs.Reading.{facts_at}
 use Rattle.certificate.specs.Hulls.{hulls_of}
 use Rattle.cert_words.specs.Spelling.{value_word, flags_word, carry_word, slot_word, tag_text, bits_text, range_text}
-use Rattle.cert_words.specs.KeySpelling.{pairs_words, state_words, form_words}
+use Rattle.cert_words.specs.KeySpelling.{register_count, pairs_words, state_words, form_words}
 use Rattle.cert_words.specs.Reading.{value_in, slot_in, flags_in, carry_in}
-use Rattle.cert_words.specs.KeyReading.{words_from, is_root, flags_at, pairs_at, state_behind, by_state, from_behind, form_at}
+use Rattle.cert_words.specs.KeyReading.{words_from, registers_behind, flags_at, pairs_at, state_behind, by_state, from_behind, form_at}
 use Rattle.cert_words.specs.Fits.{IsValue, AreFlags, IsCarry, IsSlot}
 use Rattle.cert_words.specs.Laws.{ValueWords}
 use Rattle.cert_words.specs.KeyLaws.{FormWords}
 use Rattle.cert_words.proofs.Fields.{dec_take, word_by_take, words_take, words_again, words_plain, joined_words}
 use Rattle.cert_words.proofs.InstKeys.{cons}
 use Rattle.cert_words.proofs.PairHulls.{hull_here, are_hulls}
+use Rattle.cert_words.proofs.Banks.{IsKept, tag_named, bank_is, AreRegisters, count_all, are_kept, register_is, rampz_is, eind_is, are_registers, registers_take, are_read, registers_plain}
 
 -- ---- what is known of pairs
 
@@ -94,103 +97,123 @@ pairs_fit Three registers (Some f) fits mode inside = record {
 
 -- ---- what a state has, by its lists
 
-pub record HasParts (version : Version) (root : Bool) (offset : ℕ) (s : AbsState) : Type 0 where
-  pub count_registers : length s.registers ≡ 32
-  pub registers : AllByRecursion (λ v. IsValue version root v) s.registers
+pub record HasParts (device : Device) (version : Version) (root : Bool) (offset : ℕ) (s : AbsState) : Type 0 where
+  pub registers : AreRegisters device version root s.registers
   pub flags : AreFlags root s.flags.entry s.flags.bits
   pub carry_fits : IsCarry version root s.flags.carry
   pub count_slots : length s.slots ≡ offset
-  pub slots : AllByRecursion (λ t. IsSlot version root t) s.slots
+  pub slots : AllByRecursion (λ t. IsSlot device version root t) s.slots
   pub pairs : PairsFit version s.registers s.facts
 
-slot_names : (version : Version) (root : Bool) (t : Slot AbsByte) → IsSlot version root t → SlotNamesRegister t
-slot_names version root Free h = tt
-slot_names version root (Guarded v) h = h.fits_tag.names
+slot_names : (device : Device) (version : Version) (root : Bool) (t : Slot AbsByte) → IsSlot device version root t → SlotNamesRegister t
+slot_names device version root Free h = tt
+slot_names device version root (Guarded v) h = tag_named device root v.tag h.fits_tag
 
-slot_fits : (version : Version) (root : Bool) (t : Slot AbsByte) → IsSlot version root t → SlotFits t
-slot_fits version root Free h = tt
-slot_fits version root (Guarded v) h = h.fits_tag.fits
+slot_fits : (device : Device) (version : Version) (root : Bool) (t : Slot AbsByte) → IsSlot device version root t → SlotFits t
+slot_fits device version root Free h = tt
+slot_fits device version root (Guarded v) h = h.fits_tag.fits
 
-slot_range : (version : Version) (root : Bool) (t : Slot AbsByte) → IsSlot version root t → SlotByteFits t
-slot_range version root Free h = tt
-slot_range version root (Guarded v) h = h.range
+slot_range : (device : Device) (version : Version) (root : Bool) (t : Slot AbsByte) → IsSlot device version root t → SlotByteFits t
+slot_range device version root Free h = tt
+slot_range device version root (Guarded v) h = h.range
 
-slot_of_version : (version : Version) (root : Bool) (t : Slot AbsByte) → IsSlot version root t → SlotIsOf version t
-slot_of_version version root Free h = tt
-slot_of_version version root (Guarded v) h = h.of_version
+slot_of : (device : Device) (version : Version) (root : Bool) (t : Slot AbsByte) → IsSlot device version root t → IsSlotOf (is_tag_of device) t
+slot_of device version root Free h = tt
+slot_of device version root (Guarded v) h = h.fits_tag.of
 
-slot_untagged : (version : Version) (t : Slot AbsByte) → IsSlot version true t → SlotIsUntagged t
-slot_untagged version Free h = tt
-slot_untagged version (Guarded v) h = h.fits_tag.none refl
+slot_of_version : (device : Device) (version : Version) (root : Bool) (t : Slot AbsByte) → IsSlot device version root t → SlotIsOf version t
+slot_of_version device version root Free h = tt
+slot_of_version device version root (Guarded v) h = h.of_version
 
-slot_is : (version : Version) (root : Bool) (t : Slot AbsByte) → SlotNamesRegister t → SlotFits t → (root ≡ true → SlotIsUntagged t) → SlotByteFits t → SlotIsOf version t → IsSlot version root t
-slot_is version root Free a b c d e = tt
-slot_is version root (Guarded v) a b c d e = record { fits_tag = record { names = a; fits = b; none = c }; range = d; of_version = e }
+slot_untagged : (device : Device) (version : Version) (t : Slot AbsByte) → IsSlot device version true t → SlotIsUntagged t
+slot_untagged device version Free h = tt
+slot_untagged device version (Guarded v) h = h.fits_tag.none refl
+
+slot_is : (device : Device) (version : Version) (root : Bool) (t : Slot AbsByte) → IsSlotOf (is_tag_of device) t → SlotFits t → (root ≡ true → SlotIsUntagged t) → SlotByteFits t → SlotIsOf version t → IsSlot device version root t
+slot_is device version root Free a b c d e = tt
+slot_is device version root (Guarded v) a b c d e = record { fits_tag = record { of = a; fits = b; none = c }; range = d; of_version = e }
 
 all_say : {A : Type 0} (P Q : A → Type 0) → ((x : A) → P x → Q x) → (xs : List A) → AllByRecursion P xs → AllByRecursion Q xs
 all_say P Q says [] h = tt
 all_say P Q says (x ∷ xs) h = (says x h.0, all_say P Q says xs h.1)
 
-formed_by : (version : Version) (root : Bool) (offset : ℕ) (s : AbsState) → HasParts version root offset s → IsFormed s offset
-formed_by version root offset s h =
-    let rs = All-from_recursion (λ (v : AbsByte). IsValue version root v) s.registers h.registers in
-    let ss = All-from_recursion (λ (t : Slot AbsByte). IsSlot version root t) s.slots h.slots in
+module _ (g : RangesFit) where
+  -- each register of a state fits by itself
+  each_kept : (device : Device) (version : Version) (root : Bool) (offset : ℕ) (s : AbsState) → HasParts device version root offset s → (r : ℕ) → r < 34 → IsKept version root (value_at s.registers r)
+  each_kept device version root offset s h r l =
+      All-from_recursion (λ (v : AbsByte). IsKept version root v) s.registers (are_kept g device version root s.registers h.registers) r unknown (omega (arith, count_all s.registers h.registers, l))
+
+  formed_by : (device : Device) (version : Version) (root : Bool) (offset : ℕ) (s : AbsState) → HasParts device version root offset s → IsFormed s offset
+  formed_by device version root offset s h =
+      let rs = each_kept device version root offset s h in
+      let ss = All-from_recursion (λ (t : Slot AbsByte). IsSlot device version root t) s.slots h.slots in
+      record {
+        count_registers = count_all s.registers h.registers;
+        registers = λ r l. (rs r l).names;
+        bit_7 = h.flags.bit_7;
+        count_slots = h.count_slots;
+        slots = λ d l. slot_names device version root (slot_at s.slots d) (ss d Free l);
+        carry = h.carry_fits.names;
+        ranges = λ r l. (rs r l).range;
+        slot_ranges = λ d l. slot_range device version root (slot_at s.slots d) (ss d Free l);
+        facts = pairs_known version s.registers s.facts h.pairs;
+      }
+
+  tags_by : (device : Device) (version : Version) (root : Bool) (offset : ℕ) (s : AbsState) → HasParts device version root offset s → TagsFit s
+  tags_by device version root offset s h =
+      let rs = each_kept device version root offset s h in
+      let ss = All-from_recursion (λ (t : Slot AbsByte). IsSlot device version root t) s.slots h.slots in
+      record {
+        registers = λ r l. (rs r l).fits;
+        slots = λ d l. slot_fits device version root (slot_at s.slots d) (ss d Free l);
+      }
+
+  untagged_by : (device : Device) (version : Version) (offset : ℕ) (s : AbsState) → HasParts device version true offset s → IsUntagged s
+  untagged_by device version offset s h =
+      let rs = each_kept device version true offset s h in
+      let ss = All-from_recursion (λ (t : Slot AbsByte). IsSlot device version true t) s.slots h.slots in
+      record {
+        registers = λ r l. (rs r l).none refl;
+        entry = h.flags.none refl;
+        carry = h.carry_fits.untagged refl;
+        slots = λ d l. slot_untagged device version (slot_at s.slots d) (ss d Free l);
+      }
+
+  of_version_by : (device : Device) (version : Version) (root : Bool) (offset : ℕ) (s : AbsState) → HasParts device version root offset s → StateIsOf version s
+  of_version_by device version root offset s h = record {
+    registers = all_say (λ v. IsKept version root v) (λ v. ValueIsOf version v) (λ v p. p.of_version) s.registers (are_kept g device version root s.registers h.registers);
+    carry_tag = h.carry_fits.of_version;
+    slots = all_say (λ t. IsSlot device version root t) (λ t. SlotIsOf version t) (slot_of_version device version root) s.slots h.slots;
+  }
+
+-- the registers and slots are those of the device
+of_device_by : (device : Device) (version : Version) (root : Bool) (offset : ℕ) (s : AbsState) → HasParts device version root offset s → IsStateOf device root s
+of_device_by device version root offset s h =
+    let ss = All-from_recursion (λ (t : Slot AbsByte). IsSlot device version root t) s.slots h.slots in
     record {
-      count_registers = h.count_registers;
-      registers = λ r l. (rs r unknown (omega (arith, h.count_registers, l))).fits_tag.names;
-      bit_7 = h.flags.bit_7;
-      count_slots = h.count_slots;
-      slots = λ d l. slot_names version root (slot_at s.slots d) (ss d Free l);
-      carry = h.carry_fits.names;
-      ranges = λ r l. (rs r unknown (omega (arith, h.count_registers, l))).range;
-      slot_ranges = λ d l. slot_range version root (slot_at s.slots d) (ss d Free l);
-      facts = pairs_known version s.registers s.facts h.pairs;
+      registers = λ r l. (register_is s.registers r h.registers l).fits_tag.of;
+      slots = λ d l. slot_of device version root (slot_at s.slots d) (ss d Free l);
+      rampz = bank_is device version root RAMPZ (value_at s.registers RAMPZ) (rampz_is s.registers h.registers);
+      eind = bank_is device version root EIND (value_at s.registers EIND) (eind_is s.registers h.registers);
     }
 
-tags_by : (version : Version) (root : Bool) (offset : ℕ) (s : AbsState) → HasParts version root offset s → TagsFit s
-tags_by version root offset s h =
-    let rs = All-from_recursion (λ (v : AbsByte). IsValue version root v) s.registers h.registers in
-    let ss = All-from_recursion (λ (t : Slot AbsByte). IsSlot version root t) s.slots h.slots in
-    record {
-      registers = λ r l. (rs r unknown (omega (arith, h.count_registers, l))).fits_tag.fits;
-      slots = λ d l. slot_fits version root (slot_at s.slots d) (ss d Free l);
-    }
-
-untagged_by : (version : Version) (offset : ℕ) (s : AbsState) → HasParts version true offset s → IsUntagged s
-untagged_by version offset s h =
-    let rs = All-from_recursion (λ (v : AbsByte). IsValue version true v) s.registers h.registers in
-    let ss = All-from_recursion (λ (t : Slot AbsByte). IsSlot version true t) s.slots h.slots in
-    record {
-      registers = λ r l. (rs r unknown (omega (arith, h.count_registers, l))).fits_tag.none refl;
-      entry = h.flags.none refl;
-      carry = h.carry_fits.untagged refl;
-      slots = λ d l. slot_untagged version (slot_at s.slots d) (ss d Free l);
-    }
-
-of_version_by : (version : Version) (root : Bool) (offset : ℕ) (s : AbsState) → HasParts version root offset s → StateIsOf version s
-of_version_by version root offset s h = record {
-  registers = all_say (λ v. IsValue version root v) (λ v. ValueIsOf version v) (λ v p. p.of_version) s.registers h.registers;
-  carry_tag = h.carry_fits.of_version;
-  slots = all_say (λ t. IsSlot version root t) (λ t. SlotIsOf version t) (slot_of_version version root) s.slots h.slots;
-}
-
-parts_by : (version : Version) (root : Bool) (offset : ℕ) (s : AbsState) → IsFormed s offset → TagsFit s → IsCarry version root s.flags.carry → (root ≡ true → IsUntagged s) → PairsFit version s.registers s.facts → StateIsOf version s → HasParts version root offset s
-parts_by version root offset s f t c u pairs o =
+parts_by : (device : Device) (version : Version) (root : Bool) (offset : ℕ) (s : AbsState) → IsFormed s offset → TagsFit s → IsStateOf device root s → IsCarry version root s.flags.carry → (root ≡ true → IsUntagged s) → PairsFit version s.registers s.facts → StateIsOf version s
+    → HasParts device version root offset s
+parts_by device version root offset s f t of c u pairs o =
     let vs = All-from_recursion (λ (v : AbsByte). ValueIsOf version v) s.registers o.registers in
     let ts = All-from_recursion (λ (x : Slot AbsByte). SlotIsOf version x) s.slots o.slots in
+    let value_is : (r : ℕ) → r < 34 → is_tag_of device (value_at s.registers r).tag ≡ true → IsValue device version root (value_at s.registers r) = λ r l has.
+    record { fits_tag = record { of = has; fits = t.registers r l; none = λ e. (u e).registers r l }; range = f.ranges r l; of_version = vs r unknown (omega (arith, f.count_registers, l)) } in
     record {
-      count_registers = f.count_registers;
-      registers = recursion_from_All (λ (v : AbsByte). IsValue version root v) s.registers (λ r d l.
-          let low : r < 32 = omega (arith, f.count_registers, l) in
-          let P : AbsByte → Type 0 = λ v. IsValue version root v in
-          subst P (get_or_default s.registers r unknown d l)
-          (record { fits_tag = record { names = f.registers r low; fits = t.registers r low; none = λ e. (u e).registers r low }; range = f.ranges r low; of_version = vs r unknown l }));
+      registers = are_registers device version root s.registers f.count_registers (λ r l. value_is r (omega (arith, l)) (of.registers r l))
+          (record { most = of.rampz.most; value = λ has. value_is RAMPZ (omega arith) (of.rampz.tag has); lacking = of.rampz.lacking })
+          (record { most = of.eind.most; value = λ has. value_is EIND (omega arith) (of.eind.tag has); lacking = of.eind.lacking });
       flags = record { bit_7 = f.bit_7; none = λ e. (u e).entry };
       carry_fits = c;
       count_slots = f.count_slots;
-      slots = recursion_from_All (λ (x : Slot AbsByte). IsSlot version root x) s.slots (λ i d l.
-          let P : Slot AbsByte → Type 0 = λ x. IsSlot version root x in
-          subst P (get_or_default s.slots i Free d l) (slot_is version root (slot_at s.slots i) (f.slots i l) (t.slots i l) (λ e. (u e).slots i l) (f.slot_ranges i l) (ts i Free l)));
+      slots = recursion_from_All (λ (x : Slot AbsByte). IsSlot device version root x) s.slots (λ i d l.
+          let P : Slot AbsByte → Type 0 = λ x. IsSlot device version root x in
+          subst P (get_or_default s.slots i Free d l) (slot_is device version root (slot_at s.slots i) (of.slots i l) (t.slots i l) (λ e. (u e).slots i l) (f.slot_ranges i l) (ts i Free l)));
       pairs = pairs;
     }
 
@@ -242,68 +265,63 @@ pairs_plain p Three registers None h fits = tt
 pairs_plain p Three registers (Some f) h fits = p.words (hulls_of registers) f h fits
 
 -- values that fit have hulls
-hulls_by : RangesFit → (version : Version) (root : Bool) (registers : List AbsByte) → length registers ≡ 32 → AllByRecursion (λ v. IsValue version root v) registers → AreHulls (hulls_of registers)
-hulls_by g version root registers count h =
-    let all = All-from_recursion (λ (v : AbsByte). IsValue version root v) registers h in
-    are_hulls g registers (λ r l. (all r unknown (omega (arith, count, l))).range)
+hulls_by : RangesFit → (device : Device) (version : Version) (root : Bool) (registers : List AbsByte) → AreRegisters device version root registers → AreHulls (hulls_of registers)
+hulls_by g device version root registers h = are_hulls g registers (λ r l. (register_is registers r h l).range)
 
-record StateRead (version : Version) (root : Bool) (offset : ℕ) (first : AbsByte) (ws : List (List ℕ)) (z : AbsState × List (List ℕ)) : Type 0 where
-  pub words : value_word version first ∷ ws ≡ state_words version z.0 ++ z.1
-  pub parts : HasParts version root offset z.0
+record StateRead (device : Device) (version : Version) (root : Bool) (offset : ℕ) (first : AbsByte) (ws : List (List ℕ)) (z : AbsState × List (List ℕ)) : Type 0 where
+  pub words : value_word version first ∷ ws ≡ state_words device version z.0 ++ z.1
+  pub parts : HasParts device version root offset z.0
 
-state_take : RangesFit → FactsWords → ValueWords → (version : Version) (root : Bool) (offset : ℕ) (first : AbsByte) (ws : List (List ℕ)) (z : AbsState × List (List ℕ)) → IsValue version root first
-    → state_behind version root offset first ws ≡ Some z → StateRead version root offset first ws z
+state_take : RangesFit → FactsWords → ValueWords → (device : Device) (version : Version) (root : Bool) (offset : ℕ) (first : AbsByte) (ws : List (List ℕ)) (z : AbsState × List (List ℕ)) → IsValue device version root first
+    → state_behind device version root offset first ws ≡ Some z → StateRead device version root offset first ws z
 unfolding state_behind
-state_take g w v version root offset first ws z h e =
-    let r = bind_some (words_from (value_in version root) (first ∷ []) 31 ws) _ z e in
+state_take g w v device version root offset first ws z h e =
+    let r = bind_some (registers_behind device version root first ws) _ z e in
     let f = bind_some (flags_at version root r.0.1) _ z r.2 in
     let p = bind_some (pairs_at version r.0.0 f.0.1) _ z f.2 in
-    let s = bind_some (words_from (slot_in version root) [] offset p.0.1) _ z p.2 in
-    let rs = words_take (value_in version root) (value_word version) (λ x. IsValue version root x) (v.spelled.value version root) (first ∷ []) 31 ws r.0 r.1 in
+    let s = bind_some (words_from (slot_in device version root) [] offset p.0.1) _ z p.2 in
+    let rs = registers_take v device version root first ws r.0 h r.1 in
     let fs = flags_take v version root r.0.1 f.0 f.1 in
-    let ss = words_take (slot_in version root) (slot_word version) (λ x. IsSlot version root x) (v.spelled.slot version root) [] offset p.0.1 s.0 s.1 in
-    let P : AbsState × List (List ℕ) → Type 0 = λ y. StateRead version root offset first ws y in
-    let R : List AbsByte → Type 0 = λ xs. (length xs ≡ 32) × AllByRecursion (λ x. IsValue version root x) xs × (value_word version first ∷ ws ≡ map (value_word version) xs ++ r.0.1) in
-    let S : List (Slot AbsByte) → Type 0 = λ xs. (length xs ≡ offset) × AllByRecursion (λ x. IsSlot version root x) xs × (p.0.1 ≡ map (slot_word version) xs ++ s.0.1) in
-    let count : length (first ∷ rs.items) ≡ 32 = omega (arith, rs.number) in
-    let a = subst R (sym rs.all) (count, (h, rs.fit), ap (cons (value_word version first)) rs.words) in
+    let ss = words_take (slot_in device version root) (slot_word version) (λ x. IsSlot device version root x) (v.spelled.slot device version root) [] offset p.0.1 s.0 s.1 in
+    let P : AbsState × List (List ℕ) → Type 0 = λ y. StateRead device version root offset first ws y in
+    let S : List (Slot AbsByte) → Type 0 = λ xs. (length xs ≡ offset) × AllByRecursion (λ x. IsSlot device version root x) xs × (p.0.1 ≡ map (slot_word version) xs ++ s.0.1) in
     let b = subst S (sym ss.all) (ss.number, ss.fit, ss.words) in
-    let ps = pairs_take w version r.0.0 f.0.1 p.0 (hulls_by g version root r.0.0 a.0 a.1) p.1 in
+    let ps = pairs_take w version r.0.0 f.0.1 p.0 (hulls_by g device version root r.0.0 rs.fit) p.1 in
+    let values : List (List ℕ) = map (value_word version) (take (register_count device) r.0.0) in
     let known : List (List ℕ) = pairs_words version r.0.0 p.0.0 in
     let behind : f.0.1 ≡ (known ++ map (slot_word version) s.0.0) ++ s.0.1 = ps.0 ∙ ap (λ (xs : List (List ℕ)). known ++ xs) b.2 ∙ sym (append_assoc known (map (slot_word version) s.0.0) s.0.1) in
     subst P (some_is {A = AbsState × List (List ℕ)} (record { registers = r.0.0; flags = f.0.0; slots = s.0.0; facts = p.0.0 }, s.0.1) z s.2) (record {
-      words = a.2 ∙ ap (λ (xs : List (List ℕ)). map (value_word version) r.0.0 ++ xs) (fs.0 ∙ ap (λ (xs : List (List ℕ)). flags_word f.0.0.entry f.0.0.bits ∷ carry_word f.0.0.carry ∷ xs) behind)
-          ∙ sym (append_assoc (map (value_word version) r.0.0) (flags_word f.0.0.entry f.0.0.bits ∷ carry_word f.0.0.carry ∷ (known ++ map (slot_word version) s.0.0)) s.0.1);
-      parts = record { count_registers = a.0; registers = a.1; flags = fs.1; carry_fits = fs.2; count_slots = b.0; slots = b.1; pairs = ps.1 };
+      words = rs.words ∙ ap (λ (xs : List (List ℕ)). values ++ xs) (fs.0 ∙ ap (λ (xs : List (List ℕ)). flags_word f.0.0.entry f.0.0.bits ∷ carry_word f.0.0.carry ∷ xs) behind)
+          ∙ sym (append_assoc values (flags_word f.0.0.entry f.0.0.bits ∷ carry_word f.0.0.carry ∷ (known ++ map (slot_word version) s.0.0)) s.0.1);
+      parts = record { registers = rs.fit; flags = fs.1; carry_fits = fs.2; count_slots = b.0; slots = b.1; pairs = ps.1 };
     })
 
 abbrev behind_registers : Version → List AbsByte → AbsFlags → Option PairFacts → List (Slot AbsByte) → List (List ℕ)
 behind_registers version registers f x slots = flags_word f.entry f.bits ∷ carry_word f.carry ∷ (pairs_words version registers x ++ map (slot_word version) slots)
 
-state_again : RangesFit → FactsWords → ValueWords → (version : Version) (root : Bool) (offset : ℕ) (first : AbsByte) (more : List AbsByte) (f : AbsFlags) (slots : List (Slot AbsByte)) (x : Option PairFacts)
-    → HasParts version root offset (record { registers = first ∷ more; flags = f; slots = slots; facts = x })
-    → state_behind version root offset first (map (value_word version) more ++ behind_registers version (first ∷ more) f x slots) ≡ Some (record { registers = first ∷ more; flags = f; slots = slots; facts = x }, [])
+state_again : RangesFit → FactsWords → ValueWords → (device : Device) (version : Version) (root : Bool) (offset : ℕ) (first : AbsByte) (more : List (List ℕ)) (registers : List AbsByte) (f : AbsFlags) (slots : List (Slot AbsByte)) (x : Option PairFacts)
+    → HasParts device version root offset (record { registers = registers; flags = f; slots = slots; facts = x })
+    → registers_behind device version root first more ≡ Some (registers, behind_registers version registers f x slots)
+    → state_behind device version root offset first more ≡ Some (record { registers = registers; flags = f; slots = slots; facts = x }, [])
 unfolding state_behind
-state_again g w v version root offset first more f slots x h =
-    let rs =
-    words_again (value_in version root) (value_word version) (λ x. IsValue version root x) (v.read.value version root) (first ∷ []) more 31 (behind_registers version (first ∷ more) f x slots) h.registers.1 (omega (arith, h.count_registers)) in
-    let fs = flags_again v version root f (pairs_words version (first ∷ more) x ++ map (slot_word version) slots) h.flags h.carry_fits in
-    let ps = pairs_again w version (first ∷ more) x (map (slot_word version) slots) (hulls_by g version root (first ∷ more) h.count_registers h.registers) h.pairs in
-    let ss : words_from (slot_in version root) [] offset (map (slot_word version) slots) ≡ Some (slots, []) =
-    ap (words_from (slot_in version root) [] offset) (sym (append-nil (map (slot_word version) slots)))
-    ∙ words_again (slot_in version root) (slot_word version) (λ x. IsSlot version root x) (v.read.slot version root) [] slots offset [] h.slots h.count_slots in
+state_again g w v device version root offset first more registers f slots x h rs =
+    let fs = flags_again v version root f (pairs_words version registers x ++ map (slot_word version) slots) h.flags h.carry_fits in
+    let ps = pairs_again w version registers x (map (slot_word version) slots) (hulls_by g device version root registers h.registers) h.pairs in
+    let ss : words_from (slot_in device version root) [] offset (map (slot_word version) slots) ≡ Some (slots, []) =
+    ap (words_from (slot_in device version root) [] offset) (sym (append-nil (map (slot_word version) slots)))
+    ∙ words_again (slot_in device version root) (slot_word version) (λ x. IsSlot device version root x) (v.read.slot device version root) [] slots offset [] h.slots h.count_slots in
     rw (rs, fs, ps, ss) refl
 
-state_plain : RangesFit → FactsWords → ValueWords → (version : Version) (root : Bool) (offset : ℕ) (s : AbsState) → HasParts version root offset s → AllByRecursion IsWord (state_words version s)
-state_plain g w v version root offset s h =
-    joined_words (map (value_word version) s.registers) (flags_word s.flags.entry s.flags.bits ∷ carry_word s.flags.carry ∷ (pairs_words version s.registers s.facts ++ map (slot_word version) s.slots))
-    (words_plain (value_word version) (λ x. IsValue version root x) (v.words.value version root) s.registers h.registers) (
+state_plain : RangesFit → FactsWords → ValueWords → (device : Device) (version : Version) (root : Bool) (offset : ℕ) (s : AbsState) → HasParts device version root offset s → AllByRecursion IsWord (state_words device version s)
+state_plain g w v device version root offset s h =
+    joined_words (map (value_word version) (take (register_count device) s.registers)) (behind_registers version s.registers s.flags s.facts s.slots)
+    (registers_plain v device version root s.registers h.registers) (
       v.words.flags s.flags.entry s.flags.bits,
       (
         v.words.carry version root s.flags.carry h.carry_fits,
         joined_words (pairs_words version s.registers s.facts) (map (slot_word version) s.slots)
-            (pairs_plain w version s.registers s.facts (hulls_by g version root s.registers h.count_registers h.registers) h.pairs)
-            (words_plain (slot_word version) (λ x. IsSlot version root x) (v.words.slot version root) s.slots h.slots),
+            (pairs_plain w version s.registers s.facts (hulls_by g device version root s.registers h.registers) h.pairs)
+            (words_plain (slot_word version) (λ x. IsSlot device version root x) (v.words.slot device version root) s.slots h.slots),
       ),
     )
 
@@ -319,25 +337,26 @@ kind_root Root e = refl
 kind_root Call e = cc
 kind_root (Vector v) e = cc
 
-node_kept : (device : Device) (version : Version) (key : NodeKey) (s : AbsState) → IsKey device key → HasParts version (is_root key.inst.kind) (offset_of key.sp) s → IsNodeIn device (is_third version) key s
-node_kept device version key s h parts = record {
+node_kept : RangesFit → (device : Device) (version : Version) (key : NodeKey) (s : AbsState) → IsKey device key → HasParts device version (is_root key.inst.kind) (offset_of key.sp) s → IsNodeIn device (is_third version) key s
+node_kept g device version key s h parts = record {
   word = h.word;
   small = h.small;
   masks = h.masks;
   fits = h.fits;
   pick = h.pick;
-  formed = formed_by version (is_root key.inst.kind) (offset_of key.sp) s parts;
-  tags = tags_by version (is_root key.inst.kind) (offset_of key.sp) s parts;
+  formed = formed_by g device version (is_root key.inst.kind) (offset_of key.sp) s parts;
+  tags = tags_by g device version (is_root key.inst.kind) (offset_of key.sp) s parts;
   carry_bytes = parts.carry_fits.bytes;
-  untagged = λ e. let P : Bool → Type 0 = λ r. HasParts version r (offset_of key.sp) s in untagged_by version (offset_of key.sp) s (subst P (root_kind key.inst.kind e) parts);
+  untagged = λ e. let P : Bool → Type 0 = λ r. HasParts device version r (offset_of key.sp) s in untagged_by g device version (offset_of key.sp) s (subst P (root_kind key.inst.kind e) parts);
+  registers_of = of_device_by device version (is_root key.inst.kind) (offset_of key.sp) s parts;
   mode = pairs_mode version s.registers s.facts parts.pairs;
   hulls = pairs_inside version s.registers s.facts parts.pairs;
 }
 
-node_parts : (device : Device) (version : Version) (key : NodeKey) (s : AbsState) → IsNodeIn device (is_third version) key s → StateIsOf version s → HasParts version (is_root key.inst.kind) (offset_of key.sp) s
+node_parts : (device : Device) (version : Version) (key : NodeKey) (s : AbsState) → IsNodeIn device (is_third version) key s → StateIsOf version s → HasParts device version (is_root key.inst.kind) (offset_of key.sp) s
 node_parts device version key s h o =
     let untagged : is_root key.inst.kind ≡ true → IsUntagged s = λ e. h.untagged (kind_root key.inst.kind e) in
-    parts_by version (is_root key.inst.kind) (offset_of key.sp) s h.formed h.tags
+    parts_by device version (is_root key.inst.kind) (offset_of key.sp) s h.formed h.tags h.registers_of
     (record { bytes = h.carry_bytes; names = h.formed.carry; untagged = λ e. (untagged e).carry; of_version = o.carry_tag }) untagged (pairs_fit version s.registers s.facts h.formed.facts h.mode h.hulls) o
 
 -- ---- where a state comes from
@@ -367,7 +386,7 @@ no_from version v = no_from_by version v (bytes_eq (value_word version v) (codes
 -- ---- the form
 
 record FormRead (device : Device) (version : Version) (at : ℕ) (key : NodeKey) (ws : List (List ℕ)) (z : NodeForm × List (List ℕ)) : Type 0 where
-  pub words : ws ≡ form_words version z.0 ++ z.1
+  pub words : ws ≡ form_words device version z.0 ++ z.1
   pub fits : FitsAt device (is_third version) at key z.0
   pub of_version : FormIsOf version z.0
 
@@ -382,20 +401,20 @@ from_take k device version at key w ws z h is e =
     subst P last.1 (record { words = ap₂ cons is t.0; fits = (h, low); of_version = tt })
 
 form_state : RangesFit → FactsWords → ValueWords → (device : Device) (version : Version) (at : ℕ) (key : NodeKey) (w : List ℕ) (ws : List (List ℕ)) (z : NodeForm × List (List ℕ)) → IsKey device key
-    → (value_in version (is_root key.inst.kind) w >>= λ v. by_state (state_behind version (is_root key.inst.kind) (offset_of key.sp) v ws)) ≡ Some z → FormRead device version at key (w ∷ ws) z
+    → (value_in device version (is_root key.inst.kind) w >>= λ v. by_state (state_behind device version (is_root key.inst.kind) (offset_of key.sp) v ws)) ≡ Some z → FormRead device version at key (w ∷ ws) z
 form_state g p v device version at key w ws z h e =
-    let first = bind_some (value_in version (is_root key.inst.kind) w) _ z e in
-    let s = map_some (state_behind version (is_root key.inst.kind) (offset_of key.sp) first.0 ws) (λ s. (State s.0, s.1)) z first.2 in
-    let word = v.spelled.value version (is_root key.inst.kind) w first.0 first.1 in
-    let t = state_take g p v version (is_root key.inst.kind) (offset_of key.sp) first.0 ws s.0 word.1 s.1 in
+    let first = bind_some (value_in device version (is_root key.inst.kind) w) _ z e in
+    let s = map_some (state_behind device version (is_root key.inst.kind) (offset_of key.sp) first.0 ws) (λ s. (State s.0, s.1)) z first.2 in
+    let word = v.spelled.value device version (is_root key.inst.kind) w first.0 first.1 in
+    let t = state_take g p v device version (is_root key.inst.kind) (offset_of key.sp) first.0 ws s.0 word.1 s.1 in
     let P : NodeForm × List (List ℕ) → Type 0 = λ y. FormRead device version at key (w ∷ ws) y in
     subst P s.2 (record {
       words = ap (λ (x : List ℕ). x ∷ ws) word.0 ∙ t.words;
-      fits = node_kept device version key s.0.0 h t.parts;
-      of_version = of_version_by version (is_root key.inst.kind) (offset_of key.sp) s.0.0 t.parts;
+      fits = node_kept g device version key s.0.0 h t.parts;
+      of_version = of_version_by g device version (is_root key.inst.kind) (offset_of key.sp) s.0.0 t.parts;
     })
 
-form_take : WordLaws → RangesFit → FactsWords → ValueWords → (device : Device) (version : Version) (at : ℕ) (key : NodeKey) (ws : List (List ℕ)) (z : NodeForm × List (List ℕ)) → IsKey device key → form_at version (is_root key.inst.kind) (offset_of key.sp) at ws ≡ Some z → FormRead device version at key ws z
+form_take : WordLaws → RangesFit → FactsWords → ValueWords → (device : Device) (version : Version) (at : ℕ) (key : NodeKey) (ws : List (List ℕ)) (z : NodeForm × List (List ℕ)) → IsKey device key → form_at device version (is_root key.inst.kind) (offset_of key.sp) at ws ≡ Some z → FormRead device version at key ws z
 unfolding form_at
 form_take k r p v device version at key [] z h e = absurd (none-some z e)
 form_take k r p v device version at key (w ∷ ws) z h e = elim (chosen (bytes_eq w (codes "from")) _ _ (Some z) e) [
@@ -404,31 +423,33 @@ form_take k r p v device version at key (w ∷ ws) z h e = elim (chosen (bytes_e
 ]
 
 form_spelled : WordLaws → RangesFit → FactsWords → ValueWords → (device : Device) (version : Version) (at : ℕ) (key : NodeKey) (ws rest : List (List ℕ)) (form : NodeForm) → IsKey device key
-    → form_at version (is_root key.inst.kind) (offset_of key.sp) at ws ≡ Some (form, rest) → (ws ≡ form_words version form ++ rest) × FitsAt device (is_third version) at key form × FormIsOf version form
+    → form_at device version (is_root key.inst.kind) (offset_of key.sp) at ws ≡ Some (form, rest) → (ws ≡ form_words device version form ++ rest) × FitsAt device (is_third version) at key form × FormIsOf version form
 form_spelled k r p v device version at key ws rest form h e = let t = form_take k r p v device version at key ws (form, rest) h e in (t.words, t.fits, t.of_version)
 
-state_form : RangesFit → FactsWords → ValueWords → (version : Version) (root : Bool) (offset at : ℕ) (registers : List AbsByte) (f : AbsFlags) (slots : List (Slot AbsByte)) (x : Option PairFacts)
-    → HasParts version root offset (record { registers = registers; flags = f; slots = slots; facts = x })
-    → form_at version root offset at (map (value_word version) registers ++ behind_registers version registers f x slots) ≡ Some (State (record { registers = registers; flags = f; slots = slots; facts = x }), [])
+first_read : (device : Device) (version : Version) (root : Bool) (offset at : ℕ) (ws more : List (List ℕ)) (first : AbsByte) (s : AbsState) → ws ≡ value_word version first ∷ more
+    → value_in device version root (value_word version first) ≡ Some first → state_behind device version root offset first more ≡ Some (s, []) → form_at device version root offset at ws ≡ Some (State s, [])
 unfolding form_at
-state_form g p v version root offset at [] f slots x h = absurd (omega (arith, h.count_registers))
-state_form g p v version root offset at (first ∷ more) f slots x h =
-    let word = v.read.value version root first h.registers.0 in
-    let s = state_again g p v version root offset first more f slots x h in
-    rw (no_from version first, word, s) refl
+first_read device version root offset at ws more first s is word behind = ap (form_at device version root offset at) is ∙ rw (no_from version first, word, behind) refl
+
+state_form : RangesFit → FactsWords → ValueWords → (device : Device) (version : Version) (root : Bool) (offset at : ℕ) (s : AbsState) → HasParts device version root offset s
+    → form_at device version root offset at (state_words device version s) ≡ Some (State s, [])
+state_form g p v device version root offset at s h =
+    let all = are_read v device version root s.registers (behind_registers version s.registers s.flags s.facts s.slots) h.registers in
+    first_read device version root offset at (state_words device version s) all.more all.first s all.words (v.read.value device version root all.first all.fits)
+    (state_again g p v device version root offset all.first all.more s.registers s.flags s.slots s.facts h all.read)
 
 form_again : WordLaws → RangesFit → FactsWords → ValueWords → (device : Device) (version : Version) (at : ℕ) (key : NodeKey) (form : NodeForm) → at ≤ 65536 → FitsAt device (is_third version) at key form → FormIsOf version form
-    → form_at version (is_root key.inst.kind) (offset_of key.sp) at (form_words version form) ≡ Some (form, [])
+    → form_at device version (is_root key.inst.kind) (offset_of key.sp) at (form_words device version form) ≡ Some (form, [])
 unfolding form_at from_behind
 form_again k r p v device version at key (State s) few h o =
-    state_form r p v version (is_root key.inst.kind) (offset_of key.sp) at s.registers s.flags s.slots s.facts (node_parts device version key s h o)
+    state_form r p v device version (is_root key.inst.kind) (offset_of key.sp) at s (node_parts device version key s h o)
 form_again k r p v device version at key (From m) few h o =
     let d = k.dec_taken 65535 m [] (lit< tt) (omega (arith, few, h.1)) in
     let low : nat_lt m at ≡ true = grind (arith, nat_tests, h.1) in
     rw (d, low) refl
 
-form_plain : WordLaws → RangesFit → FactsWords → ValueWords → (device : Device) (version : Version) (at : ℕ) (key : NodeKey) (form : NodeForm) → at ≤ 65536 → FitsAt device (is_third version) at key form → FormIsOf version form → AllByRecursion IsWord (form_words version form)
-form_plain k r p v device version at key (State s) few h o = state_plain r p v version (is_root key.inst.kind) (offset_of key.sp) s (node_parts device version key s h o)
+form_plain : WordLaws → RangesFit → FactsWords → ValueWords → (device : Device) (version : Version) (at : ℕ) (key : NodeKey) (form : NodeForm) → at ≤ 65536 → FitsAt device (is_third version) at key form → FormIsOf version form → AllByRecursion IsWord (form_words device version form)
+form_plain k r p v device version at key (State s) few h o = state_plain r p v device version (is_root key.inst.kind) (offset_of key.sp) s (node_parts device version key s h o)
 form_plain k r p v device version at key (From m) few h o = (((refl, (refl, (refl, (refl, tt)))), (refl, (refl, (refl, (refl, tt))))), (k.dec_word m (omega (arith, few, h.1)), tt))
 
 pub forms : WordLaws → RangesFit → FactsWords → ValueWords → FormWords

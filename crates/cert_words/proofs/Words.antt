@@ -29,7 +29,8 @@ use Rattle.sp_domain.specs.declared.tags.CarryTag.TheVariants as carry
 use Rattle.sp_domain.specs.declared.slots.Slot.{Slot}
 use Rattle.sp_domain.specs.declared.slots.Slot.TheVariants.{Free, Guarded}
 use Rattle.abs_state.specs.declared.values.AbsByte.{AbsByte}
-use Rattle.abs_state.specs.Formed.{NamesRegister, ByteFits}
+use Rattle.abs_state.specs.Formed.{ByteFits}
+use Rattle.abs_state.specs.Banks.{is_tag_of}
 use Rattle.node_keys.specs.declared.keys.High.{High}
 use Rattle.node_keys.specs.declared.keys.High.TheVariants as high
 use Rattle.node_keys.specs.declared.keys.SpForm.{SpForm}
@@ -39,12 +40,13 @@ use Rattle.certificate.specs.declared.version.Version.{Version}
 use Rattle.certificate.specs.declared.version.Version.TheVariants.{One, Two, Three}
 use Rattle.certificate.specs.Versions.{ValueIsOf, HasNewCarries}
 use Rattle.cert_words.specs.Spelling.{bits_text, tag_text, range_text, value_word, entry_text, flags_word, carry_word, slot_word, high_text, form_word}
-use Rattle.cert_words.specs.Reading.{bits_at, tag_by, tag_at, ends_at, range_at, value_in, slot_in, entry_by, flags_in, bytes_in, borrow_in, sum_in, less_in, tagged_by, carry_by, carry_in, offset_in, marked_in, high_in, high_size, open_in, form_in}
+use Rattle.cert_words.specs.Reading.{bits_at, tag_by, own_tag_by, tag_at, ends_at, range_at, value_in, slot_in, entry_by, flags_in, bytes_in, borrow_in, sum_in, less_in, tagged_by, carry_by, carry_in, offset_in, marked_in, high_in, high_size, open_in, form_in}
 use Rattle.pair_words.specs.Reading.{register_at}
 use Rattle.pair_words.proofs.AllLaws.{register_take, register_again}
 use Rattle.cert_words.specs.Fits.{IsTag, IsValue, AreFlags, IsCarry, IsSlot, IsHigh, IsSpForm}
 use Rattle.cert_words.specs.Laws.{ValueWords}
 use Rattle.cert_words.proofs.Limits.{depth_room}
+use Rattle.cert_words.proofs.Tags.{register_below}
 use Rattle.cert_words.proofs.Pieces.{three, bits_take, bits_again, offset_take, offset_again, marked_take, marked_again}
 
 abbrev front : ℕ → List ℕ → List ℕ
@@ -54,7 +56,6 @@ front x xs = x ∷ xs
 
 record IsTagText (letter : ℕ) (bs : List ℕ) (z : Tag × List ℕ) : Type 0 where
   pub text : letter ∷ bs ≡ tag_text z.0 ++ z.1
-  pub names : NamesRegister z.0
   pub fits : TagFits z.0
 
 tag_by_take : WordLaws → (letter : ℕ) (bs : List ℕ) (z : Tag × List ℕ) → tag_by letter bs ≡ Some z → IsTagText letter bs z
@@ -63,21 +64,21 @@ tag_by_take k letter bs z e =
     let P : Tag × List ℕ → Type 0 = λ y. IsTagText letter bs y in
     elim (chosen (letter == 101) _ _ (Some z) e) [
       | inl h ↦
-          let r = map_some (register_at bs) (λ x. (tag.Entry x.0, x.1)) z h.1 in
-          let d = register_take k bs r.0 r.1 in
-          subst P r.2 (record { text = ap₂ front (eqb-true letter 101 h.0) d.0; names = d.1; fits = tt })
+          let r = map_some (digits_at 2 bs) (λ x. (tag.Entry x.0, x.1)) z h.1 in
+          let d = digits_take k 2 bs r.0 r.1 in
+          subst P r.2 (record { text = ap₂ front (eqb-true letter 101 h.0) d.0; fits = tt })
       | inr h ↦ elim (chosen (letter == 102) _ _ (Some z) h.1) [
-        | inl g ↦ subst P (some_is {A = Tag × List ℕ} (tag.EntryFlags, bs) z g.1) (record { text = ap (λ (x : ℕ). x ∷ bs) (eqb-true letter 102 g.0); names = tt; fits = tt })
+        | inl g ↦ subst P (some_is {A = Tag × List ℕ} (tag.EntryFlags, bs) z g.1) (record { text = ap (λ (x : ℕ). x ∷ bs) (eqb-true letter 102 g.0); fits = tt })
         | inr g ↦ elim (chosen (letter == 108) _ _ (Some z) g.1) [
           | inl f ↦
               let j = map_some (digits_at 2 bs) (λ x. (tag.SpLo x.0, x.1)) z f.1 in
               let d = digits_take k 2 bs j.0 j.1 in
-              subst P j.2 (record { text = ap₂ front (eqb-true letter 108 f.0) d.0; names = tt; fits = omega (arith, d.1) })
+              subst P j.2 (record { text = ap₂ front (eqb-true letter 108 f.0) d.0; fits = omega (arith, d.1) })
           | inr f ↦ elim (chosen (letter == 104) _ _ (Some z) f.1) [
             | inl a ↦
                 let j = map_some (digits_at 4 bs) (λ x. (tag.SpHi x.0, x.1)) z a.1 in
                 let d = digits_take k 4 bs j.0 j.1 in
-                subst P j.2 (record { text = ap₂ front (eqb-true letter 104 a.0) d.0; names = tt; fits = omega (arith, d.1) })
+                subst P j.2 (record { text = ap₂ front (eqb-true letter 104 a.0) d.0; fits = omega (arith, d.1) })
             | inr a ↦ absurd (none-some z a.1)
           ]
         ]
@@ -87,31 +88,39 @@ tag_by_take k letter bs z e =
 not_root : (t : Tag) (root : Bool) → root ≡ false → root ≡ true → t ≡ tag.None
 not_root t root e h = absurd (false≢true (sym e ∙ h))
 
-tag_take : WordLaws → (root : Bool) (bs : List ℕ) (z : Tag × List ℕ) → tag_at root bs ≡ Some z → (bs ≡ tag_text z.0 ++ z.1) × IsTag root z.0
+own_tag_take : WordLaws → (device : Device) (letter : ℕ) (bs : List ℕ) (z : Tag × List ℕ) → own_tag_by device letter bs ≡ Some z → IsTagText letter bs z × (is_tag_of device z.0 ≡ true)
+unfolding own_tag_by
+own_tag_take k device letter bs z e =
+    let t = bind_some (tag_by letter bs) _ z e in
+    let last = cond_some {A = Tag × List ℕ} (is_tag_of device t.0.0) t.0 z t.2 in
+    let P : Tag × List ℕ → Type 0 = λ y. IsTagText letter bs y × (is_tag_of device y.0 ≡ true) in
+    subst P last.1 (tag_by_take k letter bs t.0 t.1, last.0)
+
+tag_take : WordLaws → (device : Device) (root : Bool) (bs : List ℕ) (z : Tag × List ℕ) → tag_at device root bs ≡ Some z → (bs ≡ tag_text z.0 ++ z.1) × IsTag device root z.0
 unfolding tag_at
-tag_take k root bs z e =
+tag_take k device root bs z e =
     let l = bind_some (letter_at bs) _ z e in
     let first = letter_take bs l.0 l.1 in
-    let P : Tag × List ℕ → Type 0 = λ y. (bs ≡ tag_text y.0 ++ y.1) × IsTag root y.0 in
+    let P : Tag × List ℕ → Type 0 = λ y. (bs ≡ tag_text y.0 ++ y.1) × IsTag device root y.0 in
     elim (chosen (l.0.0 == 45) _ _ (Some z) l.2) [
-      | inl h ↦ subst P (some_is {A = Tag × List ℕ} (tag.None, l.0.1) z h.1) (first ∙ ap (λ (x : ℕ). x ∷ l.0.1) (eqb-true l.0.0 45 h.0), record { names = tt; fits = tt; none = λ _. refl })
+      | inl h ↦ subst P (some_is {A = Tag × List ℕ} (tag.None, l.0.1) z h.1) (first ∙ ap (λ (x : ℕ). x ∷ l.0.1) (eqb-true l.0.0 45 h.0), record { of = refl; fits = tt; none = λ _. refl })
       | inr h ↦ elim (chosen root _ _ (Some z) h.1) [
         | inl g ↦ absurd (none-some z g.1)
-        | inr g ↦ let t = tag_by_take k l.0.0 l.0.1 z g.1 in (first ∙ t.text, record { names = t.names; fits = t.fits; none = not_root z.0 root g.0 })
+        | inr g ↦ let t = own_tag_take k device l.0.0 l.0.1 z g.1 in (first ∙ t.0.text, record { of = t.1; fits = t.0.fits; none = not_root z.0 root g.0 })
       ]
     ]
 
-not_in_root : (root : Bool) (t : Tag) → (t ≡ tag.None → ⊥) → IsTag root t → root ≡ false
-not_in_root true t other h = absurd (other (h.none refl))
-not_in_root false t other h = refl
+not_in_root : (device : Device) (root : Bool) (t : Tag) → (t ≡ tag.None → ⊥) → IsTag device root t → root ≡ false
+not_in_root device true t other h = absurd (other (h.none refl))
+not_in_root device false t other h = refl
 
-tag_again : WordLaws → (root : Bool) (t : Tag) (rest : List ℕ) → IsTag root t → tag_at root (tag_text t ++ rest) ≡ Some (t, rest)
-unfolding tag_at tag_by
-tag_again k root tag.None rest h = refl
-tag_again k root (tag.Entry r) rest h = rw (not_in_root root (tag.Entry r) (λ e. cc) h, register_again k r rest h.names) refl
-tag_again k root tag.EntryFlags rest h = rw (not_in_root root tag.EntryFlags (λ e. cc) h) refl
-tag_again k root (tag.SpLo j) rest h = rw (not_in_root root (tag.SpLo j) (λ e. cc) h, digits_again k 2 j rest (omega (arith, h.fits))) refl
-tag_again k root (tag.SpHi j) rest h = rw (not_in_root root (tag.SpHi j) (λ e. cc) h, digits_again k 4 j rest (omega (arith, h.fits))) refl
+tag_again : WordLaws → (device : Device) (root : Bool) (t : Tag) (rest : List ℕ) → IsTag device root t → tag_at device root (tag_text t ++ rest) ≡ Some (t, rest)
+unfolding tag_at own_tag_by tag_by
+tag_again k device root tag.None rest h = refl
+tag_again k device root (tag.Entry r) rest h = rw (not_in_root device root (tag.Entry r) (λ e. cc) h, digits_again k 2 r rest (omega (arith, register_below device r h.of)), h.of) refl
+tag_again k device root tag.EntryFlags rest h = rw (not_in_root device root tag.EntryFlags (λ e. cc) h) refl
+tag_again k device root (tag.SpLo j) rest h = rw (not_in_root device root (tag.SpLo j) (λ e. cc) h, digits_again k 2 j rest (omega (arith, h.fits))) refl
+tag_again k device root (tag.SpHi j) rest h = rw (not_in_root device root (tag.SpHi j) (λ e. cc) h, digits_again k 4 j rest (omega (arith, h.fits)), h.of) refl
 
 -- ---- ranges
 
@@ -178,39 +187,39 @@ range_again k r Three v fits h = ends_again k r v.bits v.low v.high fits.low fit
 
 -- ---- values and slots
 
-value_take : WordLaws → BytesAreTheirBits → RangesFit → (version : Version) (root : Bool) (w : List ℕ) (v : AbsByte) → value_in version root w ≡ Some v → (w ≡ value_word version v) × IsValue version root v
+value_take : WordLaws → BytesAreTheirBits → RangesFit → (device : Device) (version : Version) (root : Bool) (w : List ℕ) (v : AbsByte) → value_in device version root w ≡ Some v → (w ≡ value_word version v) × IsValue device version root v
 unfolding value_in
-value_take k b r version root w v e =
-    let t = bind_some (tag_at root w) _ v e in
+value_take k b r device version root w v e =
+    let t = bind_some (tag_at device root w) _ v e in
     let n = bind_some (bits_at t.0.1) _ v t.2 in
     let g = bind_some (range_at version n.0.0 n.0.1) _ v n.2 in
     let last = cond_some {A = AbsByte} (is_end g.0.1) (value_of t.0.0 n.0.0 g.0.0) v g.2 in
-    let first = tag_take k root w t.0 t.1 in
+    let first = tag_take k device root w t.0 t.1 in
     let range = range_take k r version t.0.0 n.0.0 n.0.1 g.0 g.1 in
     let ends : List ℕ = range_text version (value_of t.0.0 n.0.0 g.0.0) in
     let behind : n.0.1 ≡ ends = range.text ∙ ap (λ (xs : List ℕ). ends ++ xs) (end_is g.0.1 last.0) ∙ append-nil ends in
     let bits : t.0.1 ≡ bits_text n.0.0 ++ ends = bits_take k b t.0.1 n.0 n.1 ∙ ap (λ (xs : List ℕ). bits_text n.0.0 ++ xs) behind in
-    let P : AbsByte → Type 0 = λ y. (w ≡ value_word version y) × IsValue version root y in
+    let P : AbsByte → Type 0 = λ y. (w ≡ value_word version y) × IsValue device version root y in
     subst P last.1 (first.0 ∙ ap (λ (xs : List ℕ). tag_text t.0.0 ++ xs) bits, record { fits_tag = first.1; range = range.fits; of_version = range.of_version })
 
 bits_alone : WordLaws → BytesAreTheirBits → BytesAreSets → (t : TriByte) → bits_at (bits_text t) ≡ Some (t, [])
 bits_alone k b s t = ap bits_at (sym (append-nil (bits_text t))) ∙ bits_again k b s t []
 
-value_again : WordLaws → BytesAreTheirBits → BytesAreSets → RangesFit → (version : Version) (root : Bool) (v : AbsByte) → IsValue version root v → value_in version root (value_word version v) ≡ Some v
+value_again : WordLaws → BytesAreTheirBits → BytesAreSets → RangesFit → (device : Device) (version : Version) (root : Bool) (v : AbsByte) → IsValue device version root v → value_in device version root (value_word version v) ≡ Some v
 unfolding value_in
-value_again k b s r version root v h =
-    let first = tag_again k root v.tag (bits_text v.bits ++ range_text version v) h.fits_tag in
+value_again k b s r device version root v h =
+    let first = tag_again k device root v.tag (bits_text v.bits ++ range_text version v) h.fits_tag in
     let bits = bits_again k b s v.bits (range_text version v) in
     let range = range_again k r version v h.range h.of_version in
     rw (first, bits, range) refl
 
-slot_take : WordLaws → BytesAreTheirBits → RangesFit → (version : Version) (root : Bool) (w : List ℕ) (s : Slot AbsByte) → slot_in version root w ≡ Some s → (w ≡ slot_word version s) × IsSlot version root s
+slot_take : WordLaws → BytesAreTheirBits → RangesFit → (device : Device) (version : Version) (root : Bool) (w : List ℕ) (s : Slot AbsByte) → slot_in device version root w ≡ Some s → (w ≡ slot_word version s) × IsSlot device version root s
 unfolding slot_in
-slot_take k b r version root w s e =
-    let P : Slot AbsByte → Type 0 = λ y. (w ≡ slot_word version y) × IsSlot version root y in
+slot_take k b r device version root w s e =
+    let P : Slot AbsByte → Type 0 = λ y. (w ≡ slot_word version y) × IsSlot device version root y in
     elim (chosen (bytes_eq w (codes ".")) _ _ (Some s) e) [
       | inl h ↦ subst P (some_is {A = Slot AbsByte} Free s h.1) ((bytes_eq-Decides w (codes ".")).0 h.0, tt)
-      | inr h ↦ let v = map_some (value_in version root w) (λ x. Guarded x) s h.1 in subst P v.2 (value_take k b r version root w v.0 v.1)
+      | inr h ↦ let v = map_some (value_in device version root w) (λ x. Guarded x) s h.1 in subst P v.2 (value_take k b r device version root w v.0 v.1)
     ]
 
 not_free : (t : Tag) (xs : List ℕ) → bytes_eq (tag_text t ++ xs) (codes ".") ≡ false
@@ -220,10 +229,10 @@ not_free tag.EntryFlags xs = refl
 not_free (tag.SpLo j) xs = refl
 not_free (tag.SpHi j) xs = refl
 
-slot_again : WordLaws → BytesAreTheirBits → BytesAreSets → RangesFit → (version : Version) (root : Bool) (t : Slot AbsByte) → IsSlot version root t → slot_in version root (slot_word version t) ≡ Some t
+slot_again : WordLaws → BytesAreTheirBits → BytesAreSets → RangesFit → (device : Device) (version : Version) (root : Bool) (t : Slot AbsByte) → IsSlot device version root t → slot_in device version root (slot_word version t) ≡ Some t
 unfolding slot_in
-slot_again k b s r version root Free h = refl
-slot_again k b s r version root (Guarded v) h = rw (not_free v.tag (bits_text v.bits ++ range_text version v), value_again k b s r version root v h) refl
+slot_again k b s r device version root Free h = refl
+slot_again k b s r device version root (Guarded v) h = rw (not_free v.tag (bits_text v.bits ++ range_text version v), value_again k b s r device version root v h) refl
 
 -- ---- flags
 
@@ -512,12 +521,12 @@ bits_word : WordLaws → BytesAreSets → (t : TriByte) → IsWord (bits_text t)
 bits_word k s t =
     joined_word (hex_digits t.known 2) (hex_digits t.value 2) (k.hex_word t.known 2 (omega (arith, t.small))) (k.hex_word t.value 2 (omega (arith, (s.member t).0)))
 
-tag_is_word : WordLaws → (root : Bool) (t : Tag) → IsTag root t → IsWord (tag_text t)
-tag_is_word k root tag.None h = ((refl, tt), (refl, tt))
-tag_is_word k root (tag.Entry r) h = joined_word (codes "e") (hex_digits r 2) ((refl, tt), (refl, tt)) (k.hex_word r 2 (omega (arith, h.names)))
-tag_is_word k root tag.EntryFlags h = ((refl, tt), (refl, tt))
-tag_is_word k root (tag.SpLo j) h = joined_word (codes "l") (hex_digits j 2) ((refl, tt), (refl, tt)) (k.hex_word j 2 (omega (arith, h.fits)))
-tag_is_word k root (tag.SpHi j) h = joined_word (codes "h") (hex_digits j 4) ((refl, tt), (refl, tt)) (k.hex_word j 4 (omega (arith, h.fits)))
+tag_is_word : WordLaws → (device : Device) (root : Bool) (t : Tag) → IsTag device root t → IsWord (tag_text t)
+tag_is_word k device root tag.None h = ((refl, tt), (refl, tt))
+tag_is_word k device root (tag.Entry r) h = joined_word (codes "e") (hex_digits r 2) ((refl, tt), (refl, tt)) (k.hex_word r 2 (omega (arith, register_below device r h.of)))
+tag_is_word k device root tag.EntryFlags h = ((refl, tt), (refl, tt))
+tag_is_word k device root (tag.SpLo j) h = joined_word (codes "l") (hex_digits j 2) ((refl, tt), (refl, tt)) (k.hex_word j 2 (omega (arith, h.fits)))
+tag_is_word k device root (tag.SpHi j) h = joined_word (codes "h") (hex_digits j 4) ((refl, tt), (refl, tt)) (k.hex_word j 4 (omega (arith, h.fits)))
 
 ends_are_word : WordLaws → RangesFit → (v : AbsByte) → ByteFits v → IsWord (hex_digits v.low 2 ++ hex_digits v.high 2)
 ends_are_word k r v h =
@@ -530,14 +539,14 @@ range_is_word k r One v h = (tt, tt)
 range_is_word k r Two v h = ends_are_word k r v h
 range_is_word k r Three v h = ends_are_word k r v h
 
-value_is_word : WordLaws → BytesAreSets → RangesFit → (version : Version) (root : Bool) (v : AbsByte) → IsValue version root v → IsWord (value_word version v)
-value_is_word k s r version root v h =
-    joined_word (tag_text v.tag) (bits_text v.bits ++ range_text version v) (tag_is_word k root v.tag h.fits_tag)
+value_is_word : WordLaws → BytesAreSets → RangesFit → (device : Device) (version : Version) (root : Bool) (v : AbsByte) → IsValue device version root v → IsWord (value_word version v)
+value_is_word k s r device version root v h =
+    joined_word (tag_text v.tag) (bits_text v.bits ++ range_text version v) (tag_is_word k device root v.tag h.fits_tag)
     (joined_word (bits_text v.bits) (range_text version v) (bits_word k s v.bits) (range_is_word k r version v h.range))
 
-slot_is_word : WordLaws → BytesAreSets → RangesFit → (version : Version) (root : Bool) (t : Slot AbsByte) → IsSlot version root t → IsWord (slot_word version t)
-slot_is_word k s r version root Free h = ((refl, tt), (refl, tt))
-slot_is_word k s r version root (Guarded v) h = value_is_word k s r version root v h
+slot_is_word : WordLaws → BytesAreSets → RangesFit → (device : Device) (version : Version) (root : Bool) (t : Slot AbsByte) → IsSlot device version root t → IsWord (slot_word version t)
+slot_is_word k s r device version root Free h = ((refl, tt), (refl, tt))
+slot_is_word k s r device version root (Guarded v) h = value_is_word k s r device version root v h
 
 flags_are_word : WordLaws → BytesAreSets → (entry : Bool) (bits : TriByte) → IsWord (flags_word entry bits)
 flags_are_word k s true bits = joined_word (codes "f") (bits_text bits) ((refl, tt), (refl, tt)) (bits_word k s bits)

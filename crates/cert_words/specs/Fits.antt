@@ -1,4 +1,4 @@
--- The values, flags, slots and forms that a node may have in the root's frame, and in other frames.
+-- The values, flags, slots and forms that a node of a device may have in the root's frame, and in other frames.
 use Rattle.std.specs.Prelude.{◌≡◌, ◌<◌, ◌≤◌, ⊤, Bool, true, false}
 use Rattle.avr_model.specs.declared.device.Device.{Device}
 use Rattle.avr_model.specs.Devices.{depth_of, has_sph}
@@ -12,7 +12,8 @@ use Rattle.sp_domain.specs.declared.slots.Slot.{Slot}
 use Rattle.sp_domain.specs.declared.slots.Slot.TheVariants.{Free, Guarded}
 use Rattle.sp_domain.specs.Tags.{HasByteNumbers}
 use Rattle.abs_state.specs.declared.values.AbsByte.{AbsByte}
-use Rattle.abs_state.specs.Formed.{NamesRegister, CarryNamesRegister, ByteFits, CarryIsUntagged}
+use Rattle.abs_state.specs.Formed.{CarryNamesRegister, ByteFits, CarryIsUntagged}
+use Rattle.abs_state.specs.Banks.{is_tag_of}
 use Rattle.node_keys.specs.declared.keys.High.{High}
 use Rattle.node_keys.specs.declared.keys.High.TheVariants as high
 use Rattle.node_keys.specs.declared.keys.SpForm.{SpForm}
@@ -21,28 +22,28 @@ use Rattle.local_rules.specs.Cover.{TagFits}
 use Rattle.certificate.specs.declared.version.Version.{Version}
 use Rattle.certificate.specs.Versions.{ValueIsOf, CarryIsOf}
 
--- its number is in range, and in the root's frame it is no tag
-pub record IsTag (root : Bool) (t : Tag) : Type 0 where
-  pub names : NamesRegister t
+-- the device has it, its number is in range, and in the root's frame it is no tag
+pub record IsTag (device : Device) (root : Bool) (t : Tag) : Type 0 where
+  pub of : is_tag_of device t ≡ true
   pub fits : TagFits t
   pub none : root ≡ true → t ≡ tag.None
 
 -- the tag fits, the range lies between the least and the greatest byte of the bits, and the version has the value
-pub record IsValue (version : Version) (root : Bool) (v : AbsByte) : Type 0 where
-  pub fits_tag : IsTag root v.tag
+pub record IsValue (device : Device) (version : Version) (root : Bool) (v : AbsByte) : Type 0 where
+  pub fits_tag : IsTag device root v.tag
   pub range : ByteFits v
   pub of_version : ValueIsOf version v
 
-abbrev pub IsSlot : Version → Bool → Slot AbsByte → Type 0
-IsSlot version root Free = ⊤
-IsSlot version root (Guarded v) = IsValue version root v
+abbrev pub IsSlot : Device → Version → Bool → Slot AbsByte → Type 0
+IsSlot device version root Free = ⊤
+IsSlot device version root (Guarded v) = IsValue device version root v
 
 -- bit 7 is unknown, and in the root's frame the flags are not those of the entry
 pub record AreFlags (root entry : Bool) (bits : TriByte) : Type 0 where
   pub bit_7 : tri_at bits 7 ≡ Any
   pub none : root ≡ true → entry ≡ false
 
--- its numbers are bytes, it names one of the 32 registers, in the root's frame it does not speak of the base, and the version has it
+-- its numbers are bytes, it names one of r0 to r31, in the root's frame it does not speak of the base, and the version has it
 pub record IsCarry (version : Version) (root : Bool) (c : CarryTag) : Type 0 where
   pub bytes : HasByteNumbers c
   pub names : CarryNamesRegister c

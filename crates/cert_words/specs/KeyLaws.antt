@@ -7,14 +7,14 @@ use Rattle.local_rules.specs.Cover.{IsKey}
 use Rattle.line_reading.specs.Words.{IsWord}
 use Rattle.node_keys.specs.declared.keys.InstKey.{InstKey}
 use Rattle.node_keys.specs.declared.keys.NodeKey.{NodeKey}
-use Rattle.node_keys.specs.Keys.{offset_of}
+use Rattle.node_keys.specs.Keys.{offset_of, is_root}
 use Rattle.edge_rules.specs.declared.seeded.NodeForm.{NodeForm}
 use Rattle.certificate.specs.Insts.{fits_kind}
 use Rattle.certificate.specs.Claims.{FitsAt}
 use Rattle.certificate.specs.declared.version.Version.{Version}
 use Rattle.certificate.specs.Versions.{PickIsOf, FormIsOf, is_third}
 use Rattle.cert_words.specs.KeySpelling.{inst_key_words, place_words, form_words}
-use Rattle.cert_words.specs.KeyReading.{is_root, inst_key_at, node_key_at, form_at}
+use Rattle.cert_words.specs.KeyReading.{inst_key_at, node_key_at, form_at}
 
 -- a key of an instance that is valid for the device
 pub record IsInstKey (device : Device) (key : InstKey) : Type 0 where
@@ -41,10 +41,10 @@ pub record PlaceWords : Type 0 where
 -- the form of the node of this number and key; its state follows pairs exactly in the third version
 pub record FormWords : Type 0 where
   pub spelled : (device : Device) (version : Version) (at : ℕ) (key : NodeKey) (ws rest : List (List ℕ)) (form : NodeForm) → IsKey device key
-      → form_at version (is_root key.inst.kind) (offset_of key.sp) at ws ≡ Some (form, rest) → (ws ≡ form_words version form ++ rest) × FitsAt device (is_third version) at key form × FormIsOf version form
+      → form_at device version (is_root key.inst.kind) (offset_of key.sp) at ws ≡ Some (form, rest) → (ws ≡ form_words device version form ++ rest) × FitsAt device (is_third version) at key form × FormIsOf version form
   pub read : (device : Device) (version : Version) (at : ℕ) (key : NodeKey) (form : NodeForm) → at ≤ 65536 → FitsAt device (is_third version) at key form → FormIsOf version form
-      → form_at version (is_root key.inst.kind) (offset_of key.sp) at (form_words version form) ≡ Some (form, [])
-  pub words : (device : Device) (version : Version) (at : ℕ) (key : NodeKey) (form : NodeForm) → at ≤ 65536 → FitsAt device (is_third version) at key form → FormIsOf version form → AllByRecursion IsWord (form_words version form)
+      → form_at device version (is_root key.inst.kind) (offset_of key.sp) at (form_words device version form) ≡ Some (form, [])
+  pub words : (device : Device) (version : Version) (at : ℕ) (key : NodeKey) (form : NodeForm) → at ≤ 65536 → FitsAt device (is_third version) at key form → FormIsOf version form → AllByRecursion IsWord (form_words device version form)
 
 pub record KeyWords : Type 0 where
   pub insts : InstKeyWords

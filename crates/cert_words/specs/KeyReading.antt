@@ -1,10 +1,11 @@
 -- Reads the words of keys, states and forms of nodes.
-use Rattle.std.specs.Prelude.{ℕ, zero, suc, ◌==◌, ◌^◌, nat_lt, Bool, true, false, List, [], ◌∷◌, ◌++◌, codes, Option, Some, None, if◌then◌else◌}
+use Rattle.std.specs.Prelude.{ℕ, zero, suc, ◌==◌, ◌^◌, nat_lt, Bool, List, [], ◌∷◌, ◌++◌, codes, Option, Some, None, if◌then◌else◌}
 use Rattle.std.specs.Option.{option_map}
 use Rattle.std.specs.Str.{bytes_eq}
 use Rattle.avr_model.specs.declared.device.Device.{Device}
 use Rattle.avr_model.specs.Devices.{limit_of}
 use Rattle.avr_model.specs.Vectors.{last_vector, enable_count}
+use Rattle.avr_model.specs.State.{RAMPZ, EIND, has_register}
 use Rattle.line_reading.specs.Reading.{◌>>=◌, hex_at, dec_at, word_by}
 use Rattle.line_reading.specs.Letters.{letter_at}
 use Rattle.assumption_files.specs.Reading.{word_address_at}
@@ -12,10 +13,12 @@ use Rattle.node_keys.specs.declared.keys.Kind.{Kind}
 use Rattle.node_keys.specs.declared.keys.Kind.TheVariants.{Root, Call, Vector}
 use Rattle.node_keys.specs.declared.keys.InstKey.{InstKey}
 use Rattle.node_keys.specs.declared.keys.NodeKey.{NodeKey}
+use Rattle.node_keys.specs.Keys.{is_root}
 use Rattle.pair_domain.specs.declared.facts.PairFacts.{PairFacts}
 use Rattle.abs_state.specs.declared.values.AbsByte.{AbsByte}
 use Rattle.abs_state.specs.declared.values.AbsFlags.{AbsFlags}
 use Rattle.abs_state.specs.declared.state.AbsState.{AbsState}
+use Rattle.abs_state.specs.Banks.{absent}
 use Rattle.edge_rules.specs.declared.seeded.NodeForm.{NodeForm}
 use Rattle.edge_rules.specs.declared.seeded.NodeForm.TheVariants.{State, From}
 use Rattle.certificate.specs.Insts.{fits_kind}
@@ -24,7 +27,7 @@ use Rattle.certificate.specs.declared.version.Version.TheVariants.{One, Two, Thr
 use Rattle.pair_words.specs.Reading.{facts_at}
 use Rattle.certificate.specs.Hulls.{hulls_of}
 use Rattle.cert_words.specs.KeySpelling.{masks_digits}
-use Rattle.cert_words.specs.Reading.{value_in, slot_in, flags_in, carry_in, form_in}
+use Rattle.cert_words.specs.Reading.{value_in, bank_in, slot_in, flags_in, carry_in, form_in}
 
 -- ---- words
 
@@ -60,11 +63,6 @@ inst_key_at device ws = do
 
 -- ---- nodes
 
-abbrev pub is_root : Kind → Bool
-is_root Root = true
-is_root Call = false
-is_root (Vector v) = false
-
 -- no pick, or the picked byte
 unfoldable pub pick_in : List ℕ → Option (Option ℕ)
 pick_in w = if bytes_eq w (codes "-") then Some None else option_map (λ n. Some n.0) (hex_at 2 (w ∷ []))
@@ -97,13 +95,25 @@ pairs_at One registers ws = Some (None, ws)
 pairs_at Two registers ws = Some (None, ws)
 pairs_at Three registers ws = option_map (λ f. (Some f.0, f.1)) (facts_at (hulls_of registers) ws)
 
+-- RAMPZ or EIND; one that the device lacks has no word
+unfoldable pub bank_at : Device → Version → Bool → ℕ → List (List ℕ) → Option (AbsByte × List (List ℕ))
+bank_at device version root r ws = if has_register device r then word_by (bank_in device version root r) ws else Some (absent root r, ws)
+
+-- all registers, of which the first has this value
+unfoldable pub registers_behind : Device → Version → Bool → AbsByte → List (List ℕ) → Option (List AbsByte × List (List ℕ))
+registers_behind device version root first ws = do
+  r ← words_from (value_in device version root) (first ∷ []) 31 ws
+  z ← bank_at device version root RAMPZ r.1
+  e ← bank_at device version root EIND z.1
+  Some (r.0 ++ z.0 ∷ e.0 ∷ [], e.1)
+
 -- a state whose first register has this value
-unfoldable pub state_behind : Version → Bool → ℕ → AbsByte → List (List ℕ) → Option (AbsState × List (List ℕ))
-state_behind version root offset first ws = do
-  r ← words_from (value_in version root) (first ∷ []) 31 ws
+unfoldable pub state_behind : Device → Version → Bool → ℕ → AbsByte → List (List ℕ) → Option (AbsState × List (List ℕ))
+state_behind device version root offset first ws = do
+  r ← registers_behind device version root first ws
   f ← flags_at version root r.1
   p ← pairs_at version r.0 f.1
-  s ← words_from (slot_in version root) [] offset p.1
+  s ← words_from (slot_in device version root) [] offset p.1
   Some (record { registers = r.0; flags = f.0; slots = s.0; facts = p.0 }, s.1)
 
 abbrev pub by_state : Option (AbsState × List (List ℕ)) → Option (NodeForm × List (List ℕ))
@@ -114,7 +124,7 @@ unfoldable pub from_behind : ℕ → List (List ℕ) → Option (NodeForm × Lis
 from_behind at ws = dec_at 65535 ws >>= λ m. if nat_lt m.0 at then Some (From m.0, m.1) else None
 
 -- the form of the node of this number
-unfoldable pub form_at : Version → Bool → ℕ → ℕ → List (List ℕ) → Option (NodeForm × List (List ℕ))
-form_at version root offset at [] = None
-form_at version root offset at (w ∷ ws) =
-    if bytes_eq w (codes "from") then from_behind at ws else (value_in version root w >>= λ v. by_state (state_behind version root offset v ws))
+unfoldable pub form_at : Device → Version → Bool → ℕ → ℕ → List (List ℕ) → Option (NodeForm × List (List ℕ))
+form_at device version root offset at [] = None
+form_at device version root offset at (w ∷ ws) =
+    if bytes_eq w (codes "from") then from_behind at ws else (value_in device version root w >>= λ v. by_state (state_behind device version root offset v ws))

@@ -1,8 +1,9 @@
 -- The words of keys, states and forms of nodes. Source: own.
-use Rattle.std.specs.Prelude.{ℕ, ◌+◌, ◌/◌, List, [], ◌∷◌, ◌++◌, map, codes, Option, Some, None}
+use Rattle.std.specs.Prelude.{ℕ, ◌+◌, ◌/◌, List, [], ◌∷◌, ◌++◌, map, take, codes, Option, Some, None, if◌then◌else◌}
 use Rattle.std.specs.Fmt.{decimal}
 use Rattle.text_base.specs.Digits.{hex_digits}
 use Rattle.avr_model.specs.declared.device.Device.{Device}
+use Rattle.avr_model.specs.Devices.{has_elpm, has_eijmp}
 use Rattle.avr_model.specs.Vectors.{enable_count}
 use Rattle.assumption_files.specs.Spelling.{word_address_text}
 use Rattle.node_keys.specs.declared.keys.Kind.{Kind}
@@ -65,12 +66,16 @@ pairs_words Two registers facts = []
 pairs_words Three registers None = []
 pairs_words Three registers (Some f) = facts_words (hulls_of registers) f
 
--- registers, flags, carry tag, pairs and slots
-abbrev pub state_words : Version → AbsState → List (List ℕ)
-state_words version s =
-    map (value_word version) s.registers ++ (flags_word s.flags.entry s.flags.bits ∷ carry_word s.flags.carry ∷ (pairs_words version s.registers s.facts ++ map (slot_word version) s.slots))
+-- the number of registers of the device: r0 to r31, RAMPZ behind `elpm` and EIND behind `eijmp`
+abbrev pub register_count : Device → ℕ
+register_count device = if has_eijmp device then 34 else (if has_elpm device then 33 else 32)
+
+-- registers of the device, flags, carry tag, pairs and slots
+abbrev pub state_words : Device → Version → AbsState → List (List ℕ)
+state_words device version s =
+    map (value_word version) (take (register_count device) s.registers) ++ (flags_word s.flags.entry s.flags.bits ∷ carry_word s.flags.carry ∷ (pairs_words version s.registers s.facts ++ map (slot_word version) s.slots))
 
 -- a state, or the number of the node that it comes from
-abbrev pub form_words : Version → NodeForm → List (List ℕ)
-form_words version (State s) = state_words version s
-form_words version (From m) = codes "from" ∷ decimal m ∷ []
+abbrev pub form_words : Device → Version → NodeForm → List (List ℕ)
+form_words device version (State s) = state_words device version s
+form_words device version (From m) = codes "from" ∷ decimal m ∷ []

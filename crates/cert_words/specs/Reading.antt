@@ -1,4 +1,5 @@
--- Reads words from their front. A reading gives a value and the bytes behind it, or nothing. In the root's frame nothing is tagged.
+-- Reads words from their front, for a device. A reading gives a value and the bytes behind it, or nothing. In the root's frame nothing is
+-- tagged.
 use Rattle.std.specs.Prelude.{ℕ, ◌-◌, ◌==◌, ◌&&◌, nat_lt, nat_le, not, Bool, true, false, List, [], ◌∷◌, length, take, drop, codes, Option, Some, None, if◌then◌else◌}
 use Rattle.std.specs.Option.{option_map}
 use Rattle.std.specs.Int.{bit_at}
@@ -6,6 +7,7 @@ use Rattle.std.specs.Int.RustNames.{bit_and}
 use Rattle.std.specs.Str.{bytes_eq}
 use Rattle.avr_model.specs.declared.device.Device.{Device}
 use Rattle.avr_model.specs.Devices.{depth_of, has_sph}
+use Rattle.avr_model.specs.State.{bank_most}
 use Rattle.line_reading.specs.Reading.{◌>>=◌, dec_at}
 use Rattle.line_reading.specs.Letters.{letter_at, digits_at, is_end}
 use Rattle.bit_domain.specs.declared.bytes.TriByte.{TriByte}
@@ -18,6 +20,7 @@ use Rattle.sp_domain.specs.declared.tags.CarryTag.TheVariants as carry
 use Rattle.sp_domain.specs.declared.slots.Slot.{Slot}
 use Rattle.sp_domain.specs.declared.slots.Slot.TheVariants.{Free, Guarded}
 use Rattle.abs_state.specs.declared.values.AbsByte.{AbsByte}
+use Rattle.abs_state.specs.Banks.{is_tag_of}
 use Rattle.node_keys.specs.declared.keys.High.{High}
 use Rattle.node_keys.specs.declared.keys.High.TheVariants as high
 use Rattle.node_keys.specs.declared.keys.SpForm.{SpForm}
@@ -42,13 +45,17 @@ bits_at bs = do
 -- the tag of a letter and the bytes behind it
 unfoldable pub tag_by : ℕ → List ℕ → Option (Tag × List ℕ)
 tag_by letter bs =
-    if letter == 101 then option_map (λ r. (tag.Entry r.0, r.1)) (register_at bs)
+    if letter == 101 then option_map (λ r. (tag.Entry r.0, r.1)) (digits_at 2 bs)
     else (if letter == 102 then Some (tag.EntryFlags, bs)
     else (if letter == 108 then option_map (λ j. (tag.SpLo j.0, j.1)) (digits_at 2 bs)
     else (if letter == 104 then option_map (λ k. (tag.SpHi k.0, k.1)) (digits_at 4 bs) else None)))
 
-unfoldable pub tag_at : Bool → List ℕ → Option (Tag × List ℕ)
-tag_at root bs = letter_at bs >>= λ l. if l.0 == 45 then Some (tag.None, l.1) else (if root then None else tag_by l.0 l.1)
+-- a tag that the device has
+unfoldable pub own_tag_by : Device → ℕ → List ℕ → Option (Tag × List ℕ)
+own_tag_by device letter bs = tag_by letter bs >>= λ t. if is_tag_of device t.0 then Some t else None
+
+unfoldable pub tag_at : Device → Bool → List ℕ → Option (Tag × List ℕ)
+tag_at device root bs = letter_at bs >>= λ l. if l.0 == 45 then Some (tag.None, l.1) else (if root then None else own_tag_by device l.0 l.1)
 
 -- the ends of a range between the least and the greatest byte of the bits
 unfoldable pub ends_at : TriByte → List ℕ → Option ((ℕ × ℕ) × List ℕ)
@@ -70,11 +77,15 @@ value_behind version tag bs = do
   r ← range_at version b.0 b.1
   if is_end r.1 then Some (record { tag = tag; bits = b.0; low = r.0.0; high = r.0.1 }) else None
 
-unfoldable pub value_in : Version → Bool → List ℕ → Option AbsByte
-value_in version root w = tag_at root w >>= λ t. value_behind version t.0 t.1
+unfoldable pub value_in : Device → Version → Bool → List ℕ → Option AbsByte
+value_in device version root w = tag_at device root w >>= λ t. value_behind version t.0 t.1
 
-unfoldable pub slot_in : Version → Bool → List ℕ → Option (Slot AbsByte)
-slot_in version root w = if bytes_eq w (codes ".") then Some Free else option_map (λ v. Guarded v) (value_in version root w)
+-- the value of RAMPZ or EIND, whose bits permit no number above the register's greatest
+unfoldable pub bank_in : Device → Version → Bool → ℕ → List ℕ → Option AbsByte
+bank_in device version root r w = value_in device version root w >>= λ v. if nat_le (most_of v.bits) (bank_most device r) then Some v else None
+
+unfoldable pub slot_in : Device → Version → Bool → List ℕ → Option (Slot AbsByte)
+slot_in device version root w = if bytes_eq w (codes ".") then Some Free else option_map (λ v. Guarded v) (value_in device version root w)
 
 -- ---- flags
 

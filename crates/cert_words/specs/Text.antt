@@ -4,6 +4,7 @@ use Rattle.std.specs.List.{flat_map}
 use Rattle.std.specs.Fmt.{decimal}
 use Rattle.avr_model.specs.declared.assumption.Entry.{Entry}
 use Rattle.avr_model.specs.declared.device.Device.{Device}
+use Rattle.avr_model.specs.Devices.{has_elpm}
 use Rattle.avr_model.specs.Names.{class_of}
 use Rattle.text_base.specs.Lines.{line}
 use Rattle.node_keys.specs.declared.keys.InstKey.{InstKey}
@@ -37,19 +38,23 @@ inst_number key (x ∷ xs) = if same_inst x.key key then 0 else inst_number key 
 
 -- the words of the line of a node whose instance has this number
 abbrev pub node_words_at : Device → Version → ℕ → NodeKey × NodeForm → List (List ℕ)
-node_words_at device version place n = codes "node" ∷ decimal place ∷ place_words device version n.0 ++ form_words version n.1
+node_words_at device version place n = codes "node" ∷ decimal place ∷ place_words device version n.0 ++ form_words device version n.1
 
 abbrev pub node_words : Device → Version → List Inst → NodeKey × NodeForm → List (List ℕ)
 node_words device version insts n = node_words_at device version (inst_number n.0.inst insts) n
 
 -- ---- parts
 
--- the first line: of a text that says its device, or by the version
-abbrev pub version_line : Bool → Version → List (List ℕ)
-version_line true version = codes "stackcert" ∷ codes "4" ∷ []
-version_line false One = codes "stackcert" ∷ codes "1" ∷ []
-version_line false Two = codes "stackcert" ∷ codes "2" ∷ []
-version_line false Three = codes "stackcert" ∷ codes "3" ∷ []
+-- The number in the first line: of a text that says its device 5 if the device has RAMPZ, else 4; of others that of the version.
+abbrev pub version_word : Bool → Bool → Version → List ℕ
+version_word true true version = codes "5"
+version_word true false version = codes "4"
+version_word false banked One = codes "1"
+version_word false banked Two = codes "2"
+version_word false banked Three = codes "3"
+
+abbrev pub version_line : Device → Version → List (List ℕ)
+version_line device version = codes "stackcert" ∷ version_word (says_device device) (has_elpm device) version ∷ []
 
 abbrev pub device_line : List ℕ → List (List ℕ)
 device_line name = codes "device" ∷ name ∷ []
@@ -60,7 +65,7 @@ device_lines true device = device_line (class_of device) ∷ []
 device_lines false device = []
 
 abbrev pub heading : Device → Version → ℕ → List (List (List ℕ))
-heading device version bound = version_line (says_device device) version ∷ (device_lines (says_device device) device ++ numbered (codes "bound") bound ∷ [])
+heading device version bound = version_line device version ∷ (device_lines (says_device device) device ++ numbered (codes "bound") bound ∷ [])
 
 abbrev pub entry_lines : Device → List Entry → List (List (List ℕ))
 entry_lines device entries = numbered (codes "assume") (length entries) ∷ map (entry_words device) entries

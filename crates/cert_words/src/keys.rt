@@ -4,11 +4,12 @@ ghost use Rattle.std.specs.Prelude.{◌≡◌, ◌≤◌, IfSome};
 ghost use Rattle.std.specs.Option.{option_map};
 ghost use Rattle.avr_model.specs.Devices.{depth_of};
 ghost use Rattle.avr_model.specs.Vectors.{is_vector, last_vector};
-ghost use Rattle.node_keys.specs.Keys.{offset_of};
+ghost use Rattle.node_keys.specs.Keys.{offset_of, is_root};
 ghost use Rattle.certificate.specs.Insts.{is_vector_word, fits_kind};
 ghost use Rattle.cert_words.specs.KeySpelling.{masks_digits};
-ghost use Rattle.cert_words.specs.KeyReading.{masks_at, flag_at, kind_in, inst_key_at, is_root, pick_at, node_key_at};
+ghost use Rattle.cert_words.specs.KeyReading.{masks_at, flag_at, kind_in, inst_key_at, pick_at, node_key_at};
 
+use crate::form::Form;
 use crate::values::sp_form_of;
 use assumption_files::word_address_of;
 use avr_model::device::Device;
@@ -123,8 +124,8 @@ pub fn inst_key_of(device: Device, words: &mut Words<'_>) -> Option<InstKey>
     }
 }
 
-/// Whether this is the root's kind.
-pub fn is_root(kind: Kind) -> bool
+// Whether this is the root's kind.
+pub(crate) fn is_root(kind: Kind) -> bool
     ensures { result ≡ is_root kind }
 {
     match kind {
@@ -154,19 +155,15 @@ fn pick_of(words: &mut Words<'_>, version: Version) -> Option<Option<u8>>
     }
 }
 
-/// A node of this instance by its next words in a certificate for the device, of this version: word, enable bits, I, delay, form of the
+/// A node of this instance by its next words in a certificate of this form: word, enable bits, I, delay, form of the
 /// stack pointer and, except in the first version, pick. None exactly if they are those of no valid node.
 #[tactic(auto, unfolding(crate::specs::KeyReading::node_key_at))]
-pub fn node_key_of(
-    words: &mut Words<'_>,
-    device: Device,
-    version: Version,
-    inst: &InstKey,
-) -> Option<NodeKey>
-    ensures exact { option_map (λ k. (k, words.new)) result ≡ node_key_at device version inst.now words.old }
-    ensures small { IfSome result (λ k. offset_of k.sp ≤ depth_of device) }
+pub fn node_key_of(form: Form, words: &mut Words<'_>, inst: &InstKey) -> Option<NodeKey>
+    ensures exact { option_map (λ k. (k, words.new)) result ≡ node_key_at form.device form.version inst.now words.old }
+    ensures small { IfSome result (λ k. offset_of k.sp ≤ depth_of form.device) }
 {
-    let (Some(pc), Some(masks), Some(i), Some(delay), Some(form)) = (
+    let device = form.device;
+    let (Some(pc), Some(masks), Some(i), Some(delay), Some(word)) = (
         word_address_of(device, words),
         masks_of(device, words),
         flag_of(words),
@@ -176,7 +173,8 @@ pub fn node_key_of(
         return None;
     };
     let root = is_root(inst.kind);
-    let (Some(sp), Some(pick)) = (sp_form_of(device, form, root), pick_of(words, version)) else {
+    let (Some(sp), Some(pick)) = (sp_form_of(device, word, root), pick_of(words, form.version))
+    else {
         return None;
     };
     if pc < device.limit() {

@@ -1,41 +1,43 @@
 //! The words of a node's state.
 
-ghost use Rattle.std.specs.Prelude.{◌≡◌, ◌∷◌, [], IfOk};
+ghost use Rattle.std.specs.Prelude.{◌≡◌, ◌<◌, ◌∷◌, [], take, IfOk};
 ghost use Rattle.std.specs.Option.{option_map};
+ghost use Rattle.node_keys.specs.Keys.{offset_of, is_root};
 ghost use Rattle.cert_words.specs.Reading.{value_in, slot_in};
 ghost use Rattle.line_reading.specs.Reading.{word_by};
-ghost use Rattle.cert_words.specs.KeyReading.{words_from, flags_at, state_behind, pairs_at, form_at};
+ghost use Rattle.abs_state.specs.Banks.{absent};
+ghost use Rattle.cert_words.specs.KeyReading.{words_from, bank_at, registers_behind, flags_at, state_behind, pairs_at, form_at};
 
-use crate::values::{carry_of, flags_of, slot_of, value_of};
-use abs_state::{AbsByte, AbsFlags, AbsState};
+use crate::form::Form;
+use crate::keys::is_root;
+use crate::values::{bank_of, carry_of, flags_of, has_register, slot_of, value_of};
+use abs_state::{AbsByte, AbsFlags, AbsState, Registers};
+use avr_model::device::{EIND, RAMPZ};
+use bit_domain::TriByte;
 use certificate::{Version, hulls_of};
 use edge_rules::{HeldState, NodeForm};
 use line_reading::dec_word;
+use node_keys::NodeKey;
 use pair_domain::Facts;
 use pair_words::facts_of;
-use sp_domain::Slots;
+use sp_domain::{Slots, Tag};
 use std::alloc::{AllocError, Global};
 use text_base::Words;
 
 // The value of the next word.
-fn next_value(words: &mut Words<'_>, version: Version, root: bool) -> Option<AbsByte>
-    ensures { option_map (λ v. (v, words.new)) result ≡ word_by (value_in version root) words.old }
+fn next_value(form: Form, words: &mut Words<'_>, root: bool) -> Option<AbsByte>
+    ensures { option_map (λ v. (v, words.new)) result ≡ word_by (value_in form.device form.version root) words.old }
 {
-    value_of(words.next()?, version, root)
+    value_of(form, words.next()?, root)
 }
 
-// All registers, of which the first has this value.
-fn registers_of(
-    words: &mut Words<'_>,
-    version: Version,
-    root: bool,
-    first: AbsByte,
-) -> Option<[AbsByte; 32]>
-    ensures { option_map (λ r. (r, words.new)) result ≡ words_from (value_in version root) (first ∷ []) 31 words.old }
+// r0 to r31, of which the first has this value, before two others.
+fn first_values(form: Form, words: &mut Words<'_>, root: bool, first: AbsByte) -> Option<Registers>
+    ensures { option_map (λ r. (take 32 r, words.new)) result ≡ words_from (value_in form.device form.version root) (first ∷ []) 31 words.old }
 {
-    let mut registers = [first; 32];
+    let mut registers = [first; 34];
     for r in 1..32 {
-        let Some(value) = next_value(words, version, root) else {
+        let Some(value) = next_value(form, words, root) else {
             return None;
         };
         registers[r] = value;
@@ -43,19 +45,62 @@ fn registers_of(
     Some(registers)
 }
 
+// The value of a register that the device lacks.
+fn absent(root: bool, register: u8) -> AbsByte
+    ensures { result ≡ absent root register }
+{
+    let tag = if root {
+        Tag::None
+    } else {
+        Tag::Entry(register)
+    };
+    AbsByte::of_bits(tag, TriByte::of(0))
+}
+
+// RAMPZ or EIND; one that the device lacks has no word.
+#[tactic(auto, unfolding(crate::specs::KeyReading::bank_at))]
+fn next_bank(form: Form, words: &mut Words<'_>, root: bool, register: u16) -> Option<AbsByte>
+    requires { register < 256 }
+    ensures { option_map (λ v. (v, words.new)) result ≡ bank_at form.device form.version root register words.old }
+{
+    if !has_register(form.device, register) {
+        return Some(absent(root, register as u8));
+    }
+    bank_of(form, words.next()?, root, register)
+}
+
+// All registers, of which the first has this value.
+#[tactic(auto, unfolding(crate::specs::KeyReading::registers_behind))]
+fn registers_of(form: Form, words: &mut Words<'_>, root: bool, first: AbsByte) -> Option<Registers>
+    ensures { option_map (λ r. (r, words.new)) result ≡ registers_behind form.device form.version root first words.old }
+{
+    let Some(mut registers) = first_values(form, words, root, first) else {
+        return None;
+    };
+    let Some(rampz) = next_bank(form, words, root, RAMPZ) else {
+        return None;
+    };
+    let Some(eind) = next_bank(form, words, root, EIND) else {
+        return None;
+    };
+    registers[usize::from(RAMPZ)] = rampz;
+    registers[usize::from(EIND)] = eind;
+    Some(registers)
+}
+
 // This many slots.
 fn slots_of(
     alloc: Global,
+    form: Form,
     words: &mut Words<'_>,
-    version: Version,
     root: bool,
     count: u16,
 ) -> Result<Option<Slots<AbsByte>>, AllocError>
-    ensures { IfOk result (λ o. option_map (λ s. (s, words.new)) o ≡ words_from (slot_in version root) [] count words.old) }
+    ensures { IfOk result (λ o. option_map (λ s. (s, words.new)) o ≡ words_from (slot_in form.device form.version root) [] count words.old) }
 {
     let mut slots = Slots::new(alloc);
     for _ in 0..count {
-        let Some(slot) = slot_of(words, version, root) else {
+        let Some(slot) = slot_of(form, words, root) else {
             return Ok(None);
         };
         slots.push(slot)?;
@@ -83,7 +128,7 @@ fn pairs_of(
     alloc: Global,
     words: &mut Words<'_>,
     version: Version,
-    registers: &[AbsByte; 32],
+    registers: &Registers,
 ) -> Result<Option<Facts>, AllocError>
     ensures { IfOk result (λ o. option_map (λ f. (f, words.new)) o ≡ pairs_at version registers.now words.old) }
 {
@@ -96,28 +141,28 @@ fn pairs_of(
     }
 }
 
-// A node's state, whose first register has this value.
+// The state of the node of this key, whose first register has this value.
 #[tactic(auto, unfolding(crate::specs::KeyReading::state_behind))]
 fn state_of(
     alloc: Global,
+    form: Form,
     words: &mut Words<'_>,
-    version: Version,
-    root: bool,
-    offset: u16,
+    key: &NodeKey,
     first: AbsByte,
 ) -> Result<Option<AbsState>, AllocError>
-    ensures { IfOk result (λ o. option_map (λ s. (s, words.new)) o ≡ state_behind version root offset first words.old) }
+    ensures { IfOk result (λ o. option_map (λ s. (s, words.new)) o ≡ state_behind form.device form.version (is_root key.now.inst.kind) (offset_of key.now.sp) first words.old) }
 {
-    let Some(registers) = registers_of(words, version, root, first) else {
+    let root = is_root(key.inst.kind);
+    let Some(registers) = registers_of(form, words, root, first) else {
         return Ok(None);
     };
-    let Some(flags) = both_flags_of(words, version, root) else {
+    let Some(flags) = both_flags_of(words, form.version, root) else {
         return Ok(None);
     };
-    let Some(facts) = pairs_of(alloc, words, version, &registers)? else {
+    let Some(facts) = pairs_of(alloc, words, form.version, &registers)? else {
         return Ok(None);
     };
-    let Some(slots) = slots_of(alloc, words, version, root, offset)? else {
+    let Some(slots) = slots_of(alloc, form, words, root, key.offset())? else {
         return Ok(None);
     };
     Ok(Some(AbsState {
@@ -128,19 +173,17 @@ fn state_of(
     }))
 }
 
-/// The form of node number `at` by its next words in a certificate of this version: a state, or `from` and the number of an earlier node.
-/// `root` says whether its frame is the root's, and `offset` is that of its stack pointer. None exactly if they are the words of no valid
-/// form.
+/// The state of node number `at`, which has this key, by its next words in a certificate of this form: a state, or `from` and the number
+/// of an earlier node. None exactly if they are the words of neither.
 #[tactic(auto, unfolding(crate::specs::KeyReading::form_at, crate::specs::KeyReading::from_behind))]
 pub fn node_form_of(
     alloc: Global,
+    form: Form,
     words: &mut Words<'_>,
-    version: Version,
-    root: bool,
-    offset: u16,
+    key: &NodeKey,
     at: usize,
 ) -> Result<Option<NodeForm>, AllocError>
-    ensures { IfOk result (λ o. option_map (λ f. (f, words.new)) o ≡ form_at version root offset at words.old) }
+    ensures { IfOk result (λ o. option_map (λ f. (f, words.new)) o ≡ form_at form.device form.version (is_root key.now.inst.kind) (offset_of key.now.sp) at words.old) }
 {
     let Some(word) = words.next() else {
         return Ok(None);
@@ -151,10 +194,10 @@ pub fn node_form_of(
             _ => Ok(None),
         };
     }
-    let Some(first) = value_of(word, version, root) else {
+    let Some(first) = value_of(form, word, is_root(key.inst.kind)) else {
         return Ok(None);
     };
-    match state_of(alloc, words, version, root, offset, first)? {
+    match state_of(alloc, form, words, key, first)? {
         Some(state) => Ok(Some(NodeForm::State(HeldState::new(alloc, state)?))),
         None => Ok(None),
     }

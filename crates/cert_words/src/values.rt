@@ -3,15 +3,18 @@
 ghost use Rattle.std.specs.Prelude.{◌≡◌, ◌≤◌, ◌<◌, ◌^◌, Some, IfSome, IsTrue};
 ghost use Rattle.std.specs.Option.{option_map};
 ghost use Rattle.avr_model.specs.Devices.{depth_of};
+ghost use Rattle.avr_model.specs.State.{has_register};
 ghost use Rattle.abs_state.specs.Values.{with_bits};
+ghost use Rattle.abs_state.specs.Banks.{is_tag_of};
 ghost use Rattle.sp_domain.specs.declared.tags.Tag.{Tag};
 ghost use Rattle.sp_domain.specs.declared.tags.Tag.TheVariants as tag;
 ghost use Rattle.node_keys.specs.Keys.{offset_of};
 ghost use Rattle.line_reading.specs.Reading.{word_by};
-ghost use Rattle.cert_words.specs.Reading.{tri_byte, bits_at, tag_at, range_at, value_behind, value_in, slot_in, flags_in, bytes_in, tagged_by, carry_in, offset_in, marked_in, open_in, form_in};
+ghost use Rattle.cert_words.specs.Reading.{tri_byte, bits_at, tag_by, tag_at, range_at, value_behind, value_in, bank_in, slot_in, flags_in, bytes_in, tagged_by, carry_in, offset_in, marked_in, open_in, form_in};
 
+use crate::form::Form;
 use abs_state::AbsByte;
-use avr_model::device::Device;
+use avr_model::device::{Device, EIND, RAMPZ};
 use bit_domain::{Range, TriByte};
 use certificate::Version;
 use line_reading::Letters;
@@ -34,24 +37,59 @@ fn bits_of(letters: &mut Letters<'_>) -> Option<TriByte>
     }
 }
 
-// The tag of a value; the root's frame has none.
-#[tactic(auto, unfolding(crate::specs::Reading::tag_at, crate::specs::Reading::tag_by))]
-fn tag_of(letters: &mut Letters<'_>, root: bool) -> Option<Tag>
-    ensures { option_map (λ t. (t, letters.new)) result ≡ tag_at root letters.old }
+// Whether the device has this register.
+pub(crate) fn has_register(device: Device, register: u16) -> bool
+    ensures { result ≡ has_register device register }
 {
-    let letter = letters.next()?;
-    if letter == b'-' {
-        Some(Tag::None)
-    } else if root {
-        None
-    } else if letter == b'e' {
-        Some(Tag::Entry(register_of(letters)?))
+    register < RAMPZ
+        || register == RAMPZ && device.has_elpm()
+        || register == EIND && device.has_eijmp()
+}
+
+// Whether the device has this tag.
+fn is_tag_of(device: Device, tag: Tag) -> bool
+    ensures { result ≡ is_tag_of device tag }
+{
+    match tag {
+        Tag::Entry(register) => has_register(device, u16::from(register)),
+        Tag::SpHi(_) => device.has_sph(),
+        Tag::None | Tag::EntryFlags | Tag::SpLo(_) => true,
+    }
+}
+
+// The tag of a letter, other than none.
+#[tactic(auto, unfolding(crate::specs::Reading::tag_by))]
+fn tag_by(letter: u8, letters: &mut Letters<'_>) -> Option<Tag>
+    ensures { option_map (λ t. (t, letters.new)) result ≡ tag_by letter letters.old }
+{
+    if letter == b'e' {
+        Some(Tag::Entry(letters.byte()?))
     } else if letter == b'f' {
         Some(Tag::EntryFlags)
     } else if letter == b'l' {
         Some(Tag::SpLo(letters.byte()?))
     } else if letter == b'h' {
         Some(Tag::SpHi(letters.digits(4)? as u16))
+    } else {
+        None
+    }
+}
+
+// The tag of a value, which the device has; the root's frame has none.
+#[tactic(auto, unfolding(crate::specs::Reading::tag_at, crate::specs::Reading::own_tag_by))]
+fn tag_of(device: Device, letters: &mut Letters<'_>, root: bool) -> Option<Tag>
+    ensures { option_map (λ t. (t, letters.new)) result ≡ tag_at device root letters.old }
+{
+    let letter = letters.next()?;
+    if letter == b'-' {
+        return Some(Tag::None);
+    }
+    if root {
+        return None;
+    }
+    let tag = tag_by(letter, letters)?;
+    if is_tag_of(device, tag) {
+        Some(tag)
     } else {
         None
     }
@@ -93,16 +131,16 @@ fn are_any(letters: &[u8], version: Version) -> bool
 
 // The value of a word.
 #[tactic(auto, unfolding(crate::specs::Reading::value_in))]
-pub(crate) fn value_of(word: &[u8], version: Version, root: bool) -> Option<AbsByte>
-    ensures { result ≡ value_in version root word.now }
+pub(crate) fn value_of(form: Form, word: &[u8], root: bool) -> Option<AbsByte>
+    ensures { result ≡ value_in form.device form.version root word.now }
 {
     let mut letters = Letters::new(word);
-    let tag = tag_of(&mut letters, root)?;
-    if are_any(letters.rest(), version) {
+    let tag = tag_of(form.device, &mut letters, root)?;
+    if are_any(letters.rest(), form.version) {
         return Some(AbsByte::of_bits(tag, TriByte::new(0, 0)));
     }
     let bits = bits_of(&mut letters)?;
-    let (low, high) = range_of(&mut letters, version, bits)?;
+    let (low, high) = range_of(&mut letters, form.version, bits)?;
     if letters.is_end() {
         Some(AbsByte {
             tag,
@@ -115,14 +153,27 @@ pub(crate) fn value_of(word: &[u8], version: Version, root: bool) -> Option<AbsB
     }
 }
 
+// The value of RAMPZ or EIND, whose bits permit no number above the register's greatest.
+#[tactic(auto, unfolding(crate::specs::Reading::bank_in))]
+pub(crate) fn bank_of(form: Form, word: &[u8], root: bool, register: u16) -> Option<AbsByte>
+    ensures { result ≡ bank_in form.device form.version root register word.now }
+{
+    let value = value_of(form, word, root)?;
+    if Range::of_bits(value.bits).high <= form.device.bank_most(register) {
+        Some(value)
+    } else {
+        None
+    }
+}
+
 // The slot of the next word.
 #[tactic(auto, unfolding(crate::specs::Reading::slot_in))]
-pub(crate) fn slot_of(words: &mut Words<'_>, version: Version, root: bool) -> Option<Slot<AbsByte>>
-    ensures { option_map (λ s. (s, words.new)) result ≡ word_by (slot_in version root) words.old }
+pub(crate) fn slot_of(form: Form, words: &mut Words<'_>, root: bool) -> Option<Slot<AbsByte>>
+    ensures { option_map (λ s. (s, words.new)) result ≡ word_by (slot_in form.device form.version root) words.old }
 {
     match words.next()? {
         [b'.'] => Some(Slot::Free),
-        word => Some(Slot::Guarded(value_of(word, version, root)?)),
+        word => Some(Slot::Guarded(value_of(form, word, root)?)),
     }
 }
 

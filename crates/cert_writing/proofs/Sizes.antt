@@ -1,5 +1,5 @@
 -- The length of the words and lines of a certificate.
-use Rattle.std.proofs.Common.{ℕ, ◌+◌, ◌*◌, ◌-◌, ◌<◌, ◌≤◌, ◌≡◌, ◌&&◌, List, [], ◌∷◌, ◌++◌, length, length-append, map, codes, Bool, true, false, not, refl, ap, ◌∙◌, arith, Option, Some, None, cond, nat_le}
+use Rattle.std.proofs.Common.{ℕ, zero, suc, ◌+◌, ◌*◌, ◌-◌, ◌<◌, ◌≤◌, ◌≡◌, ◌&&◌, List, [], ◌∷◌, ◌++◌, length, length-append, map, take, codes, Bool, true, false, not, refl, ap, ◌∙◌, arith, Option, Some, None, cond, nat_le}
 use Rattle.std.specs.Prelude.{IfSome}
 use Rattle.std.specs.Fmt.{decimal}
 use Rattle.std.specs.List.{AllByRecursion, flat_map, list_all}
@@ -48,7 +48,7 @@ use Rattle.avr_model.specs.declared.choice.Choice.TheVariants as choice
 use Rattle.witness_replay.specs.declared.schedule.Run.{Run}
 use Rattle.witness_replay.specs.declared.schedule.Run.TheVariants.{Go, Take}
 use Rattle.witness_replay.specs.Spelling.{Plan, bit, weight, choices_of, choices_of_run, most_choices, IsCounted, AreRuns, IsSchedule, run_words}
-use Rattle.avr_model.specs.Devices.{word_digits}
+use Rattle.avr_model.specs.Devices.{word_digits, has_elpm}
 use Rattle.assumption_files.specs.Spelling.{word_address_text, number_words, entry_words}
 use Rattle.assumption_files.proofs.AllLaws.{most_digits}
 use Rattle.certificate.specs.declared.instance.Inst.{Inst}
@@ -61,8 +61,8 @@ use Rattle.certificate.specs.Insts.{is_vector_word, fits_kind, IsInst}
 use Rattle.certificate.specs.Claims.{Claim, IsClaim, FitsAt, AreFrom, cells_of, seed_keys}
 use Rattle.cert_words.specs.Spelling.{bits_text, tag_text, range_text, value_word, flags_word, carry_word, slot_word, high_text, form_word}
 use Rattle.certificate.specs.Hulls.{hulls_of}
-use Rattle.cert_words.specs.KeySpelling.{masks_digits, kind_word, pick_word, pick_words, place_words, pairs_words, state_words, form_words}
-use Rattle.cert_words.specs.Text.{numbered, version_line, device_line, device_lines, heading, entry_lines, inst_words, inst_lines, inst_number, node_words, node_lines, attained_line, witness_lines, end_line, front_lines}
+use Rattle.cert_words.specs.KeySpelling.{masks_digits, register_count, kind_word, pick_word, pick_words, place_words, pairs_words, state_words, form_words}
+use Rattle.cert_words.specs.Text.{numbered, version_word, version_line, device_line, device_lines, heading, entry_lines, inst_words, inst_lines, inst_number, node_words, node_lines, attained_line, witness_lines, end_line, front_lines}
 use Rattle.line_reading.proofs.AllLaws.{length_hex}
 use Rattle.cert_writing.specs.Sizes.{HasFewChoices, TextsFit}
 
@@ -150,14 +150,20 @@ pairs_short Two registers x h = omega arith
 pairs_short Three registers None h = omega arith
 pairs_short Three registers (Some f) h = omega (arith, sum_short f.sum, compare_short f.compare, zero_short f.zero, intervals_short (hulls_of registers) f.intervals h.count)
 
-state_short : (version : Version) (s : AbsState) → KnownFits s.facts → taken (state_words version s) ≤ 14 * length s.registers + 199 + 14 * length s.slots
-state_short version s fits =
+some_few : {A : Type 0} (n : ℕ) (xs : List A) → length (take n xs) ≤ length xs
+some_few zero xs = omega arith
+some_few (suc n) [] = omega arith
+some_few (suc n) (x ∷ xs) = omega (arith, some_few n xs)
+
+state_short : (device : Device) (version : Version) (s : AbsState) → KnownFits s.facts → taken (state_words device version s) ≤ 14 * length s.registers + 199 + 14 * length s.slots
+state_short device version s fits =
+    let registers : List AbsByte = take (register_count device) s.registers in
     let known : List (List ℕ) = pairs_words version s.registers s.facts in
     let behind : List (List ℕ) = flags_word s.flags.entry s.flags.bits ∷ carry_word s.flags.carry ∷ (known ++ map (slot_word version) s.slots) in
-    let values = taken_few (value_word version) (value_short version) s.registers in
+    let values = taken_few (value_word version) (value_short version) registers in
     let slots = taken_few (slot_word version) (slot_short version) s.slots in
     let pairs = pairs_short version s.registers s.facts fits in
-    omega (arith, taken_both (map (value_word version) s.registers) behind, taken_both known (map (slot_word version) s.slots), values, slots, pairs, flags_long s.flags.entry s.flags.bits, carry_short s.flags.carry)
+    omega (arith, taken_both (map (value_word version) registers) behind, some_few (register_count device) s.registers, taken_both known (map (slot_word version) s.slots), values, slots, pairs, flags_long s.flags.entry s.flags.bits, carry_short s.flags.carry)
 
 -- ---- keys
 
@@ -194,8 +200,8 @@ key_small : (device : Device) (followed : Bool) (at : ℕ) (key : NodeKey) (form
 key_small device followed at key (State s) h = omega (arith, h.small, devices_are_alike.most_depth device)
 key_small device followed at key (From m) h = omega (arith, h.0.small, devices_are_alike.most_depth device)
 
-body_short : (device : Device) (followed : Bool) (version : Version) (at : ℕ) (key : NodeKey) (form : NodeForm) → at ≤ 65536 → FitsAt device followed at key form → taken (form_words version form) ≤ 647 + 14 * offset_of key.sp
-body_short device followed version at key (State s) few h = omega (arith, state_short version s h.formed.facts, h.formed.count_registers, h.formed.count_slots)
+body_short : (device : Device) (followed : Bool) (version : Version) (at : ℕ) (key : NodeKey) (form : NodeForm) → at ≤ 65536 → FitsAt device followed at key form → taken (form_words device version form) ≤ 675 + 14 * offset_of key.sp
+body_short device followed version at key (State s) few h = omega (arith, state_short device version s h.formed.facts, h.formed.count_registers, h.formed.count_slots)
 body_short device followed version at key (From m) few h = omega (arith, number_short m (omega (arith, few, h.1)))
 
 place_by : (b : Bool) (p n : ℕ) → p ≤ n → cond b 0 (p + 1) ≤ n + 1
@@ -207,7 +213,7 @@ place_few key [] = omega arith
 place_few key (x ∷ xs) = omega (arith, place_by (same_inst x.key key) (inst_number key xs) (length xs) (place_few key xs))
 
 nodes_short : (device : Device) (followed : Bool) (version : Version) (insts : List Inst) (at : ℕ) (ns : Seeds) → length insts ≤ 65536 → at + length ns ≤ 65536 → AreFrom device followed at ns
-    → text (node_words device version insts) ns ≤ 740 * length ns + 14 * cells_of (seed_keys ns)
+    → text (node_words device version insts) ns ≤ 768 * length ns + 14 * cells_of (seed_keys ns)
 unfolding cells_of
 nodes_short device followed version insts at [] few most h = omega arith
 nodes_short device followed version insts at (n ∷ ns) few most h =
@@ -215,7 +221,7 @@ nodes_short device followed version insts at (n ∷ ns) few most h =
     let body = body_short device followed version at n.0 n.1 (omega (arith, most)) h.0 in
     let behind = nodes_short device followed version insts (at + 1) ns few (omega (arith, most)) h.1 in
     let own = number_short (inst_number n.0.inst insts) (omega (arith, place_few n.0.inst insts, few)) in
-    omega (arith, text_more (node_words device version insts) n ns, taken_both (place_words device version n.0) (form_words version n.1), front, body, own, behind)
+    omega (arith, text_more (node_words device version insts) n ns, taken_both (place_words device version n.0) (form_words device version n.1), front, body, own, behind)
 
 -- ---- instances
 
@@ -305,11 +311,15 @@ both_long xs ys = ap length (flat_map-append line xs ys) ∙ length-append (flat
 line_more : (l : List (List ℕ)) (ls : List (List (List ℕ))) → length (flat_map line (l ∷ ls)) ≤ taken l + 1 + length (flat_map line ls)
 line_more l ls = omega (arith, length-append (line l) (flat_map line ls), line_short l)
 
-version_short : (says : Bool) (version : Version) → taken (version_line says version) ≤ 12
-version_short true version = omega arith
-version_short false One = omega arith
-version_short false Two = omega arith
-version_short false Three = omega arith
+word_short : (says banked : Bool) (version : Version) → length (version_word says banked version) ≡ 1
+word_short true true version = refl
+word_short true false version = refl
+word_short false banked One = refl
+word_short false banked Two = refl
+word_short false banked Three = refl
+
+version_short : (device : Device) (version : Version) → taken (version_line device version) ≤ 12
+version_short device version = omega (arith, word_short (says_device device) (has_elpm device) version)
 
 abbrev size : List (List (List ℕ)) → ℕ
 size ls = length (flat_map line ls)
@@ -323,7 +333,7 @@ heading_short device version bound h =
     let says = says_device device in
     let last : List (List (List ℕ)) = numbered (codes "bound") bound ∷ [] in
     let number = line_more (numbered (codes "bound") bound) [] in
-    omega (arith, line_more (version_line says version) (device_lines says device ++ last), version_short says version, device_short says device last, number, number_short bound (omega (arith, h)))
+    omega (arith, line_more (version_line device version) (device_lines says device ++ last), version_short device version, device_short says device last, number, number_short bound (omega (arith, h)))
 
 -- a list with its count
 list_short : (name : List ℕ) (n most : ℕ) (ls : List (List (List ℕ))) → length name ≤ 9 → n ≤ 65536 → size ls ≤ most → size (numbered name n ∷ ls) ≤ most + 100
@@ -345,7 +355,7 @@ front_short c h =
     let entries = list_short (codes "assume") (length c.assumptions) (400 * length c.assumptions) (map (entry_words c.device) c.assumptions) (omega arith) (omega (arith, h.entries_fit.few))
     (entries_short c.device c.assumptions (recursion_from_All (λ e. is_entry e ≡ true) c.assumptions h.entries_fit.each)) in
     let insts = list_short (codes "instances") (length c.instances) (100 * length c.instances) (map (inst_words c.device) c.instances) (omega arith) (omega (arith, h.few_insts)) (insts_short c.device c.instances h.insts_fit) in
-    let most : ℕ = 740 * length c.nodes + 14 * cells_of (seed_keys c.nodes) in
+    let most : ℕ = 768 * length c.nodes + 14 * cells_of (seed_keys c.nodes) in
     let nodes = list_short (codes "nodes") (length c.nodes) most (map (node_words c.device c.version c.instances) c.nodes) (omega arith) (omega (arith, h.few_nodes))
     (nodes_short c.device (has_pairs c.assumptions) c.version c.instances 0 c.nodes h.few_insts (omega (arith, h.few_nodes)) h.nodes_fit) in
     let third = both_long (inst_lines c.device c.instances) (node_lines c.device c.version c.instances c.nodes) in

@@ -20,7 +20,7 @@ use Rattle.certificate.specs.declared.version.Version.{Version}
 use Rattle.certificate.specs.declared.version.Version.TheVariants.{Two}
 use Rattle.certificate.specs.Claims.{Claim}
 use Rattle.cert_words.specs.Spelling.{tag_text, bits_text, range_text, value_word, flags_word, carry_word, slot_word}
-use Rattle.cert_words.specs.KeySpelling.{pairs_words, state_words}
+use Rattle.cert_words.specs.KeySpelling.{register_count, pairs_words, state_words}
 use Rattle.avr_model.specs.Names.{class_of}
 use Rattle.certificate.specs.Versions.{says_device}
 use Rattle.cert_words.specs.Text.{numbered, version_line, device_line, device_lines, heading, entry_lines, inst_words, inst_lines, node_words, node_lines, front_lines, open_line, attained_line, witness_lines, end_line, text_of}
@@ -61,16 +61,17 @@ lines_next {A} words k w v u xs i x lt is e f =
 
 -- ---- states
 
-pub state_written : (version : Version) (w a b d v : Written) (s : AbsState) → a ≡ with_words w (map (value_word version) s.registers) → b ≡ with_word (with_word a (flags_word s.flags.entry s.flags.bits)) (carry_word s.flags.carry)
+pub state_written : (device : Device) (version : Version) (w a b d v : Written) (s : AbsState) → a ≡ with_words w (map (value_word version) (take (register_count device) s.registers)) → b ≡ with_word (with_word a (flags_word s.flags.entry s.flags.bits)) (carry_word s.flags.carry)
     → d ≡ with_words b (pairs_words version s.registers s.facts) → v ≡ with_words d (map (slot_word version) s.slots)
-    → v ≡ with_words w (state_words version s)
-state_written version w a b d v s e f p g =
+    → v ≡ with_words w (state_words device version s)
+state_written device version w a b d v s e f p g =
+    let values : List (List ℕ) = map (value_word version) (take (register_count device) s.registers) in
     let known : List (List ℕ) = pairs_words version s.registers s.facts in
     let slots : List (List ℕ) = map (slot_word version) s.slots in
     let flags : Written → Written = λ x. with_word (with_word x (flags_word s.flags.entry s.flags.bits)) (carry_word s.flags.carry) in
     g ∙ ap (λ (x : Written). with_words x slots) (p ∙ ap (λ (x : Written). with_words x known) (f ∙ ap flags e))
-    ∙ sym (words_append (flags (with_words w (map (value_word version) s.registers))) known slots)
-    ∙ sym (words_append w (map (value_word version) s.registers) (flags_word s.flags.entry s.flags.bits ∷ carry_word s.flags.carry ∷ (known ++ slots)))
+    ∙ sym (words_append (flags (with_words w values)) known slots)
+    ∙ sym (words_append w values (flags_word s.flags.entry s.flags.bits ∷ carry_word s.flags.carry ∷ (known ++ slots)))
 
 -- ---- parts
 
@@ -91,7 +92,7 @@ joined_text xs ys = flat_map-append line xs ys
 pub device_written : (device : Device) (w v : Written) → v ≡ with_text w (line (device_line (class_of device))) → v ≡ with_text w (flat_map line (device_lines true device))
 device_written device w v e = e ∙ ap (with_text w) (sym (one_line (device_line (class_of device))))
 
-pub heading_written : (device : Device) (version : Version) (w v d u : Written) (n : ℕ) → v ≡ with_text w (line (version_line (says_device device) version)) → d ≡ with_text v (flat_map line (device_lines (says_device device) device))
+pub heading_written : (device : Device) (version : Version) (w v d u : Written) (n : ℕ) → v ≡ with_text w (line (version_line device version)) → d ≡ with_text v (flat_map line (device_lines (says_device device) device))
     → u ≡ with_text d (line (numbered (codes "bound") n)) → u ≡ with_text w (flat_map line (heading device version n))
 heading_written device version w v d u n e f g =
     let says = says_device device in
@@ -99,7 +100,7 @@ heading_written device version w v d u n e f g =
     let last : u ≡ with_text d (flat_map line bound) = g ∙ ap (with_text d) (sym (one_line (numbered (codes "bound") n))) in
     let behind : u ≡ with_text v (flat_map line (device_lines says device ++ bound)) =
     more_text v d u (flat_map line (device_lines says device)) (flat_map line bound) f last ∙ ap (with_text v) (sym (joined_text (device_lines says device) bound)) in
-    more_text w v u (line (version_line says version)) (flat_map line (device_lines says device ++ bound)) e behind
+    more_text w v u (line (version_line device version)) (flat_map line (device_lines says device ++ bound)) e behind
 
 insts_written : (device : Device) (w v u : Written) (xs : List Inst) → v ≡ with_text w (line (numbered (codes "instances") (length xs))) → u ≡ with_text v (flat_map line (map (inst_words device) xs)) → u ≡ with_text w (flat_map line (inst_lines device xs))
 insts_written device w v u xs e f = more_text w v u (line (numbered (codes "instances") (length xs))) (flat_map line (map (inst_words device) xs)) e f

@@ -9,7 +9,7 @@ ghost use Rattle.cert_words.specs.KeySpelling.{masks_digits, kind_word, inst_key
 
 use assumption_files::write_word_address;
 use avr_model::device::Device;
-use cert_words::masks_digits;
+use cert_words::{Form, masks_digits};
 use certificate::Version;
 use node_keys::{High, InstKey, Kind, NodeKey, SpForm};
 use pair_words::{four_digits, two_digits};
@@ -117,18 +117,17 @@ fn write_pick(out: &mut LineWriter, version: Version, pick: Option<u8>) -> Resul
 pub(crate) fn write_place(
     out: &mut LineWriter,
     alloc: Global,
-    device: Device,
-    version: Version,
+    form: Form,
     key: &NodeKey,
 ) -> Result<(), AllocError>
-    ensures { OnOk result (out.new ≡ with_words out.old (place_words device version key.now)) }
+    ensures { OnOk result (out.new ≡ with_words out.old (place_words form.device form.version key.now)) }
 {
-    write_word_address(out, device, key.pc)?;
-    write_masks(out, device, key.masks)?;
+    write_word_address(out, form.device, key.pc)?;
+    write_masks(out, form.device, key.masks)?;
     write_bit(out, key.i)?;
     write_bit(out, key.delay)?;
     write_form(out, alloc, &key.sp)?;
-    write_pick(out, version, key.pick)
+    write_pick(out, form.version, key.pick)
 }
 
 /// Writes a node with its instance for the device: kind, entry, enable bits and I of the instance, then word, enable bits, I, delay, form
@@ -142,5 +141,9 @@ pub fn write_key(
     ensures { OnOk result (out.new ≡ with_words out.old (node_key_words device key.now)) }
 {
     write_inst_key(out, alloc, device, &key.inst)?;
-    write_place(out, alloc, device, Version::Two, key)
+    let form = Form {
+        device,
+        version: Version::Two,
+    };
+    write_place(out, alloc, form, key)
 }

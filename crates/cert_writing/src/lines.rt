@@ -17,7 +17,8 @@ ghost use Rattle.cert_writing.specs.Places.{IsAt, IsNowhereFrom};
 use crate::keys::{write_inst_key, write_place};
 use crate::state::write_form;
 use avr_model::device::Device;
-use certificate::{Inst, Version};
+use cert_words::Form;
+use certificate::Inst;
 use edge_rules::NodeForm;
 use line_reading::laws::appending_laws;
 use node_keys::laws::keys_are_ordered;
@@ -90,17 +91,16 @@ fn place(insts: &[Inst], guess: usize, key: &InstKey) -> usize
 fn write_node(
     out: &mut LineWriter,
     alloc: Global,
-    device: Device,
-    version: Version,
+    form: Form,
     place: usize,
     node: &(NodeKey, NodeForm),
 ) -> Result<(), AllocError>
-    ensures { OnOk result (out.new ≡ with_end (with_words out.old (node_words_at device version place node.now))) }
+    ensures { OnOk result (out.new ≡ with_end (with_words out.old (node_words_at form.device form.version place node.now))) }
 {
     out.word(b"node")?;
     out.dec(place as u64)?;
-    write_place(out, alloc, device, version, &node.0)?;
-    write_form(out, alloc, version, &node.1)?;
+    write_place(out, alloc, form, &node.0)?;
+    write_form(out, alloc, form, &node.1)?;
     out.end_line()
 }
 
@@ -108,21 +108,20 @@ fn write_node(
 pub(crate) fn write_nodes(
     out: &mut LineWriter,
     alloc: Global,
-    device: Device,
-    version: Version,
+    form: Form,
     insts: &[Inst],
     nodes: &[(NodeKey, NodeForm)],
 ) -> Result<(), AllocError>
     requires begun { out.old.begun ≡ false }
     requires sorted { IsStrictlySortedBy inst_cmp (inst_keys insts.now) }
     requires there { AllByRecursion (Belongs insts.now) (seed_keys nodes.now) }
-    ensures { OnOk result (out.new ≡ with_text out.old (flat_map line (map (node_words device version insts.now) nodes.now))) }
+    ensures { OnOk result (out.new ≡ with_text out.old (flat_map line (map (node_words form.device form.version insts.now) nodes.now))) }
 {
     appending_laws();
     let mut guess = 0;
     for node in nodes {
         guess = place(insts, guess, &node.0.inst);
-        write_node(out, alloc, device, version, guess, node)?;
+        write_node(out, alloc, form, guess, node)?;
     }
     Ok(())
 }

@@ -1,12 +1,14 @@
 //! The words of a node's state.
 
-ghost use Rattle.std.specs.Prelude.{◌≡◌, map, OnOk};
+ghost use Rattle.std.specs.Prelude.{◌≡◌, ◌≤◌, map, OnOk};
 ghost use Rattle.text_base.specs.Writing.{with_words};
 ghost use Rattle.cert_words.specs.Spelling.{value_word, slot_word};
-ghost use Rattle.cert_words.specs.KeySpelling.{pairs_words, state_words, form_words};
+ghost use Rattle.cert_words.specs.KeySpelling.{register_count, pairs_words, state_words, form_words};
 
 use crate::values::{write_flags, write_slot, write_value};
 use abs_state::{AbsByte, AbsState};
+use avr_model::device::Device;
+use cert_words::Form;
 use certificate::{Version, hulls_of};
 use edge_rules::NodeForm;
 use pair_words::write_facts;
@@ -60,19 +62,37 @@ fn write_pairs(
     }
 }
 
+// The number of registers of the device: r0 to r31, RAMPZ and EIND.
+fn register_count(device: Device) -> usize
+    ensures exact { result ≡ register_count device }
+    ensures most { result ≤ 34 }
+{
+    if device.has_eijmp() {
+        34
+    } else if device.has_elpm() {
+        33
+    } else {
+        32
+    }
+}
+
 // Writes a state.
 fn write_state(
     out: &mut LineWriter,
     alloc: Global,
-    version: Version,
+    form: Form,
     state: &AbsState,
 ) -> Result<(), AllocError>
-    ensures { OnOk result (out.new ≡ with_words out.old (state_words version state.now)) }
+    ensures { OnOk result (out.new ≡ with_words out.old (state_words form.device form.version state.now)) }
 {
-    write_values(out, version, &state.registers)?;
+    write_values(
+        out,
+        form.version,
+        &state.registers[..register_count(form.device)],
+    )?;
     write_flags(out, &state.flags)?;
-    write_pairs(out, alloc, version, state)?;
-    write_slots(out, version, state.slots.as_slice())?;
+    write_pairs(out, alloc, form.version, state)?;
+    write_slots(out, form.version, state.slots.as_slice())?;
     Ok(())
 }
 
@@ -80,13 +100,13 @@ fn write_state(
 pub(crate) fn write_form(
     out: &mut LineWriter,
     alloc: Global,
-    version: Version,
-    form: &NodeForm,
+    form: Form,
+    node_form: &NodeForm,
 ) -> Result<(), AllocError>
-    ensures { OnOk result (out.new ≡ with_words out.old (form_words version form.now)) }
+    ensures { OnOk result (out.new ≡ with_words out.old (form_words form.device form.version node_form.now)) }
 {
-    match form {
-        NodeForm::State(state) => write_state(out, alloc, version, state.get()),
+    match node_form {
+        NodeForm::State(state) => write_state(out, alloc, form, state.get()),
         NodeForm::From(from) => {
             out.word(b"from")?;
             out.dec(u64::from(*from))

@@ -10,6 +10,7 @@ ghost use Rattle.cert_words.specs.Text.{numbered, version_line, device_lines, he
 use crate::lines::{write_insts, write_nodes};
 use avr_model::device::Device;
 use avr_model::naming::class_of;
+use cert_words::Form;
 use certificate::{Certificate, Version, says_device};
 use line_reading::laws::appending_laws;
 use std::alloc::{AllocError, Global};
@@ -38,15 +39,20 @@ fn write_pair(out: &mut LineWriter, first: &[u8], second: &[u8]) -> Result<(), A
 }
 
 // Writes the line of the version, for a text that says its device or not.
-fn write_version(out: &mut LineWriter, says: bool, version: Version) -> Result<(), AllocError>
+fn write_version(out: &mut LineWriter, form: Form) -> Result<(), AllocError>
     requires { out.old.begun ≡ false }
-    ensures { OnOk result (out.new ≡ with_text out.old (line (version_line says version))) }
+    ensures { OnOk result (out.new ≡ with_text out.old (line (version_line form.device form.version))) }
 {
-    let number = match (says, version) {
-        (true, _) => b"4",
-        (false, Version::One) => b"1",
-        (false, Version::Two) => b"2",
-        (false, Version::Three) => b"3",
+    let number = match (
+        says_device(form.device),
+        form.device.has_elpm(),
+        form.version,
+    ) {
+        (true, true, _) => b"5",
+        (true, false, _) => b"4",
+        (false, _, Version::One) => b"1",
+        (false, _, Version::Two) => b"2",
+        (false, _, Version::Three) => b"3",
     };
     write_pair(out, b"stackcert", number)
 }
@@ -66,18 +72,13 @@ fn write_device(out: &mut LineWriter, says: bool, device: Device) -> Result<(), 
 
 // Writes the version, the device and the bound.
 #[tactic(auto, using(crate::proofs::Written::heading_written))]
-fn write_heading(
-    out: &mut LineWriter,
-    device: Device,
-    version: Version,
-    bound: u16,
-) -> Result<(), AllocError>
+fn write_heading(out: &mut LineWriter, form: Form, bound: u16) -> Result<(), AllocError>
     requires { out.old.begun ≡ false }
-    ensures { OnOk result (out.new ≡ with_text out.old (flat_map line (heading device version bound))) }
+    ensures { OnOk result (out.new ≡ with_text out.old (flat_map line (heading form.device form.version bound))) }
 {
-    let says = says_device(device);
-    write_version(out, says, version)?;
-    write_device(out, says, device)?;
+    let says = says_device(form.device);
+    write_version(out, form)?;
+    write_device(out, says, form.device)?;
     write_numbered(out, b"bound", u64::from(bound))?;
     Ok(())
 }
@@ -110,7 +111,8 @@ fn write_all(
     appending_laws();
     let device = certificate.device();
     let version = certificate.version();
-    write_heading(out, device, version, certificate.bound())?;
+    let form = Form { device, version };
+    write_heading(out, form, certificate.bound())?;
     let assumptions = certificate.assumptions();
     write_numbered(out, b"assume", assumptions.entries().len() as u64)?;
     assumption_files::write(device, assumptions, out)?;
@@ -119,7 +121,7 @@ fn write_all(
     write_insts(out, alloc, device, instances)?;
     let nodes = certificate.nodes();
     write_numbered(out, b"nodes", nodes.len() as u64)?;
-    write_nodes(out, alloc, device, version, instances, nodes)?;
+    write_nodes(out, alloc, form, instances, nodes)?;
     write_witness(out, certificate)?;
     out.word(b"end")?;
     out.end_line()?;

@@ -3,12 +3,12 @@
 ghost use Rattle.std.specs.Prelude.{◌≡◌};
 ghost use Rattle.certificate.specs.Hulls.{hulls_of};
 
-use abs_state::AbsByte;
+use abs_state::Registers;
 use abs_state::pairs::hull_of;
 use pair_domain::Interval;
 
-/// The hulls of the sixteen pairs of these registers, that of registers 0 and 1 first.
-pub fn hulls_of(registers: &[AbsByte; 32]) -> [Interval; 16]
+/// The hulls of the sixteen pairs of r0 to r31, that of r0 and r1 first.
+pub fn hulls_of(registers: &Registers) -> [Interval; 16]
     ensures { result ≡ hulls_of registers.now }
 {
     let mut hulls = [Interval::whole(); 16];

@@ -173,7 +173,7 @@ number_slot device (Some x) base a d top is e = by (nat_le x (ramend device)) re
 module _ {followed may : Bool} (m : State) (o : Origin) (k : NodeKey) (s : AbsState) (at : InFrameIn followed may m o k s)
     (sees : has_sph m.device ≡ false → may ≡ true) where
   stands : (r : ℕ) → r < 32 → ByteStands o (value s r) (register m r)
-  stands r lt = at.stands.registers r lt
+  stands r lt = at.stands.registers r (omega (arith, lt))
 
   first_at : (r : ℕ) → r < 32 → IsLowByte (first_byte (value s r)) (register m r)
   first_at r lt = let here = stands r lt in least_at (may_be (value s r)) 256 (register m r) here.small (may_stand o (value s r) (register m r) here)

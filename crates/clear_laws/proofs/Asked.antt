@@ -7,8 +7,8 @@ use Rattle.edge_rules.specs.Families.{RankedFamily}
 use Rattle.clear_laws.specs.Clear.{IsClear, is_clear}
 use Rattle.clear_laws.specs.Held.{MayHold}
 use Rattle.clear_laws.proofs.Told.{clear_nodes_are_told}
-use Rattle.clear_laws.specs.declared.slots.Asks.{Asks}
-use Rattle.clear_laws.specs.declared.slots.Asks.TheVariants.{Nothing, Free, Never}
+use Rattle.clear_laws.specs.declared.slots.Condition.{Condition}
+use Rattle.clear_laws.specs.declared.slots.Condition.TheVariants.{Always, SlotFree, Never}
 use Rattle.clear_laws.specs.Needs.{meets}
 use Rattle.clear_laws.specs.CertificateLaws.{AskingsTellClearNodes}
 use Rattle.clear_laws.specs.Meets.{Meets}
@@ -23,20 +23,20 @@ module _ (task : Task) (f : RankedFamily) (n : Node) where
   abbrev Holding : ℕ → Type 0
   Holding d = MayHold task f.nodes n.key d
 
-  abbrev Asked : Asks → Type 0
+  abbrev Asked : Condition → Type 0
   Asked a = (held : ℕ → Bool) → is_clear task f.bound n held ≡ meets a held
 
-  clear_where_met : (a : Asks) → Asked a → Meets a Holding → IsClear task f n
-  clear_where_met Nothing told met = clear_nodes_are_told.clear task f n (λ d. true) (λ d lt none may. absurd (cc)) (told (λ d. true))
-  clear_where_met (Free slot) told met =
+  clear_where_met : (a : Condition) → Asked a → Meets a Holding → IsClear task f n
+  clear_where_met Always told met = clear_nodes_are_told.clear task f n (λ d. true) (λ d lt none may. absurd (cc)) (told (λ d. true))
+  clear_where_met (SlotFree slot) told met =
       clear_nodes_are_told.clear task f n (λ d. not (d == slot))
       (λ d lt none may. met (subst Holding (same_as slot d (not-false (d == slot) none)) may))
       (told (λ d. not (d == slot)) ∙ ap (λ b. not (not b)) (equals_itself slot))
   clear_where_met Never told met = absurd met
 
-  met_where_clear : (a : Asks) → Asked a → IsClear task f n → Meets a Holding
-  met_where_clear Nothing told clear = tt
-  met_where_clear (Free slot) told clear =
+  met_where_clear : (a : Condition) → Asked a → IsClear task f n → Meets a Holding
+  met_where_clear Always told clear = tt
+  met_where_clear (SlotFree slot) told clear =
       λ may.
       let passes = clear_nodes_are_told.told task f n (λ d. d == slot) (λ d lt is. subst Holding (sym (same_as slot d is)) may) clear in
       both_ways (not (slot == slot)) (ap not (equals_itself slot)) (sym (told (λ d. d == slot)) ∙ passes)

@@ -10,9 +10,11 @@ use Rattle.avr_model.specs.declared.instruction.Instr.TheVariants as i
 use Rattle.avr_model.specs.Assumptions.{jump_line, recur_line}
 use Rattle.avr_model.specs.Devices.{has_sph, wrapped, device_of}
 use Rattle.avr_model.specs.Sites.{is_scratch}
-use Rattle.avr_model.specs.State.{State, fall, register, pair}
+use Rattle.avr_model.specs.State.{State, EIND, fall, register, pair}
+use Rattle.avr_model.specs.Effects.{extended_word}
 use Rattle.avr_model.specs.Step.{unless_listed, unlisted_transfer, is_call, unless_within, deep_call}
 use Rattle.avr_model.specs.Text.{far}
+use Rattle.bit_domain.specs.declared.bytes.TriByte.{TriByte}
 use Rattle.bit_domain.specs.TriByte.{Has, byte_known}
 use Rattle.bit_domain.specs.Numbers.{PointerBits}
 use Rattle.abs_state.specs.declared.state.AbsState.{AbsState}
@@ -21,7 +23,7 @@ use Rattle.sp_domain.specs.Tags.{Origin}
 use Rattle.local_rules.specs.Raw.{fails, untracked_if}
 use Rattle.local_rules.specs.declared.local.NodeFault.{NodeFault}
 use Rattle.local_rules.specs.Registers.{bits, before}
-use Rattle.local_rules.specs.Flow.{is_half_written, words_on, z_with, targets_at, indirect_call}
+use Rattle.local_rules.specs.Flow.{is_half_written, words_on, z_with, targets_by, targets_at, far_targets_at, indirect_call}
 use Rattle.local_rules.specs.Cover.{InFrameIn, effect_by}
 use Rattle.local_rules.specs.Site.{Task, site_at}
 use Rattle.local_laws.proofs.AllLaws.{bare_frame, register_stands}
@@ -64,28 +66,27 @@ module _ {followed may : Bool} (task : Task) (m : State) (o : Origin) (k : NodeK
   z_has : (r : ℕ) → Has (bits s r) (register m r)
   z_has r = (register_stands m o k s (bare_frame m o k s sees at) r).bits
 
-  -- what the node's bits permit
-  abbrev z_bits : PointerBits
-  z_bits = z_with s (byte_known 0)
-
-  -- Z is one of the words that the node's bits permit
-  z_permitted : register m 30 < 256 → register m 31 < 256 → Contains (words_on (device_of task.flash) z_bits) (wrapped (device_of task.flash) (pair m 30))
-  z_permitted low high =
-      let same : pair m 30 + 65536 * 0 ≡ pair m 30 = omega arith in
-      subst (λ (z : ℕ). Contains (words_on (device_of task.flash) z_bits) (wrapped (device_of task.flash) z)) same
-      (word_permitted (device_of task.flash) z_bits (register m 30) (register m 31) 0 low high (z_has 30) (z_has 31)
-      ((bytes_are_sets.known 0 0 (omega arith) (omega arith)).1 refl))
-
   abbrev cut : ℕ → Bool
   cut word = is_cut task.assumptions word
 
-  indirect_cut : register m 30 < 256 → register m 31 < 256 → (targets : List ℕ) → targets_at task.assumptions (site_at (device_of task.flash) k s) ≡ Some targets
-      → unless_listed (jump_line task.assumptions k.pc) (wrapped (device_of task.flash) (pair m 30)) ≡ None → cut (wrapped (device_of task.flash) (pair m 30)) ≡ true
-      → calls_cut task k s i.Icall ≡ true
-  indirect_cut low high targets found listed deep =
-      ap (λ (x : Option (List ℕ)). list_any cut (or_none x)) found
-      ∙ any_of cut targets (wrapped (device_of task.flash) (pair m 30))
-      (targets_have (device_of task.flash) (jump_line task.assumptions k.pc) z_bits targets (wrapped (device_of task.flash) (pair m 30)) found (z_permitted low high) listed) deep
+  -- an indirect call with this third byte goes to one of the words that the node's bits permit
+  module _ (bank : TriByte) (third word : ℕ) (third_has : Has bank third) (same : third * 65536 + pair m 30 ≡ word) where
+    -- what the node's bits permit
+    abbrev z_bits : PointerBits
+    z_bits = z_with s bank
+
+    z_permitted : register m 30 < 256 → register m 31 < 256 → Contains (words_on (device_of task.flash) z_bits) (wrapped (device_of task.flash) word)
+    z_permitted low high =
+        subst (λ (z : ℕ). Contains (words_on (device_of task.flash) z_bits) (wrapped (device_of task.flash) z)) (omega (arith, same))
+        (word_permitted (device_of task.flash) z_bits (register m 30) (register m 31) third low high (z_has 30) (z_has 31) third_has)
+
+    indirect_cut : register m 30 < 256 → register m 31 < 256 → (targets : List ℕ) → targets_by (device_of task.flash) (jump_line task.assumptions k.pc) z_bits ≡ Some targets
+        → unless_listed (jump_line task.assumptions k.pc) (wrapped (device_of task.flash) word) ≡ None → cut (wrapped (device_of task.flash) word) ≡ true
+        → list_any cut (or_none (targets_by (device_of task.flash) (jump_line task.assumptions k.pc) z_bits)) ≡ true
+    indirect_cut low high targets found listed deep =
+        ap (λ (x : Option (List ℕ)). list_any cut (or_none x)) found
+        ∙ any_of cut targets (wrapped (device_of task.flash) word)
+        (targets_have (device_of task.flash) (jump_line task.assumptions k.pc) z_bits targets (wrapped (device_of task.flash) word) found (z_permitted low high) listed) deep
 
   -- ---- each call
 
@@ -112,15 +113,27 @@ module _ {followed may : Bool} (task : Task) (m : State) (o : Origin) (k : NodeK
       ∙ or_left (cut (wrapped (device_of task.flash) (far k.pc t))) false
       (subst (λ p. cut (wrapped (device_of task.flash) (far p t)) ≡ true) at.place.pc (deep_at (far m.pc t) parts.1))
 
+  here_listed : (word : ℕ) → unless_listed (jump_line task.assumptions m.pc) (wrapped m.device word) ≡ None
+      → unless_listed (jump_line task.assumptions k.pc) (wrapped (device_of task.flash) word) ≡ None
+  here_listed word listed =
+      subst (λ p. unless_listed (jump_line task.assumptions p) (wrapped (device_of task.flash) word) ≡ None) at.place.pc
+      (subst (λ (d : Device). unless_listed (jump_line task.assumptions m.pc) (wrapped d word) ≡ None) device listed)
+
   by_pointer : Deep i.Icall
   unfolding deep_call unlisted_transfer
   by_pointer x e listed low high row =
       let parts = deep_is (not (is_scratch task.flash m.pc)) (recur_line task.assumptions (wrapped m.device (pair m 30))) (fall m) (wrapped m.device (pair m 30)) x e in
       let found = has_targets (device_of task.flash) k (targets_at task.assumptions (site_at (device_of task.flash) k (before i.Icall s))) row.faultless in
-      indirect_cut low high found.0 found.1
-      (subst (λ p. unless_listed (jump_line task.assumptions p) (wrapped (device_of task.flash) (pair m 30)) ≡ None) at.place.pc
-      (subst (λ (d : Device). unless_listed (jump_line task.assumptions m.pc) (wrapped d (pair m 30)) ≡ None) device listed))
-      (deep_at (pair m 30) parts.1)
+      indirect_cut (byte_known 0) 0 (pair m 30) ((bytes_are_sets.known 0 0 (omega arith) (omega arith)).1 refl) (omega arith) low high found.0 found.1
+      (here_listed (pair m 30) listed) (deep_at (pair m 30) parts.1)
+
+  by_far_pointer : Deep i.Eicall
+  unfolding deep_call unlisted_transfer
+  by_far_pointer x e listed low high row =
+      let parts = deep_is (not (is_scratch task.flash m.pc)) (recur_line task.assumptions (wrapped m.device (extended_word m))) (fall m) (wrapped m.device (extended_word m)) x e in
+      let found = has_targets (device_of task.flash) k (far_targets_at task.assumptions (site_at (device_of task.flash) k (before i.Eicall s))) row.faultless in
+      indirect_cut (bits s EIND) (register m EIND) (extended_word m) (z_has EIND) (omega arith) low high found.0 found.1
+      (here_listed (extended_word m) listed) (deep_at (extended_word m) parts.1)
 
   pub deep_is_cut : (instr : Instr) → (is_call instr ≡ true → IsPlainRow task k s instr) → (x : ℕ)
       → deep_call task.flash task.assumptions m instr (effect_by task m instr b1 b2) ≡ Some x
@@ -129,4 +142,5 @@ module _ {followed may : Bool} (task : Task) (m : State) (o : Origin) (k : NodeK
   deep_is_cut (i.Call t) row x e listed low high = by_call t x e listed low high (row refl)
   deep_is_cut (i.Rcall t) row x e listed low high = by_relative t x e listed low high (row refl)
   deep_is_cut i.Icall row x e listed low high = by_pointer x e listed low high (row refl)
+  deep_is_cut i.Eicall row x e listed low high = by_far_pointer x e listed low high (row refl)
   deep_is_cut _ row x e listed low high = absurd (cc)

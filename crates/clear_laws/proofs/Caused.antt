@@ -91,6 +91,8 @@ indirect_by false o x e = absurd (cc)
 aim_none : (device : Device) (k : NodeKey) (s : AbsState) (instr : Instr) → (is_indirect instr || is_call instr) ≡ true → aim_of device k s instr ≡ None
 aim_none device k s i.Ijmp e = refl
 aim_none device k s i.Icall e = refl
+aim_none device k s i.Eijmp e = refl
+aim_none device k s i.Eicall e = refl
 aim_none device k s (i.Call t) e = refl
 aim_none device k s (i.Rcall t) e = refl
 aim_none device k s _ e = absurd (cc)
@@ -106,6 +108,8 @@ and_none false b h = refl
 move_none : (task : Task) (k : NodeKey) (s : AbsState) (instr : Instr) → (is_indirect instr || is_call instr) ≡ true → may_move task k s instr ≡ false
 move_none task k s i.Ijmp e = and_none (masks_by task) _ (none_set (device_row (device_of task.flash)).ivsel (written_bits s i.Ijmp))
 move_none task k s i.Icall e = and_none (masks_by task) _ (none_set (device_row (device_of task.flash)).ivsel (written_bits s i.Icall))
+move_none task k s i.Eijmp e = and_none (masks_by task) _ (none_set (device_row (device_of task.flash)).ivsel (written_bits s i.Eijmp))
+move_none task k s i.Eicall e = and_none (masks_by task) _ (none_set (device_row (device_of task.flash)).ivsel (written_bits s i.Eicall))
 move_none task k s (i.Call t) e = and_none (masks_by task) _ (none_set (device_row (device_of task.flash)).ivsel (written_bits s (i.Call t)))
 move_none task k s (i.Rcall t) e = and_none (masks_by task) _ (none_set (device_row (device_of task.flash)).ivsel (written_bits s (i.Rcall t)))
 move_none task k s _ e = absurd (cc)
@@ -113,6 +117,7 @@ move_none task k s _ e = absurd (cc)
 -- what calls a word with a `recur` line is a call
 cut_calls : (task : Task) (k : NodeKey) (s : AbsState) (instr : Instr) → calls_cut task k s instr ≡ true → is_call instr ≡ true
 cut_calls task k s i.Icall e = refl
+cut_calls task k s i.Eicall e = refl
 cut_calls task k s (i.Call t) e = refl
 cut_calls task k s (i.Rcall t) e = refl
 cut_calls task k s _ e = absurd (cc)

@@ -31,7 +31,7 @@ use Rattle.local_rules.specs.declared.local.NodeFault.{NodeFault}
 use Rattle.local_rules.specs.Registers.{bits}
 use Rattle.local_laws.proofs.AllLaws.{bare_frame, register_stands}
 use Rattle.local_rules.specs.Raw.{Raw, enters, fails, untracked_if}
-use Rattle.local_rules.specs.Flow.{is_half_written, at_closed, indirect_call, relative_call, targets_at}
+use Rattle.local_rules.specs.Flow.{is_half_written, at_closed, indirect_call, relative_call, targets_at, far_targets_at}
 use Rattle.local_rules.specs.Local.{row_of}
 use Rattle.local_rules.specs.Cover.{InFrameIn}
 use Rattle.basics.specs.Numbers.{equals_itself}
@@ -196,6 +196,9 @@ module _ {followed may : Bool} (task : Task) (m : State) (o : Origin) (k : NodeK
   does_by i.Ijmp fits = nothing refl refl
   does_by i.Icall fits =
       entering _ (no_indirect_moves m.device k (targets_at task.assumptions (site_at m.device k t))) refl (whole_indirect m.device k (targets_at task.assumptions (site_at m.device k t))) refl refl refl
+  does_by i.Eijmp fits = nothing refl refl
+  does_by i.Eicall fits =
+      entering _ (no_indirect_moves m.device k (far_targets_at task.assumptions (site_at m.device k t))) refl (whole_indirect m.device k (far_targets_at task.assumptions (site_at m.device k t))) refl refl refl
   does_by i.Ret fits = nothing refl refl
   does_by i.Reti fits = nothing refl refl
   does_by (i.Jmp target) fits = nothing refl refl

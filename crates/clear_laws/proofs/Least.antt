@@ -22,7 +22,9 @@ use Rattle.local_rules.specs.declared.local.Node.{Node}
 use Rattle.local_rules.specs.Raw.{Raw, one}
 use Rattle.local_rules.specs.Registers.{before}
 use Rattle.local_rules.specs.Flow.{at_closed, pushing}
-use Rattle.local_rules.specs.Local.{row_of, row_by, node_where, refining}
+use Rattle.local_rules.specs.Local.{row_of, row_by, plain_row, refining}
+use Rattle.local_rules.specs.HighBytes.{SpView, view_of}
+use Rattle.local_rules.specs.Settling.{node_where, settled_state, settling}
 use Rattle.local_laws.proofs.AllLaws.{joins_are_least, each_of}
 use Rattle.edge_rules.specs.declared.edge.Edge.{Edge}
 use Rattle.edge_rules.specs.Edges.{raw_of, IsFaultless, IsEdge, moving, entering, returning, Enters, by_call, by_interrupt}
@@ -74,12 +76,20 @@ refined_above image instr s offset r h =
     each_of_join (λ (n : Node). node_where n.key (refined (marks image) image instr s n.state)) (λ (to : Node). offset < offset_of to.key.sp) r.moves
     (λ n to i j. where_above offset n.key (refined (marks image) image instr s n.state) (h n i) to j)
 
+settled_above : (view : SpView) (offset : ℕ) (r : Raw) → AllAbove offset r → AllAbove offset (settling view r)
+settled_above view offset r h =
+    each_of_join (λ (n : Node). node_where n.key (settled_state view n.state)) (λ (to : Node). offset < offset_of to.key.sp) r.moves
+    (λ n to i j. where_above offset n.key (settled_state view n.state) (h n i) to j)
+
 row_by_above : (device : Device) (task : Task) (scratch : Bool) (k : NodeKey) (s : AbsState) (facts : Option PairFacts) (instr : Instr) → is_push instr ≡ true
     → AllAbove (offset_of k.sp) (row_by facts task scratch (site_at device k s) instr)
-row_by_above device task scratch k s None instr push = row_above device task scratch k (before instr s) instr push
+row_by_above device task scratch k s None instr push =
+    settled_above (view_of (site_at device k s)) (offset_of k.sp) (row_of task scratch (site_at device k (before instr s)) instr)
+    (row_above device task scratch k (before instr s) instr push)
 row_by_above device task scratch k s (Some f) (i.Push r) push =
-    refined_above task.flash (i.Push r) s (offset_of k.sp) (row_of task scratch (site_at device k (before (i.Push r) s)) (i.Push r))
-    (row_above device task scratch k (before (i.Push r) s) (i.Push r) push)
+    refined_above task.flash (i.Push r) s (offset_of k.sp) (plain_row task scratch (site_at device k s) (i.Push r))
+    (settled_above (view_of (site_at device k s)) (offset_of k.sp) (row_of task scratch (site_at device k (before (i.Push r) s)) (i.Push r))
+    (row_above device task scratch k (before (i.Push r) s) (i.Push r) push))
 row_by_above device task scratch k s (Some f) _ push = absurd (cc)
 
 raw_above : (task : Task) (n : Node) (x : Option Instr) → instruction_at task.flash n.key.pc ≡ x → pushes_register x ≡ true → IsFaultless task n

@@ -15,6 +15,8 @@ use Rattle.local_rules.specs.declared.local.Node.{Node}
 use Rattle.local_rules.specs.Raw.{Raw, untracked_if, too_deep_if}
 use Rattle.local_rules.specs.Registers.{before}
 use Rattle.local_rules.specs.Local.{raw, row_of, row_at, row_by, row_in, is_hung, fetched, unlined, split_site, splitting, refined_nodes, refining}
+use Rattle.local_rules.specs.HighBytes.{SpView}
+use Rattle.local_rules.specs.Settling.{settled_nodes, settling}
 use Rattle.local_laws.proofs.AllLaws.{local_parts_fit}
 use Rattle.local_laws.proofs.Picks.{unlined_some, site_adds}
 use Rattle.local_rules.specs.Site.{Task, site_at}
@@ -62,12 +64,14 @@ pub record IsPlainRow (task : Task) (k : NodeKey) (s : AbsState) (instr : Instr)
 abbrev pub pushes : Instr → Bool
 pushes (i.Push r) = true
 pushes i.Icall = true
+pushes i.Eicall = true
 pushes (i.Call t) = true
 pushes (i.Rcall t) = true
 pushes _ = false
 
 pub calls_push : (instr : Instr) → is_call instr ≡ true → pushes instr ≡ true
 calls_push i.Icall h = refl
+calls_push i.Eicall h = refl
 calls_push (i.Call t) h = refl
 calls_push (i.Rcall t) h = refl
 calls_push _ h = absurd (cc)
@@ -75,6 +79,7 @@ calls_push _ h = absurd (cc)
 adds_none : (instr : Instr) → pushes instr ≡ true → adds_low instr ≡ false
 adds_none (i.Push r) h = refl
 adds_none i.Icall h = refl
+adds_none i.Eicall h = refl
 adds_none (i.Call t) h = refl
 adds_none (i.Rcall t) h = refl
 adds_none _ h = absurd (cc)
@@ -87,16 +92,23 @@ record IsLikePlain (r plain : Raw) : Type 0 where
 refined_none : (image : Image) (instr : Instr) (s : AbsState) (nodes : List Node) → nodes ≡ [] → refined_nodes image instr s nodes ≡ []
 refined_none image instr s nodes e = ap (refined_nodes image instr s) e
 
-refining_is : (image : Image) (instr : Instr) (s : AbsState) (r : Raw) → IsLikePlain (refining image instr s r) r
-refining_is image instr s r = record { faults = refl; none = refined_none image instr s r.moves }
+settled_none : (view : SpView) (nodes : List Node) → nodes ≡ [] → settled_nodes view nodes ≡ []
+settled_none view nodes e = ap (settled_nodes view) e
+
+settling_is : (view : SpView) (r : Raw) → IsLikePlain (settling view r) r
+settling_is view r = record { faults = refl; none = settled_none view r.moves }
+
+refining_is : (image : Image) (instr : Instr) (s : AbsState) (view : SpView) (r : Raw) → IsLikePlain (refining image instr s (settling view r)) r
+refining_is image instr s view r = record { faults = refl; none = λ e. refined_none image instr s (settled_nodes view r.moves) (settled_none view r.moves e) }
 
 like_plain : (facts : Option PairFacts) (device : Device) (task : Task) (scratch : Bool) (k : NodeKey) (s : AbsState) (instr : Instr) → pushes instr ≡ true
     → IsLikePlain (row_by facts task scratch (site_at device k s) instr) (row_of task scratch (site_at device k (before instr s)) instr)
-like_plain None device task scratch k s instr h = record { faults = refl; none = λ e. e }
-like_plain (Some f) device task scratch k s (i.Push r) h = refining_is task.flash (i.Push r) s _
-like_plain (Some f) device task scratch k s i.Icall h = refining_is task.flash i.Icall s _
-like_plain (Some f) device task scratch k s (i.Call t) h = refining_is task.flash (i.Call t) s _
-like_plain (Some f) device task scratch k s (i.Rcall t) h = refining_is task.flash (i.Rcall t) s _
+like_plain None device task scratch k s instr h = settling_is _ _
+like_plain (Some f) device task scratch k s (i.Push r) h = refining_is task.flash (i.Push r) s _ _
+like_plain (Some f) device task scratch k s i.Icall h = refining_is task.flash i.Icall s _ _
+like_plain (Some f) device task scratch k s i.Eicall h = refining_is task.flash i.Eicall s _ _
+like_plain (Some f) device task scratch k s (i.Call t) h = refining_is task.flash (i.Call t) s _ _
+like_plain (Some f) device task scratch k s (i.Rcall t) h = refining_is task.flash (i.Rcall t) s _ _
 like_plain (Some f) device task scratch k s _ h = absurd (cc)
 
 module _ (task : Task) (k : NodeKey) (s : AbsState) where

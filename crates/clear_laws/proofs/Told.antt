@@ -1,5 +1,5 @@
 -- The test for clear nodes is right.
-use Rattle.std.proofs.Common.{◌≡◌, refl, sym, ap, ◌∙◌, subst, ℕ, zero, suc, ◌+◌, ◌<◌, ◌==◌, Bool, true, false, not, ◌&&◌, ◌||◌, nat_lt, nat_le, List, Option, Some, None, ⊎_elim, arith, eqb-true}
+use Rattle.std.proofs.Common.{◌≡◌, refl, sym, ap, ◌∙◌, subst, ℕ, zero, suc, ◌+◌, ◌*◌, ◌<◌, ◌==◌, Bool, true, false, not, ◌&&◌, ◌||◌, nat_lt, nat_le, List, Option, Some, None, ⊎_elim, arith, eqb-true}
 use Rattle.std.proofs.lemmas.Bool.{cases_lt, and_from, or_cases, and_parts, or_right, not-true}
 use Rattle.basics.specs.Numbers.{less_from_test, equals_itself, at_most_from_test, test_from_less, test_from_at_most}
 use Rattle.basics.specs.Booleans.{not_from_never}
@@ -8,9 +8,11 @@ use Rattle.avr_model.specs.declared.device.Device.{Device}
 use Rattle.avr_model.specs.declared.instruction.Instr.{Instr}
 use Rattle.avr_model.specs.Assumptions.{jump_line, lists}
 use Rattle.avr_model.specs.Bits.{all_below}
-use Rattle.avr_model.specs.Devices.{io_end, ramend, wrapped, device_of}
+use Rattle.avr_model.specs.Devices.{io_end, ramend, wrapped, eind_most, device_of}
 use Rattle.avr_model.specs.Sites.{instruction_at}
 use Rattle.avr_model.specs.Step.{is_indirect}
+use Rattle.bit_domain.specs.declared.bytes.TriByte.{TriByte}
+use Rattle.bit_domain.specs.TriByte.{has}
 use Rattle.pair_domain.specs.Facts.{is_followed}
 use Rattle.abs_state.specs.declared.state.AbsState.{AbsState}
 use Rattle.node_keys.specs.Keys.{offset_of}
@@ -19,7 +21,7 @@ use Rattle.edge_rules.specs.Families.{RankedFamily}
 use Rattle.clear_laws.specs.Held.{MayHold}
 use Rattle.clear_laws.specs.Aims.{Span, Reach, Aim, may_write, aim_of}
 use Rattle.clear_laws.specs.Aims.reach as reach
-use Rattle.clear_laws.specs.Clear.{IsHarmless, no_address, under_stack, above_memory, one_register, each_address, free_slot, IsClear, is_flagged_address, is_address_harmless, are_addresses_harmless, permits_pair, AreTargetsListed, is_span_harmless, is_reach_harmless, is_slot_harmless, is_aim_harmless, is_target_listed, are_targets_listed, is_transfer_listed, calls_cut, may_move, is_clear_by}
+use Rattle.clear_laws.specs.Clear.{IsHarmless, no_address, under_stack, above_memory, one_register, each_address, free_slot, IsClear, is_flagged_address, is_address_harmless, are_addresses_harmless, permits_pair, AreTargetsListed, is_span_harmless, is_reach_harmless, is_slot_harmless, is_aim_harmless, target_bank, is_target_listed, is_bank_listed, are_targets_listed, is_transfer_listed, calls_cut, may_move, is_clear_by}
 use Rattle.clear_laws.specs.StepLaws.{ClearNodesAreTold}
 use Rattle.local_rules.specs.Site.{Task}
 use Rattle.clear_laws.specs.Clear.{store_at}
@@ -58,16 +60,21 @@ pub may_pass : (a b : Bool) → (a ≡ true → b ≡ true) → (not a || b) ≡
 may_pass true b h = or_right false b (h refl)
 may_pass false b h = refl
 
-module _ (device : Device) (s : AbsState) where
-  targets_listed : (line : Option (List ℕ)) → are_targets_listed device s line ≡ true → AreTargetsListed device s line
+module _ (device : Device) (s : AbsState) (bank : TriByte) where
+  targets_listed : (line : Option (List ℕ)) → are_targets_listed device s bank line ≡ true → AreTargetsListed device s bank line
   targets_listed None h = tt
   targets_listed (Some listed) h =
-      λ z small permitted. passes (permits_pair s 30 z) (lists listed (wrapped device z)) permitted (below_each (is_target_listed device s listed) 65536 z h small)
+      λ e z most third small permitted.
+      let words = passes (has bank e) (all_below 65536 (is_target_listed device s listed e)) third (below_each (is_bank_listed device s bank listed) (eind_most device + 1) e h (omega (arith, most))) in
+      passes (permits_pair s 30 z) (lists listed (wrapped device (65536 * e + z))) permitted (below_each (is_target_listed device s listed e) 65536 z words small)
 
-  targets_told : (line : Option (List ℕ)) → AreTargetsListed device s line → are_targets_listed device s line ≡ true
+  targets_told : (line : Option (List ℕ)) → AreTargetsListed device s bank line → are_targets_listed device s bank line ≡ true
   targets_told None h = refl
   targets_told (Some listed) h =
-      each_below (is_target_listed device s listed) 65536 (λ z small. may_pass (permits_pair s 30 z) (lists listed (wrapped device z)) (λ permitted. h z small permitted))
+      each_below (is_bank_listed device s bank listed) (eind_most device + 1)
+      (λ e lt. may_pass (has bank e) (all_below 65536 (is_target_listed device s listed e))
+      (λ third. each_below (is_target_listed device s listed e) 65536
+      (λ z small. may_pass (permits_pair s 30 z) (lists listed (wrapped device (65536 * e + z))) (λ permitted. h e z (omega (arith, lt)) third small permitted))))
 
 -- ---- stores
 
@@ -214,8 +221,8 @@ module _ (task : Task) (f : RankedFamily) (n : Node) (held : ℕ → Bool) where
               (subst (λ y. is_aim_harmless task f.bound (store_at n.key.pc n.state y) (is_slot_harmless (offset_of n.key.sp) held) (aim_of (device_of task.flash) n.key n.state y) ≡ true) e outer.0) aim same;
           transfer = λ instr at indirect.
               let e : x ≡ instr = same_Some x instr (sym is ∙ at) in
-              targets_listed (device_of task.flash) n.state (jump_line task.assumptions n.key.pc)
-              (passes (is_indirect instr) (are_targets_listed (device_of task.flash) n.state (jump_line task.assumptions n.key.pc)) indirect
+              targets_listed (device_of task.flash) n.state (target_bank n.state instr) (jump_line task.assumptions n.key.pc)
+              (passes (is_indirect instr) (are_targets_listed (device_of task.flash) n.state (target_bank n.state instr) (jump_line task.assumptions n.key.pc)) indirect
               (subst (λ y. is_transfer_listed task n.key.pc n.state y ≡ true) e inner.0));
           calls = λ instr at.
               let e : x ≡ instr = same_Some x instr (sym is ∙ at) in
@@ -228,8 +235,8 @@ module _ (task : Task) (f : RankedFamily) (n : Node) (held : ℕ → Bool) where
     told_at : Holds → IsClear task f n → (stores_harmless && (transfers_listed && stays)) ≡ true
     told_at holds clear =
         and_from stores_harmless (transfers_listed && stays) (aim_told holds x (aim_of (device_of task.flash) n.key n.state x) refl (λ aim. clear.store x aim is))
-        (and_from transfers_listed stays (may_pass (is_indirect x) (are_targets_listed (device_of task.flash) n.state (jump_line task.assumptions n.key.pc))
-        (λ indirect. targets_told (device_of task.flash) n.state (jump_line task.assumptions n.key.pc) (clear.transfer x is indirect)))
+        (and_from transfers_listed stays (may_pass (is_indirect x) (are_targets_listed (device_of task.flash) n.state (target_bank n.state x) (jump_line task.assumptions n.key.pc))
+        (λ indirect. targets_told (device_of task.flash) n.state (target_bank n.state x) (jump_line task.assumptions n.key.pc) (clear.transfer x is indirect)))
         (and_from (not (calls_cut task n.key n.state x)) (not (may_move task n.key n.state x)) (ap not (clear.calls x is)) (ap not (clear.stays x is))))
 
   clear_by : Frees → (x : Option Instr) → instruction_at task.flash n.key.pc ≡ x → is_clear_by task f.bound (record { key = n.key; state = n.state }) held x ≡ true → IsClear task f n

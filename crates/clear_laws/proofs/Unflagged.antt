@@ -1,5 +1,5 @@
 -- No step at a clear node is flagged. What each step writes.
-use Rattle.std.proofs.Common.{◌≡◌, ◌≢◌, refl, sym, ap, ap₂, ◌∙◌, subst, ℕ, ◌+◌, ◌-◌, ◌<◌, ◌≤◌, ◌==◌, Bool, true, false, not, ◌&&◌, ◌||◌, nat_le, nat_lt, ◌⊎◌, inl, inr, ⊎_elim, if◌then◌else◌, List, [], ◌∷◌, ◌++◌, Option, Some, None, arith}
+use Rattle.std.proofs.Common.{◌≡◌, ◌≢◌, refl, sym, ap, ap₂, ◌∙◌, subst, ℕ, ◌+◌, ◌*◌, ◌-◌, ◌<◌, ◌≤◌, ◌==◌, Bool, true, false, not, ◌&&◌, ◌||◌, nat_le, nat_lt, ◌⊎◌, inl, inr, ⊎_elim, if◌then◌else◌, List, [], ◌∷◌, ◌++◌, Option, Some, None, arith}
 use Rattle.std.specs.List.{list_any}
 use Rattle.std.proofs.lemmas.Bool.Decides.{nat_tests}
 use Rattle.std.proofs.lemmas.Bool.{false_from_ne_true as never, and_from, and_left, and_parts, or_cases, or_from, or_left, or_parts, or_right, not-true, cases_lt}
@@ -10,6 +10,7 @@ use Rattle.avr_model.proofs.AllLaws.{devices_are_alike}
 use Rattle.avr_model.specs.declared.assumption.Entry.{Entry}
 use Rattle.avr_model.specs.declared.device.Device.{Device}
 use Rattle.avr_model.specs.declared.rows.EnablePlace.{EnablePlace}
+use Rattle.avr_model.specs.declared.rows.Row.{Row}
 use Rattle.avr_model.specs.declared.instruction.Instr.{Instr}
 use Rattle.avr_model.specs.declared.instruction.Instr.TheVariants as i
 use Rattle.avr_model.specs.declared.choice.Choice.{Choice}
@@ -19,14 +20,15 @@ use Rattle.avr_model.specs.declared.effect.Effect.{Effect}
 use Rattle.avr_model.specs.declared.effect.Write.{Write}
 use Rattle.avr_model.specs.Assumptions.{jump_line, store_line, is_never, is_fixed_site, lists}
 use Rattle.avr_model.specs.Masks.{reads_masks, is_barred, enables_barred, admits_enables, is_flagged_write}
-use Rattle.avr_model.specs.Devices.{io_end, ramend, has_sph, wrapped, device_of}
+use Rattle.avr_model.specs.Devices.{device_row, io_end, ramend, has_sph, wrapped, eind_most, device_of}
 use Rattle.avr_model.specs.Sites.{instruction_at, is_scratch}
-use Rattle.avr_model.specs.State.{State, Memory, is_live, i_flag, register, pair, low, high}
-use Rattle.avr_model.specs.Vectors.{enable_places, has_enables, is_core_by, is_core, is_protected, is_enabled, vector_word, watchdog}
-use Rattle.avr_model.specs.Effects.{set, way_back}
+use Rattle.avr_model.specs.State.{State, Memory, EIND, REGISTERS, is_live, i_flag, register, pair, low, high}
+use Rattle.avr_model.specs.Vectors.{enable_places, has_enables, is_core_of, is_core, is_protected, is_enabled, vector_word, watchdog}
+use Rattle.avr_model.specs.Effects.{set, way_back, extended_word}
 use Rattle.avr_model.specs.Step.{Illegal, Overflow, Flagged, after, all_inside, live_write, flagged_write, protected_write, unless_listed, unlisted_transfer, is_call, deep_call, first_of, refused_transfer, moves_vectors, is_pointer_store, is_indirect, is_refused, is_guarding, flag_by, flagged_or, may_take, entering, never_target, take, go}
 use Rattle.bit_domain.specs.declared.bytes.TriByte.{TriByte}
-use Rattle.bit_domain.specs.TriByte.{Has, has}
+use Rattle.bit_domain.specs.TriByte.{Has, has, byte_known}
+use Rattle.bit_domain.proofs.AllLaws.{bytes_are_sets, tests_tell_members}
 use Rattle.node_keys.specs.declared.keys.NodeKey.{NodeKey}
 use Rattle.node_keys.specs.declared.keys.SpForm.{SpForm}
 use Rattle.node_keys.specs.declared.keys.SpForm.TheVariants.{Closed, Open}
@@ -36,14 +38,14 @@ use Rattle.node_keys.proofs.AllLaws.{enables_stay_among}
 use Rattle.pair_domain.specs.declared.facts.PairFacts.{PairFacts}
 use Rattle.abs_state.specs.declared.state.AbsState.{AbsState}
 use Rattle.abs_state.specs.Stands.{ByteStands}
-use Rattle.local_rules.specs.Registers.{value, before}
+use Rattle.local_rules.specs.Registers.{value, bits, before}
 use Rattle.local_rules.specs.Local.{row_of, is_hung}
 use Rattle.local_rules.specs.Permitted.{may_be}
 use Rattle.local_laws.proofs.AllLaws.{open_pairs_hang, above_if_live, bare_frame, enabled_too, none_above, has_where_may, pair_permitted}
 use Rattle.edge_rules.specs.Families.{RankedFamily, IsSoundFamily}
 use Rattle.edge_rules.specs.Frames.{Frame, Runs}
 use Rattle.clear_laws.specs.Aims.{Aim, permits_number, may_write, aim_of}
-use Rattle.clear_laws.specs.Clear.{IsClear, IsHarmless, no_address, under_stack, above_memory, one_register, each_address, free_slot, stored_bits, is_guarded, is_flagged_address, is_address_harmless, permits_by, AreTargetsListed, may_reach, written_bits, may_move, calls_cut}
+use Rattle.clear_laws.specs.Clear.{IsClear, IsHarmless, no_address, under_stack, above_memory, one_register, each_address, free_slot, stored_bits, is_guarded, is_flagged_address, is_address_harmless, permits_by, target_bank, AreTargetsListed, may_reach, written_bits, may_move, calls_cut}
 use Rattle.clear_laws.proofs.Memory.{IsPushedAt, inside_if_live}
 use Rattle.clear_laws.proofs.Ports.{ports_fit}
 use Rattle.clear_laws.proofs.Aims.{IsStoreReached, IsAimed}
@@ -79,12 +81,15 @@ counted None s r p h =
     and_from _ _ (has_where_may (value s r) (low p) bytes.0) (has_where_may (value s (r + 1)) (high p) bytes.1)
 counted (Some f) s r p h = h
 
--- a permitted Z goes to a listed word
-goes_listed : (device : Device) (s : AbsState) (line : Option (List ℕ)) (z : ℕ) → AreTargetsListed device s line → z < 65536 → permits_number s 30 z ≡ true
-    → unless_listed line (wrapped device z) ≡ None
-goes_listed device s None z all small may = refl
-goes_listed device s (Some listed) z all small may =
-    ap (λ b. if b then None else Some (wrapped device z)) (all z small (counted s.facts s 30 z may))
+-- a permitted Z with a permitted third byte goes to a listed word
+goes_listed : (device : Device) (s : AbsState) (bank : TriByte) (line : Option (List ℕ)) (e z : ℕ) → AreTargetsListed device s bank line → e ≤ eind_most device → has bank e ≡ true → z < 65536
+    → permits_number s 30 z ≡ true → unless_listed line (wrapped device (65536 * e + z)) ≡ None
+goes_listed device s bank None e z all most third small may = refl
+goes_listed device s bank (Some listed) e z all most third small may =
+    ap (λ b. if b then None else Some (wrapped device (65536 * e + z))) (all e z most third small (counted s.facts s 30 z may))
+
+none_below : (z : ℕ) → 65536 * 0 + z ≡ z
+none_below z = omega arith
 
 -- ---- protected writes
 
@@ -139,12 +144,24 @@ module _ (task : Task) (instr : Instr) (pc : ℕ) where
       (never (is_pointer_store instr && not (is_fixed_site task.flash task.assumptions pc) && is_flagged_write (device_of task.flash) task.assumptions pc a byte)
       (λ h. never_both _ (flagged_by_write s a byte has h) free))
 
-above_core : (has_high : Bool) (a : ℕ) → 0x5F < a → is_core_by has_high a ≡ false
-above_core true a lt = grind (arith, nat_tests)
-above_core false a lt = grind (arith, nat_tests)
+neither : (a b : Bool) → a ≡ false → b ≡ false → (a || b) ≡ false
+neither false b h g = g
+neither true b h g = absurd (cc)
+
+above_one : (has : Bool) (a n : ℕ) → n < a → (has && (a == n)) ≡ false
+above_one true a n lt = grind (arith, nat_tests)
+above_one false a n lt = refl
+
+above_core : (row : Row) (a : ℕ) → 0x5F < a → is_core_of row a ≡ false
+above_core row a lt =
+    neither _ _ (grind (arith, nat_tests))
+    (neither _ _ (above_one true a 0x5D (omega (arith, lt)))
+    (neither _ _ (above_one true a 0x5F lt)
+    (neither _ _ (above_one row.has_sph a 0x5E (omega (arith, lt)))
+    (neither _ _ (above_one row.has_elpm a 0x5B (omega (arith, lt))) (above_one row.has_eijmp a 0x5C (omega (arith, lt)))))))
 
 no_core : (device : Device) (a : ℕ) → io_end device < a → is_core device a ≡ false
-no_core device a lt = above_core (has_sph device) a (omega (arith, lt, devices_are_alike.least_io device))
+no_core device a lt = above_core (device_row device) a (omega (arith, lt, devices_are_alike.least_io device))
 
 -- an address that enables no vector enables no barred one
 none_barred : (ps : List EnablePlace) (a : ℕ) (p q : EnablePlace → Bool) → list_any (λ (x : EnablePlace). x.address == a) ps ≡ false
@@ -342,7 +359,7 @@ module _ (task : Task) (f : RankedFamily) (sound : IsSoundFamily task f) (m : St
       pub stores : effect.stores ≡ set address byte
       pub pushes : effect.pushes ≡ []
 
-    stands : (r : ℕ) → r < 32 → ByteStands g.origin (value g.node.state r) (register m r)
+    stands : (r : ℕ) → r < REGISTERS → ByteStands g.origin (value g.node.state r) (register m r)
     stands r lt = runs.running.stands.registers r lt
 
     abbrev state : AbsState
@@ -439,21 +456,38 @@ module _ (task : Task) (f : RankedFamily) (sound : IsSoundFamily task f) (m : St
             one_safe w.address w.byte w.has_byte free.dead (subst (λ p. is_flagged_address task (store_at p g.node.state instr) w.address ≡ false) (sym runs.running.place.pc) free.free) w.stores w.pushes
 
     -- an indirect transfer's word is listed
-    z_listed : IsClear task f g.node → is_indirect instr ≡ true → unless_listed (jump_line task.assumptions m.pc) (wrapped m.device (pair m 30)) ≡ None
-    z_listed clear indirect =
+    word_listed : (e : ℕ) → IsClear task f g.node → is_indirect instr ≡ true → e ≤ eind_most (device_of task.flash) → has (target_bank g.node.state instr) e ≡ true
+        → unless_listed (jump_line task.assumptions m.pc) (wrapped m.device (65536 * e + pair m 30)) ≡ None
+    word_listed e clear indirect most third =
         let all = clear.transfer instr here indirect in
-        subst (λ p. unless_listed (jump_line task.assumptions p) (wrapped m.device (pair m 30)) ≡ None) (sym runs.running.place.pc)
-        (subst (λ device. unless_listed (jump_line task.assumptions k.pc) (wrapped device (pair m 30)) ≡ None) (sym runs.device)
-        (goes_listed (device_of task.flash) g.node.state (jump_line task.assumptions k.pc) (pair m 30) all
+        subst (λ p. unless_listed (jump_line task.assumptions p) (wrapped m.device (65536 * e + pair m 30)) ≡ None) (sym runs.running.place.pc)
+        (subst (λ device. unless_listed (jump_line task.assumptions k.pc) (wrapped device (65536 * e + pair m 30)) ≡ None) (sym runs.device)
+        (goes_listed (device_of task.flash) g.node.state (target_bank g.node.state instr) (jump_line task.assumptions k.pc) e (pair m 30) all most third
         (omega (arith, (stands 30 (omega arith)).small, (stands 31 (omega arith)).small))
         (pair_permitted m g.origin k g.node.state (bare_frame m g.origin k g.node.state (masked_by task m runs.device) runs.running) 30 (omega arith, refl))))
+
+    -- by Z alone
+    z_listed : IsClear task f g.node → is_indirect instr ≡ true → target_bank g.node.state instr ≡ byte_known 0
+        → unless_listed (jump_line task.assumptions m.pc) (wrapped m.device (pair m 30)) ≡ None
+    z_listed clear indirect plain =
+        subst (λ z. unless_listed (jump_line task.assumptions m.pc) (wrapped m.device z) ≡ None) (none_below (pair m 30))
+        (word_listed 0 clear indirect (omega arith) (ap (λ b. has b 0) plain ∙ (tests_tell_members.bytes (byte_known 0) 0).1 ((bytes_are_sets.known 0 0 (omega arith) (omega arith)).1 refl)))
+
+    -- by EIND and Z
+    far_listed : IsClear task f g.node → is_indirect instr ≡ true → target_bank g.node.state instr ≡ bits g.node.state EIND
+        → unless_listed (jump_line task.assumptions m.pc) (wrapped m.device (extended_word m)) ≡ None
+    far_listed clear indirect far =
+        word_listed (register m EIND) clear indirect (on_words (λ device. register m EIND ≤ eind_most device) runs.running.machine.banks.eind)
+        (ap (λ b. has b (register m EIND)) far ∙ (tests_tell_members.bytes (bits g.node.state EIND) (register m EIND)).1 (stands EIND (omega arith)).bits)
 
   module _ (clear : IsClear task f g.node) (flag : Flag) where
     -- without an indirect transfer nothing is unlisted
     no_transfer : (b1 b2 : ℕ) (instr : Instr) → instruction_at task.flash m.pc ≡ Some instr → unlisted_transfer task.assumptions m.pc instr (effect_by task m instr b1 b2) ≡ None
     unfolding unlisted_transfer
-    no_transfer b1 b2 i.Ijmp is = z_listed b1 b2 i.Ijmp is clear refl
-    no_transfer b1 b2 i.Icall is = z_listed b1 b2 i.Icall is clear refl
+    no_transfer b1 b2 i.Ijmp is = z_listed b1 b2 i.Ijmp is clear refl refl
+    no_transfer b1 b2 i.Icall is = z_listed b1 b2 i.Icall is clear refl refl
+    no_transfer b1 b2 i.Eijmp is = far_listed b1 b2 i.Eijmp is clear refl refl
+    no_transfer b1 b2 i.Eicall is = far_listed b1 b2 i.Eicall is clear refl refl
     no_transfer b1 b2 _ is = refl
 
     -- and no call is too deep, since it enters no word with a `recur` line

@@ -20,7 +20,7 @@ use Rattle.clear_laws.specs.Clear.{IsClear, is_clear, NeverFlagged, word_of_flag
 use Rattle.clear_laws.specs.Held.{MayHold}
 use Rattle.clear_laws.specs.declared.slots.SlotSeed.{SlotSeed}
 use Rattle.clear_laws.specs.Reach.{SlotReaches}
-use Rattle.clear_laws.specs.declared.slots.Asks.{Asks}
+use Rattle.clear_laws.specs.declared.slots.Condition.{Condition}
 use Rattle.clear_laws.specs.Needs.{meets}
 use Rattle.clear_laws.specs.Links.{AreLinks}
 use Rattle.clear_laws.specs.Meets.{Meets}
@@ -99,5 +99,5 @@ SlotsSpreadAlongLinks = (device : Device) (task : Task) (nodes : List Node) (lin
 
 -- If this is a node's condition on its slots, the node is clear exactly if the condition is met.
 abbrev pub AskingsTellClearNodes : Type 0
-AskingsTellClearNodes = (task : Task) (f : RankedFamily) (n : Node) (a : Asks) → ((held : ℕ → Bool) → is_clear task f.bound n held ≡ meets a held)
+AskingsTellClearNodes = (task : Task) (f : RankedFamily) (n : Node) (a : Condition) → ((held : ℕ → Bool) → is_clear task f.bound n held ≡ meets a held)
     → Meets a (λ d. MayHold task f.nodes n.key d) ↔ IsClear task f n

@@ -1,5 +1,5 @@
 -- Clear nodes: no step can be flagged there. Source: own.
-use Rattle.std.specs.Prelude.{ℕ, ⊤, ◌+◌, ◌++◌, ◌∷◌, ◌≡◌, ◌≢◌, ◌<◌, ◌≤◌, ◌&&◌, ◌||◌, ◌==◌, Bool, true, false, not, nat_lt, nat_le, if◌then◌else◌, List, [], Option, Some, None, Contains}
+use Rattle.std.specs.Prelude.{ℕ, ⊤, ◌+◌, ◌*◌, ◌++◌, ◌∷◌, ◌≡◌, ◌≢◌, ◌<◌, ◌≤◌, ◌&&◌, ◌||◌, ◌==◌, Bool, true, false, not, nat_lt, nat_le, if◌then◌else◌, List, [], Option, Some, None, Contains}
 use Rattle.std.specs.List.{list_any}
 use Rattle.avr_model.specs.declared.assumption.Entry.{Entry}
 use Rattle.avr_model.specs.declared.choice.Choice.{Choice}
@@ -14,17 +14,17 @@ use Rattle.avr_model.specs.Assumptions.{jump_line, store_line, recur_line, is_ne
 use Rattle.avr_model.specs.Bits.{all_below}
 use Rattle.avr_model.specs.Masks.{admits_enables}
 use Rattle.avr_model.specs.declared.rows.Ivsel.{Ivsel}
-use Rattle.avr_model.specs.Devices.{device_row, io_end, ramend, wrapped, device_of}
+use Rattle.avr_model.specs.Devices.{device_row, io_end, ramend, wrapped, eind_most, device_of}
 use Rattle.avr_model.specs.Effects.{port}
 use Rattle.avr_model.specs.Text.{far}
 use Rattle.avr_model.specs.Sites.{instruction_at, is_scratch, base_register, pointer_register}
-use Rattle.avr_model.specs.State.{State, IsReset, low, high}
+use Rattle.avr_model.specs.State.{State, IsReset, EIND, low, high}
 use Rattle.avr_model.specs.Step.{is_pointer_store, is_indirect}
 use Rattle.avr_model.specs.Run.{IsRun, stop_of}
 use Rattle.avr_model.specs.Vectors.{is_core, is_protected, is_enabled, vector_word}
 use Rattle.bit_domain.specs.declared.bytes.TriByte.{TriByte}
 use Rattle.bit_domain.specs.Tri.{permits}
-use Rattle.bit_domain.specs.TriByte.{has, tri_at, byte_any}
+use Rattle.bit_domain.specs.TriByte.{has, tri_at, byte_any, byte_known}
 use Rattle.pair_domain.specs.declared.facts.PairFacts.{PairFacts}
 use Rattle.pair_domain.specs.Facts.{is_followed}
 use Rattle.abs_state.specs.declared.state.AbsState.{AbsState}
@@ -32,7 +32,7 @@ use Rattle.node_keys.specs.declared.keys.NodeKey.{NodeKey}
 use Rattle.node_keys.specs.Keys.{offset_of}
 use Rattle.node_keys.specs.Wakes.{may_enable_barred}
 use Rattle.local_rules.specs.declared.local.Node.{Node}
-use Rattle.local_rules.specs.Flow.{targets_at}
+use Rattle.local_rules.specs.Flow.{targets_at, far_targets_at}
 use Rattle.local_rules.specs.Local.{step_before}
 use Rattle.local_rules.specs.HighBytes.{view_by}
 use Rattle.local_rules.specs.Reads.{pointed}
@@ -135,6 +135,7 @@ or_none (Some words) = words
 -- the words that an instruction calls: those of the node's call sites
 abbrev pub called_words : Task → NodeKey → AbsState → Instr → List ℕ
 called_words task k s i.Icall = or_none (targets_at task.assumptions (site_at (device_of task.flash) k s))
+called_words task k s i.Eicall = or_none (far_targets_at task.assumptions (site_at (device_of task.flash) k s))
 called_words task k s (i.Call t) = wrapped (device_of task.flash) t ∷ []
 called_words task k s (i.Rcall t) = if is_scratch task.flash k.pc then [] else wrapped (device_of task.flash) (far k.pc t) ∷ []
 called_words task k s _ = []
@@ -154,10 +155,17 @@ permits_by (Some f) s r p = permits_number s r p
 abbrev pub permits_pair : AbsState → ℕ → ℕ → Bool
 permits_pair s r p = permits_by s.facts s r p
 
--- each possible word of Z is listed, if there is a line
-abbrev pub AreTargetsListed : Device → AbsState → Option (List ℕ) → Type 0
-AreTargetsListed device s None = ⊤
-AreTargetsListed device s (Some listed) = (z : ℕ) → z < 65536 → permits_pair s 30 z ≡ true → lists listed (wrapped device z) ≡ true
+-- the third byte of an indirect transfer's target: EIND, or 0
+abbrev pub target_bank : AbsState → Instr → TriByte
+target_bank s i.Eijmp = bits s EIND
+target_bank s i.Eicall = bits s EIND
+target_bank s _ = byte_known 0
+
+-- each possible target is listed, if there is a line: each word of Z with each third byte that these bits permit
+abbrev pub AreTargetsListed : Device → AbsState → TriByte → Option (List ℕ) → Type 0
+AreTargetsListed device s bank None = ⊤
+AreTargetsListed device s bank (Some listed) =
+    (e z : ℕ) → e ≤ eind_most device → has bank e ≡ true → z < 65536 → permits_pair s 30 z ≡ true → lists listed (wrapped device (65536 * e + z)) ≡ true
 
 -- ---- nodes
 
@@ -167,7 +175,7 @@ pub record IsClear (task : Task) (f : RankedFamily) (n : Node) : Type 0 where
   pub store : (instr : Instr) (aim : Aim) → instruction_at task.flash n.key.pc ≡ Some instr → aim_of (device_of task.flash) n.key n.state instr ≡ Some aim
       → IsHarmless task f n instr aim
   pub transfer : (instr : Instr) → instruction_at task.flash n.key.pc ≡ Some instr → is_indirect instr ≡ true
-      → AreTargetsListed (device_of task.flash) n.state (jump_line task.assumptions n.key.pc)
+      → AreTargetsListed (device_of task.flash) n.state (target_bank n.state instr) (jump_line task.assumptions n.key.pc)
   pub calls : (instr : Instr) → instruction_at task.flash n.key.pc ≡ Some instr → calls_cut task n.key n.state instr ≡ false
   pub stays : (instr : Instr) → instruction_at task.flash n.key.pc ≡ Some instr → may_move task n.key n.state instr ≡ false
 
@@ -229,15 +237,18 @@ is_aim_harmless task bound store slots None = true
 is_aim_harmless task bound store slots (Some aim) =
     (is_reach_harmless task bound store aim.reach || are_addresses_harmless task bound store) || slots aim.slot
 
-abbrev pub is_target_listed : Device → AbsState → List ℕ → ℕ → Bool
-is_target_listed device s listed z = not (permits_pair s 30 z) || lists listed (wrapped device z)
+abbrev pub is_target_listed : Device → AbsState → List ℕ → ℕ → ℕ → Bool
+is_target_listed device s listed e z = not (permits_pair s 30 z) || lists listed (wrapped device (65536 * e + z))
 
-abbrev pub are_targets_listed : Device → AbsState → Option (List ℕ) → Bool
-are_targets_listed device s None = true
-are_targets_listed device s (Some listed) = all_below 65536 (is_target_listed device s listed)
+abbrev pub is_bank_listed : Device → AbsState → TriByte → List ℕ → ℕ → Bool
+is_bank_listed device s bank listed e = not (has bank e) || all_below 65536 (is_target_listed device s listed e)
+
+abbrev pub are_targets_listed : Device → AbsState → TriByte → Option (List ℕ) → Bool
+are_targets_listed device s bank None = true
+are_targets_listed device s bank (Some listed) = all_below (eind_most device + 1) (is_bank_listed device s bank listed)
 
 abbrev pub is_transfer_listed : Task → ℕ → AbsState → Instr → Bool
-is_transfer_listed task pc s instr = not (is_indirect instr) || are_targets_listed (device_of task.flash) s (jump_line task.assumptions pc)
+is_transfer_listed task pc s instr = not (is_indirect instr) || are_targets_listed (device_of task.flash) s (target_bank s instr) (jump_line task.assumptions pc)
 
 abbrev pub is_clear_by : Task → ℕ → Node → (ℕ → Bool) → Option Instr → Bool
 is_clear_by task bound n held None = true

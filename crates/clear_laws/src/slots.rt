@@ -11,11 +11,11 @@ pub struct SlotSeed {
 
 /// A node's condition on its slots: the node is clear exactly if it is met.
 #[derive(Clone, Copy)]
-pub enum Asks {
+pub enum Condition {
     /// Always met.
-    Nothing,
+    Always,
     /// This slot, which is below the offset, may not hold a live byte.
-    Free(u16),
+    SlotFree(u16),
     /// Never met.
     Never,
 }

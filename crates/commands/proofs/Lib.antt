@@ -1,0 +1,13 @@
+mod Found
+mod Going
+mod Known
+mod Levels
+mod Listed
+mod Pieces
+mod Rows
+mod Shown
+mod Sound
+mod Steps
+mod Taken
+mod Table
+mod Wanted

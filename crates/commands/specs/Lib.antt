@@ -1,4 +1,5 @@
 pub mod About
 pub mod Commands
+pub mod Lines
 pub mod Options
 pub mod Views

@@ -173,7 +173,7 @@ fn work_in<'a>(word: &str, line: &CommandLine<'a>) -> Option<Work<'a>>
 }
 
 /// The command of this name whose further words are this line, if it is one. Each option stands only if the command has it.
-pub fn called<'a>(word: &str, line: CommandLine<'a>) -> Option<Command<'a>>
+pub(crate) fn called<'a>(word: &str, line: CommandLine<'a>) -> Option<Command<'a>>
     ensures { option_map command_seen result ≡ called word.now (line_of line.entry) }
 {
     if asks(word, &line, "demo", &NO_OPTIONS) {

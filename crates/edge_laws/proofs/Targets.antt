@@ -13,16 +13,18 @@ use Rattle.abs_state.specs.Values.{following_root}
 use Rattle.abs_state.specs.Frames.{entered}
 use Rattle.abs_state.specs.PairsBack.{returned}
 use Rattle.abs_state.specs.Formed.{IsFormed}
+use Rattle.abs_state.specs.Banks.{IsStateOf}
 use Rattle.vector_table.proofs.AllLaws.{enables_are_vectors}
 use Rattle.abs_state.specs.Hulls.{IsInHulls}
-use Rattle.abs_state.proofs.AllLaws.{reset_stands, entries_are_true, returns_are_true, tags_stay_fit, hulls_hold_intervals}
+use Rattle.abs_state.proofs.AllLaws.{reset_stands, entries_are_true, returns_are_true, tags_stay_fit, hulls_hold_intervals, states_are_of, joins_are_formed}
 use Rattle.node_keys.specs.declared.keys.InstKey.{InstKey}
 use Rattle.node_keys.specs.declared.keys.NodeKey.{NodeKey}
 use Rattle.node_keys.specs.declared.keys.EdgeKind.{EdgeKind}
 use Rattle.node_keys.specs.declared.keys.EdgeKind.TheVariants as kind
 use Rattle.node_keys.specs.declared.keys.Kind.TheVariants.{Root}
+use Rattle.node_keys.specs.declared.keys.Kind.{Kind}
 use Rattle.node_keys.specs.declared.keys.SpForm.TheVariants.{Closed}
-use Rattle.node_keys.specs.Keys.{root_inst, entry_key, offset_of, PickFits}
+use Rattle.node_keys.specs.Keys.{root_inst, entry_key, offset_of, is_root, PickFits}
 use Rattle.local_rules.specs.declared.local.Node.{Node}
 use Rattle.local_rules.specs.declared.local.Exit.{Exit}
 use Rattle.local_rules.specs.Cover.{IsNodeIn}
@@ -68,6 +70,7 @@ reset_node device true = record {
     carry = reset_stands.untagged.carry;
     slots = reset_stands.untagged.slots;
   };
+  registers_of = states_are_of.following_root device;
   mode = refl;
   hulls = hulls_hold_intervals.following_root;
 }
@@ -81,24 +84,34 @@ reset_node device false = record {
   tags = tags_stay_fit.at_reset;
   carry_bytes = tt;
   untagged = λ kind. reset_stands.untagged;
+  registers_of = states_are_of.root device;
   mode = refl;
   hulls = hulls_hold_intervals.root;
 }
 
-entry_node : {device : Device} {followed : Bool} (s : AbsState) (offset : ℕ) (inst : InstKey) → IsFormed s offset → is_followed s.facts ≡ followed → IsInHulls s → inst.kind ≢ Root → inst.entry < limit_of device → inst.masks < 2 ^ enable_count device
+-- an instance that is entered isn't the root
+other_kind : (k : Kind) → is_root k ≡ false → k ≢ Root
+other_kind k is e = absurd (cc)
+
+entered_kind : {task : Task} {n : Node} {way : EdgeKind} {inst : InstKey} {back : ℕ} → Enters task n way inst back → is_root inst.kind ≡ false
+entered_kind (by_call offset site faultless form member) = refl
+entered_kind (by_interrupt offset v clears faultless form i delay enabled allowed clearable) = refl
+
+entry_node : {device : Device} {followed : Bool} (k : NodeKey) (s : AbsState) (inst : InstKey) → IsNodeIn device followed k s → is_root inst.kind ≡ false → inst.entry < limit_of device → inst.masks < 2 ^ enable_count device
     → IsNodeIn device followed (entry_key inst) (entered s)
-entry_node s offset inst formed mode hulls other word masks = record {
+entry_node {device = device} k s inst node other word masks = record {
   word = word;
   small = omega arith;
   masks = masks;
   fits = tt;
   pick = tt;
-  formed = entries_are_true.formed s offset formed;
+  formed = entries_are_true.formed s (offset_of k.sp) node.formed;
   tags = (tags_stay_fit.at_entry s).0;
   carry_bytes = (tags_stay_fit.at_entry s).1;
-  untagged = λ kind. absurd (other kind);
-  mode = entries_are_true.followed s ∙ mode;
-  hulls = hulls_hold_intervals.entered s formed.count_registers hulls;
+  untagged = λ kind. absurd (other_kind inst.kind other kind);
+  registers_of = subst (λ b. IsStateOf device b (entered s)) (sym other) (states_are_of.entered device (is_root k.inst.kind) s node.formed.count_registers node.registers_of);
+  mode = entries_are_true.followed s ∙ node.mode;
+  hulls = hulls_hold_intervals.entered s node.formed.count_registers node.hulls;
 }
 
 enabled_small : (device : Device) (enables v : ℕ) → is_enabled device enables v ≡ true → v ≤ last_vector device
@@ -119,9 +132,9 @@ entered_node : {followed : Bool} (task : Task) (n : Node) (way : EdgeKind) (inst
     → IsNodeIn (device_of task.flash) followed (entry_key inst) (entered n.state) × (back < limit_of (device_of task.flash))
 entered_node task n _ _ _ node (by_call offset site faultless form member) =
     let lead = (local_parts_fit.fit task n.key n.state).calls site member in
-    (entry_node n.state (offset_of n.key.sp) (called_inst n.key site.entry) node.formed node.mode node.hulls (λ kind. absurd (cc)) (in_texts (device_of task.flash) site.entry lead.0) node.masks, in_texts (device_of task.flash) site.back lead.1)
+    (entry_node n.key n.state (called_inst n.key site.entry) node refl (in_texts (device_of task.flash) site.entry lead.0) node.masks, in_texts (device_of task.flash) site.back lead.1)
 entered_node task n _ _ _ node (by_interrupt offset v clears faultless form i delay enabled allowed clearable) = (
-  entry_node n.state (offset_of n.key.sp) (vector_inst task.flash n.key v clears) node.formed node.mode node.hulls (λ kind. absurd (cc)) (vector_small (device_of task.flash) v (enabled_small (device_of task.flash) n.key.masks v enabled))
+  entry_node n.key n.state (vector_inst task.flash n.key v clears) node refl (vector_small (device_of task.flash) v (enabled_small (device_of task.flash) n.key.masks v enabled))
       (enables_are_vectors.taken (device_of task.flash) n.key.masks clears node.masks),
   node.word,
 )
@@ -142,8 +155,8 @@ both_same true = refl
 both_same false = refl
 
 returned_node : {followed : Bool} (task : Task) (way : EdgeKind) (n leaver : Node) (back : ℕ) (x : Exit) (t : AbsState) → IsNodeIn (device_of task.flash) followed n.key n.state → back < limit_of (device_of task.flash)
-    → IsNodeIn (device_of task.flash) followed leaver.key leaver.state → (raw_of task leaver).exit ≡ Some x → returned n.state leaver.state ≡ Some t → IsNodeIn (device_of task.flash) followed (returned_key way n.key back x) t
-returned_node {followed = followed} task way n leaver back x t node word other exit is =
+    → IsNodeIn (device_of task.flash) followed leaver.key leaver.state → is_root leaver.key.inst.kind ≡ false → (raw_of task leaver).exit ≡ Some x → returned n.state leaver.state ≡ Some t → IsNodeIn (device_of task.flash) followed (returned_key way n.key back x) t
+returned_node {followed = followed} task way n leaver back x t node word other kind exit is =
     let left = (local_parts_fit.fit task leaver.key leaver.state).exit x exit in
     let base = at_base leaver.key leaver.state other left.0 in
     record {
@@ -156,6 +169,7 @@ returned_node {followed = followed} task way n leaver back x t node word other e
       tags = tags_stay_fit.at_return n.state leaver.state t node.formed.count_registers node.tags is;
       carry_bytes = tags_stay_fit.carry_at_return n.state leaver.state t node.carry_bytes is;
       untagged = λ kind. returns_are_true.untagged n.state leaver.state t (offset_of n.key.sp) node.formed base (node.untagged kind) is;
+      registers_of = states_are_of.returned (device_of task.flash) (is_root n.key.inst.kind) n.state leaver.state t (joins_are_formed.whole n.state (offset_of n.key.sp) node.formed) (joins_are_formed.whole leaver.state 0 base) node.registers_of (subst (λ b. IsStateOf (device_of task.flash) b leaver.state) kind other.registers_of) is;
       mode = returns_are_true.followed n.state leaver.state t is ∙ ap₂ (λ (f g : Bool). f && g) node.mode other.mode ∙ both_same followed;
       hulls = hulls_hold_intervals.returned n.state leaver.state t is;
     }
@@ -167,7 +181,7 @@ lead_node : {followed : Bool} (task : Task) (nodes : List Node) (n to : Node) �
 lead_node task nodes n _ are here (along_move to faultless member) = (local_parts_are_nodes.nodes task n.key n.state to (are n here) faultless member).1
 lead_node task nodes n _ are here (along_entry way inst back enters) = (entered_node task n way inst back (are n here) enters).0
 lead_node task nodes n _ are here (along_return way inst back leaver x state enters present same faultless exit is) =
-    returned_node task way n leaver back x state (are n here) (entered_node task n way inst back (are n here) enters).1 (are leaver present) exit is
+    returned_node task way n leaver back x state (are n here) (entered_node task n way inst back (are n here) enters).1 (are leaver present) (ap (λ (i : InstKey). is_root i.kind) same ∙ entered_kind enters) exit is
 
 edge_node : {followed : Bool} (task : Task) (nodes : List Node) (n : Node) (e : Edge) → AreNodesIn (device_of task.flash) followed nodes → Contains nodes n → IsEdge task nodes n e
     → IsNodeIn (device_of task.flash) followed e.to e.state
@@ -175,7 +189,7 @@ edge_node task nodes n _ are here (moving to faultless member) =
     joins_are_least.nodes (raw_of task n).moves (λ m i. (local_parts_are_nodes.nodes task n.key n.state m (are n here) faultless i).1) to member
 edge_node task nodes n _ are here (entering way inst back enters) = (entered_node task n way inst back (are n here) enters).0
 edge_node task nodes n _ are here (returning way inst back leaver x state enters present same faultless exit is) =
-    returned_node task way n leaver back x state (are n here) (entered_node task n way inst back (are n here) enters).1 (are leaver present) exit is
+    returned_node task way n leaver back x state (are n here) (entered_node task n way inst back (are n here) enters).1 (are leaver present) (ap (λ (i : InstKey). is_root i.kind) same ∙ entered_kind enters) exit is
 
 pub edges_lead_to_nodes : EdgesLeadToNodes
 edges_lead_to_nodes = record {

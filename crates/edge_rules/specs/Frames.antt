@@ -30,6 +30,7 @@ use Rattle.local_rules.specs.declared.local.CallSite.{CallSite}
 use Rattle.local_rules.specs.declared.local.Exit.{Exit}
 use Rattle.local_rules.specs.Local.{joined_onto}
 use Rattle.local_rules.specs.Cover.{InFrameIn}
+use Rattle.local_rules.specs.Machine.{AreBanks}
 use Rattle.edge_rules.specs.Edges.{IsFaultless, raw_of, Enters, called_inst, vector_inst, returned_key}
 use Rattle.edge_rules.specs.Families.{RankedFamily}
 use Rattle.edge_rules.specs.Roots.{root_of}
@@ -41,7 +42,7 @@ pub record Frame : Type 0 where
   pub origin : Origin
 
 -- The frame is suspended by the entry of this instance with this origin, and what it needs later holds: its registers and flags are the
--- entry values of the next frame; its guarded slots are live and hold bytes of their values; its stack pointer was whole, and the next
+-- entry values of the next frame, and its own origin's RAMPZ and EIND hold no more than they can; its guarded slots are live and hold bytes of their values; its stack pointer was whole, and the next
 -- base is as far below as a return address is long; the bytes between are live and hold the return address, the low byte at the highest
 -- address; below that base the bound leaves room for the need of the entered instance.
 pub record IsLeft (task : Task) (f : RankedFamily) (memory : Memory) (g : Frame) (inst : InstKey) (o : Origin) : Type 0 where
@@ -50,6 +51,7 @@ pub record IsLeft (task : Task) (f : RankedFamily) (memory : Memory) (g : Frame)
   pub flags : FlagsStand g.origin g.node.state.flags o.sreg
   pub less : LessHolds o.registers g.node.state.flags.carry (flag o.sreg 0)
   pub facts : HoldsAt g.node.state.facts o.registers o.sreg
+  pub banks : AreBanks (device_of task.flash) g.origin.registers
   pub slots : SlotsStand g.origin memory g.node.state.slots
   pub offset : ℕ
   pub closed : g.node.key.sp ≡ Closed offset

@@ -3,6 +3,7 @@
 ghost use Rattle.std.specs.Prelude.{ℕ, ◌≡◌, ◌<◌, IfOk};
 ghost use Rattle.abs_state.specs.Values.{value_at};
 ghost use Rattle.abs_state.specs.Formed.{NamesRegister};
+ghost use Rattle.avr_model.specs.State.{REGISTERS};
 ghost use Rattle.family_edges.specs.Next.{returned_node};
 ghost use Rattle.family_edges.specs.Callers.{caller_node};
 
@@ -31,7 +32,7 @@ pub fn returned(
     exit: &Exit,
     leaving: &AbsState,
 ) -> Result<Option<Node>, AllocError>
-    requires { (r : ℕ) → r < 32 → NamesRegister (value_at leaving.now.registers r).tag }
+    requires { (r : ℕ) → r < REGISTERS → NamesRegister (value_at leaving.now.registers r).tag }
     ensures { IfOk result (λ f. f ≡ returned_node (caller_node caller.now) caller.now.way exit.now leaving.now) }
 {
     let Some(state) = caller.state.returned(alloc, leaving)? else {

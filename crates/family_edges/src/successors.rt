@@ -4,6 +4,7 @@ ghost use Rattle.std.specs.Prelude.{ℕ, ◌≡◌, ◌≢◌, ◌↔◌, ◌<�
 ghost use Rattle.text_base.specs.Answers.{Answers};
 ghost use Rattle.abs_state.specs.Values.{value_at};
 ghost use Rattle.abs_state.specs.Formed.{NamesRegister};
+ghost use Rattle.avr_model.specs.State.{REGISTERS};
 ghost use Rattle.local_rules.specs.declared.local.NodeFault.TheVariants.{Memory};
 ghost use Rattle.local_rules.specs.declared.local.NodeFault as fault_type;
 ghost use Rattle.local_rules.specs.declared.local.Node.{Node};
@@ -86,7 +87,7 @@ fn add_return(
     exit: &Exit,
     leaving: &AbsState,
 ) -> Result<(), AllocError>
-    requires { (r : ℕ) → r < 32 → NamesRegister (value_at leaving.now.registers r).tag }
+    requires { (r : ℕ) → r < REGISTERS → NamesRegister (value_at leaving.now.registers r).tag }
     ensures { Grows result edges.old edges.new (returned_by (caller_node caller.now) caller.now.way (Some exit.now) leaving.now) }
 {
     let Some(node) = returned(alloc, caller, exit, leaving)? else {

@@ -1,6 +1,6 @@
 -- The worked families: the successors of each node.
 use Rattle.std.proofs.Common.{◌≡◌, refl, sym, ap, ◌∙◌, subst, ℕ, ◌<◌, ◌≤◌, false, true, [], ◌∷◌, length, Option, Some, None, ⊎_elim, Contains, arith, get_or-set_other, get_or-set_same}
-use Rattle.std.proofs.lemmas.Bool.{cases_eq}
+use Rattle.std.proofs.lemmas.Bool.{cases_eq, cases_lt}
 use Rattle.std.proofs.lemmas.List.{get_or-replicate, length-replicate}
 use Rattle.basics.specs.Items.{none_in, first_or_further, first_in}
 use Rattle.avr_model.specs.Masks.{reads_masks}
@@ -23,7 +23,8 @@ use Rattle.abs_state.specs.declared.state.AbsState.{AbsState}
 use Rattle.abs_state.specs.Values.{root, unknown, known, value_at}
 use Rattle.abs_state.specs.Order.{IsByteWithin, IsSlotWithin, IsStateWithin}
 use Rattle.abs_state.specs.Formed.{IsFormed, IsUntagged, SlotNamesRegister, SlotByteFits, SlotIsUntagged, ByteFits, TagFits, SlotFits}
-use Rattle.abs_state.proofs.AllLaws.{reset_stands, tags_stay_fit}
+use Rattle.abs_state.specs.Banks.{is_tag_of, IsSlotOf}
+use Rattle.abs_state.proofs.AllLaws.{values_are_ordered, root_value, reset_stands, tags_stay_fit, states_are_of}
 use Rattle.node_keys.specs.declared.keys.NodeKey.{NodeKey}
 use Rattle.node_keys.specs.declared.keys.InstKey.{InstKey}
 use Rattle.node_keys.specs.declared.keys.EdgeKind.{EdgeKind}
@@ -38,6 +39,7 @@ use Rattle.local_rules.specs.Registers.{set, value}
 use Rattle.local_rules.specs.Reads.{read_at}
 use Rattle.local_rules.specs.Writes.{written_at}
 use Rattle.local_rules.specs.Local.{raw, placed, joined_onto}
+use Rattle.local_rules.specs.Settling.{settled_state}
 use Rattle.local_rules.specs.Cover.{IsNode}
 use Rattle.local_laws.proofs.AllLaws.{each_of}
 use Rattle.edge_rules.specs.declared.edge.Edge.{Edge}
@@ -55,19 +57,19 @@ use Rattle.family_tables.specs.Clearness.{ClearnessIsMet}
 use Rattle.local_rules.specs.Site.{bare}
 
 room_leads : raw_of (bare over_room) (at_depth 0 0) ≡ one (at_depth 1 2).key (with_bytes 2)
-unfolding raw table_site ijmp_from is_scratch any_below all_below decoded device_row
+unfolding raw table_site ijmp_from is_scratch any_below all_below decoded device_row settled_state
 room_leads = refl
 
 read_leads : raw_of (bare over_room) (at_depth 1 2) ≡ one (at_depth 2 2).key (record (with_bytes 2) { registers = set (with_bytes 2) 28 (known 0xFD) })
-unfolding raw table_site ijmp_from is_scratch any_below all_below decoded device_row read_at
+unfolding raw table_site ijmp_from is_scratch any_below all_below decoded device_row read_at settled_state
 read_leads = refl
 
 store_leads : raw_of (bare over_room) (at_depth 2 2) ≡ one (at_depth 4 2).key (with_bytes 2)
-unfolding raw table_site ijmp_from is_scratch any_below all_below decoded device_row written_at numbers_of enable_tri enable_place_at enable_places has_enables
+unfolding raw table_site ijmp_from is_scratch any_below all_below decoded device_row written_at numbers_of enable_tri enable_place_at enable_places has_enables settled_state
 store_leads = refl
 
 loop_leads : raw_of (bare over_room) (at_depth 4 2) ≡ one (at_depth 4 2).key (with_bytes 2)
-unfolding raw table_site ijmp_from is_scratch any_below all_below decoded device_row
+unfolding raw table_site ijmp_from is_scratch any_below all_below decoded device_row settled_state
 loop_leads = refl
 
 -- ---- states in which nothing is known
@@ -96,21 +98,33 @@ module _ (n : ℕ) where
   untagged : IsUntagged (with_bytes n)
   untagged = record { registers = reset_stands.untagged.registers; entry = refl; carry = tt; slots = all_free SlotIsUntagged tt }
 
-  registers_fit : (r : ℕ) → r < 32 → TagFits (value_at (with_bytes n).registers r).tag
+  registers_fit : (r : ℕ) → r < 34 → TagFits (value_at (with_bytes n).registers r).tag
   registers_fit r lt = tags_stay_fit.at_reset.registers r lt
 
   unknown_above : (v : AbsByte) → ByteFits v → (r : ℕ) → r < 32 → IsByteWithin v (value_at (with_bytes n).registers r)
   unknown_above v fits r lt =
       let below : IsWithin v.bits byte_any = λ x small has. bytes_are_sets.built (λ i. Any) x (λ i k. tt) in
       let wide = ranges_hold.bits_within v.bits byte_any below in
-      subst (IsByteWithin v) (sym (get_or-replicate 32 r unknown unknown lt))
+      subst (IsByteWithin v) (sym (root_value r lt))
       record { tag = tt; bits = below; low = omega (arith, wide.low, fits.low); high = omega (arith, wide.high, fits.high) }
 
+  -- RAMPZ and EIND stay 0
+  zero_above : (s : AbsState) (r : ℕ) → value_at s.registers r ≡ known 0 → value_at (with_bytes n).registers r ≡ known 0 → IsByteWithin (value_at s.registers r) (value_at (with_bytes n).registers r)
+  zero_above s r is same = subst (λ (v : AbsByte). IsByteWithin v (value_at (with_bytes n).registers r)) (sym is) (subst (IsByteWithin (known 0)) (sym same) (values_are_ordered.same (known 0)))
+
+  register_above : (s : AbsState) → ((r : ℕ) → r < 34 → ByteFits (value_at s.registers r)) → value_at s.registers 32 ≡ known 0 → value_at s.registers 33 ≡ known 0
+      → (r : ℕ) → r < 34 → IsByteWithin (value_at s.registers r) (value_at (with_bytes n).registers r)
+  register_above s fits rampz eind r lt =
+      let P : ℕ → Type 0 = λ k. IsByteWithin (value_at s.registers k) (value_at (with_bytes n).registers k) in
+      ⊎_elim (λ low. unknown_above (value_at s.registers r) (fits r lt) r low)
+      (λ high. ⊎_elim (λ last. subst P (omega (arith, last, high)) (zero_above s 32 rampz refl)) (λ more. subst P (omega (arith, more, lt)) (zero_above s 33 eind refl)) (cases_lt r 33))
+      (cases_lt r 32)
+
   -- the state is above all with this many slots
-  above : (s : AbsState) → ((r : ℕ) → r < 32 → ByteFits (value_at s.registers r)) → length s.slots ≡ n → IsStateWithin s (with_bytes n)
-  above s fits same =
+  above : (s : AbsState) → ((r : ℕ) → r < 34 → ByteFits (value_at s.registers r)) → value_at s.registers 32 ≡ known 0 → value_at s.registers 33 ≡ known 0 → length s.slots ≡ n → IsStateWithin s (with_bytes n)
+  above s fits rampz eind same =
       record {
-        registers = λ r lt. unknown_above (value_at s.registers r) (fits r lt) r lt;
+        registers = register_above s fits rampz eind;
         flags = record { entry = λ e. absurd (cc); bits = λ x small has. bytes_are_sets.built (λ i. Any) x (λ i k. tt); carry = tt };
         count = same ∙ sym count;
         slots = λ d. all_free (IsSlotWithin (slot_at s.slots d)) tt d;
@@ -118,7 +132,7 @@ module _ (n : ℕ) where
       }
 
   itself_above : IsStateWithin (with_bytes n) (with_bytes n)
-  itself_above = above (with_bytes n) reset_stands.formed.ranges count
+  itself_above = above (with_bytes n) reset_stands.formed.ranges refl refl count
 
   node_at : (pc : ℕ) → pc < 16384 → n ≤ 2048 → IsNode M328 (at_depth pc n).key (at_depth pc n).state
   unfolding device_row
@@ -133,12 +147,15 @@ module _ (n : ℕ) where
         tags = record { registers = registers_fit; slots = all_free SlotFits tt };
         carry_bytes = tt;
         untagged = λ k. untagged;
+        registers_of =
+            let of = states_are_of.root M328 in
+            record { registers = of.registers; slots = all_free (IsSlotOf (is_tag_of M328)) tt; rampz = of.rampz; eind = of.eind };
         mode = refl;
         hulls = tt;
       }
 
 -- with register 28 known
-known_fits : (r : ℕ) → r < 32 → ByteFits (value_at (set (with_bytes 2) 28 (known 0xFD)) r)
+known_fits : (r : ℕ) → r < 34 → ByteFits (value_at (set (with_bytes 2) 28 (known 0xFD)) r)
 known_fits r lt =
     ⊎_elim
     (λ same. subst (λ (v : AbsByte). ByteFits v) (sym (ap (value_at (set (with_bytes 2) 28 (known 0xFD))) same
@@ -209,14 +226,14 @@ unfolding has_pairs
 room_is_sound =
     record {
       formed = four (λ n. IsNode M328 n.key n.state) (node_at 0 0 (omega arith) (omega arith)) (node_at 2 1 (omega arith) (omega arith)) (node_at 2 2 (omega arith) (omega arith)) (node_at 2 4 (omega arith) (omega arith));
-      reset = record { state = with_bytes 0; present = (0, omega arith, refl); above = above 0 root reset_stands.formed.ranges refl };
+      reset = record { state = with_bytes 0; present = (0, omega arith, refl); above = above 0 root reset_stands.formed.ranges refl refl refl };
       faultless =
           four (λ n. IsFaultless (bare over_room) n) (faultless (at_depth 0 0) refl (at_depth 1 2) room_leads) (ap (λ (r : Raw). r.faults) read_leads)
           (faultless (at_depth 2 2) refl (at_depth 4 2) store_leads) (faultless (at_depth 4 2) refl (at_depth 4 2) loop_leads);
       edges = λ n e h.
           four (λ n. IsEdge (bare over_room) room_family.nodes n e → IsCovered room_family.nodes (target e))
           (edge_covered (at_depth 0 0) refl (at_depth 1 2) room_leads record { state = with_bytes 2; present = (1, omega arith, refl); above = itself_above 2 } e)
-          (edge_covered (at_depth 1 2) refl read_node read_leads record { state = with_bytes 2; present = (2, omega arith, refl); above = above 2 read_node.state known_fits refl } e)
+          (edge_covered (at_depth 1 2) refl read_node read_leads record { state = with_bytes 2; present = (2, omega arith, refl); above = above 2 read_node.state known_fits refl refl refl } e)
           (edge_covered (at_depth 2 2) refl (at_depth 4 2) store_leads record { state = with_bytes 2; present = (3, omega arith, refl); above = itself_above 2 } e)
           (edge_covered (at_depth 4 2) refl (at_depth 4 2) loop_leads record { state = with_bytes 2; present = (3, omega arith, refl); above = itself_above 2 } e) n h;
       ranks = λ i j depth edge. absurd (nothing_below i j depth edge);
@@ -256,7 +273,7 @@ room_is_clear =
 -- ---- a byte that was pushed is held, though its slot is free
 
 push_leads : raw_of (bare over_pushed) (at_depth 1 1) ≡ one (at_depth 2 2).key (record (with_bytes 1) { slots = Free ∷ Guarded (value (with_bytes 1) 0) ∷ [] })
-unfolding raw table_site ijmp_from is_scratch has_scratch any_below all_below decoded device_row
+unfolding raw table_site ijmp_from is_scratch has_scratch any_below all_below decoded device_row settled_state
 push_leads = refl
 
 held_there : MayHold (bare over_pushed) pushed_family.nodes (at_depth 2 2).key 1

@@ -1,5 +1,5 @@
 -- Growing lists of nodes that are given by states or by earlier nodes.
-use Rattle.std.proofs.Common.{◌≡◌, refl, sym, ap, subst, ℕ, suc, ◌^◌, ◌<◌, ◌≤◌, ⊎_elim, [], ◌∷◌, ◌++◌, false, List, length, map, Some, None, slice_get, length-append, arith}
+use Rattle.std.proofs.Common.{◌≡◌, refl, sym, ap, subst, ℕ, suc, ◌^◌, ◌<◌, ◌≤◌, ⊎_elim, [], ◌∷◌, ◌++◌, true, false, List, length, map, Some, None, slice_get, length-append, arith}
 use Rattle.std.specs.List.{AllByRecursion}
 use Rattle.std.specs.List.Sorted.{IsStrictlySortedBy}
 use Rattle.std.specs.declared.cmp.Ordering.TheVariants.{Less}
@@ -11,11 +11,18 @@ use Rattle.avr_model.specs.Devices.{limit_of, depth_of}
 use Rattle.avr_model.specs.Vectors.{enable_count}
 use Rattle.abs_state.specs.declared.state.AbsState.{AbsState}
 use Rattle.abs_state.specs.Values.{root}
-use Rattle.abs_state.specs.Formed.{IsFormed}
-use Rattle.abs_state.proofs.AllLaws.{reset_stands, unknown_fits}
+use Rattle.abs_state.specs.Frames.{entered}
+use Rattle.abs_state.specs.Formed.{IsFormed, IsUntagged, TagsFit}
+use Rattle.abs_state.specs.Hulls.{IsInHulls}
+use Rattle.abs_state.specs.Banks.{IsStateOf}
+use Rattle.pair_domain.specs.Facts.{is_followed}
+use Rattle.sp_domain.specs.Tags.{HasByteNumbers}
+use Rattle.abs_state.proofs.AllLaws.{reset_stands, entries_are_true, tags_stay_fit, states_are_of}
+use Rattle.node_keys.specs.declared.keys.Kind.{Kind}
+use Rattle.node_keys.specs.declared.keys.Kind.TheVariants.{Root, Call, Vector}
 use Rattle.node_keys.specs.declared.keys.NodeKey.{NodeKey}
 use Rattle.node_keys.specs.declared.keys.SpForm.TheVariants.{Closed}
-use Rattle.node_keys.specs.Keys.{offset_of, PickFits}
+use Rattle.node_keys.specs.Keys.{offset_of, is_root, PickFits}
 use Rattle.node_keys.specs.Order.{node_cmp}
 use Rattle.local_rules.specs.Cover.{FormFitsKind, IsNode}
 use Rattle.edge_rules.specs.declared.seeded.NodeForm.{NodeForm}
@@ -23,20 +30,56 @@ use Rattle.edge_rules.specs.declared.seeded.NodeForm.TheVariants.{State, From}
 use Rattle.edge_rules.specs.Expansion.{Seeds, AreSeeds}
 use Rattle.edge_laws.specs.Expansions.{AreSeedsAscending}
 use Rattle.edge_laws.proofs.ExpansionLaws.{get_push}
+use Rattle.family_tables.specs.Seeds.{first_state}
 
-pub root_node : (device : Device) (k : NodeKey) → k.pc < limit_of device → k.masks < 2 ^ enable_count device → k.sp ≡ Closed 0 → k.pick ≡ None → IsNode device k root
-root_node device k word masks closed unpicked = record {
+-- what a state needs beside its key's parts, if its stack is empty
+record IsFirst (device : Device) (kind : Kind) (s : AbsState) : Type 0 where
+  formed : IsFormed s 0
+  tags : TagsFit s
+  carry_bytes : HasByteNumbers s.flags.carry
+  untagged : kind ≡ Root → IsUntagged s
+  registers_of : IsStateOf device (is_root kind) s
+  mode : is_followed s.facts ≡ false
+  hulls : IsInHulls s
+
+entered_first : (device : Device) (kind : Kind) → is_root kind ≡ false → (kind ≡ Root → ⊥) → IsFirst device kind (entered root)
+entered_first device kind outside other = record {
+  formed = entries_are_true.formed root 0 reset_stands.formed;
+  tags = (tags_stay_fit.at_entry root).0;
+  carry_bytes = (tags_stay_fit.at_entry root).1;
+  untagged = λ e. absurd (other e);
+  registers_of = subst (λ b. IsStateOf device b (entered root)) (sym outside) (states_are_of.entered device true root reset_stands.formed.count_registers (states_are_of.root device));
+  mode = refl;
+  hulls = tt;
+}
+
+is_first : (device : Device) (kind : Kind) → IsFirst device kind (first_state kind)
+is_first device Root = record {
+  formed = reset_stands.formed;
+  tags = tags_stay_fit.at_reset;
+  carry_bytes = tt;
+  untagged = λ e. reset_stands.untagged;
+  registers_of = states_are_of.root device;
+  mode = refl;
+  hulls = tt;
+}
+is_first device Call = entered_first device Call refl (λ e. cc)
+is_first device (Vector v) = entered_first device (Vector v) refl (λ e. cc)
+
+pub first_node : (device : Device) (k : NodeKey) → k.pc < limit_of device → k.masks < 2 ^ enable_count device → k.sp ≡ Closed 0 → k.pick ≡ None → IsNode device k (first_state k.inst.kind)
+first_node device k word masks closed unpicked = let s = is_first device k.inst.kind in record {
   word = word;
   small = subst (λ p. offset_of p ≤ depth_of device) (sym closed) (omega arith);
   masks = masks;
   fits = subst (FormFitsKind device k.inst.kind) (sym closed) tt;
   pick = subst PickFits (sym unpicked) tt;
-  formed = subst (λ p. IsFormed root (offset_of p)) (sym closed) reset_stands.formed;
-  tags = record { registers = λ r lt. unknown_fits 32 r; slots = λ d lt. absurd (omega arith) };
-  carry_bytes = tt;
-  untagged = λ kind. reset_stands.untagged;
-  mode = refl;
-  hulls = tt;
+  formed = subst (λ p. IsFormed (first_state k.inst.kind) (offset_of p)) (sym closed) s.formed;
+  tags = s.tags;
+  carry_bytes = s.carry_bytes;
+  untagged = s.untagged;
+  registers_of = s.registers_of;
+  mode = s.mode;
+  hulls = s.hulls;
 }
 
 module _ (device : Device) (xs : Seeds) (k : NodeKey) (f : NodeForm) where
@@ -70,10 +113,10 @@ state_is s t e = cc
 from_is : (m n : ℕ) → From m ≡ From n → m ≡ n
 from_is m n e = cc
 
-pub with_root : (device : Device) (xs : Seeds) (k : NodeKey) → AreSeeds device false xs → length xs < 65536 → k.pc < limit_of device → k.masks < 2 ^ enable_count device → k.sp ≡ Closed 0 → k.pick ≡ None
-    → AreSeeds device false (xs ++ (k, State root) ∷ [])
-with_root device xs k seeds few word masks closed unpicked =
-    pushed_seeds device xs k (State root) seeds few (λ s e. subst (IsNode device k) (state_is root s e) (root_node device k word masks closed unpicked)) (λ m e. absurd (cc))
+pub with_first : (device : Device) (xs : Seeds) (k : NodeKey) → AreSeeds device false xs → length xs < 65536 → k.pc < limit_of device → k.masks < 2 ^ enable_count device → k.sp ≡ Closed 0 → k.pick ≡ None
+    → AreSeeds device false (xs ++ (k, State (first_state k.inst.kind)) ∷ [])
+with_first device xs k seeds few word masks closed unpicked =
+    pushed_seeds device xs k (State (first_state k.inst.kind)) seeds few (λ s e. subst (IsNode device k) (state_is (first_state k.inst.kind) s e) (first_node device k word masks closed unpicked)) (λ m e. absurd (cc))
 
 pub with_from : (device : Device) (xs : Seeds) (k : NodeKey) (m : ℕ) → AreSeeds device false xs → length xs < 65536 → m < length xs → AreSeeds device false (xs ++ (k, From m) ∷ [])
 with_from device xs k m seeds few lt =

@@ -11,7 +11,7 @@ use Rattle.avr_model.specs.Vectors.{enable_count}
 use Rattle.avr_model.specs.declared.assumption.Entry.{Entry}
 use Rattle.abs_state.specs.Values.{root}
 use Rattle.abs_state.specs.Frames.{entered}
-use Rattle.abs_state.proofs.AllLaws.{entries_are_true, tags_stay_fit}
+use Rattle.abs_state.proofs.AllLaws.{reset_stands, entries_are_true, tags_stay_fit, states_are_of}
 use Rattle.vector_table.specs.Entries.{AreEntries}
 use Rattle.node_keys.specs.Keys.{root_inst, entry_key, inst_numbers, node_numbers}
 use Rattle.node_keys.specs.Order.{inst_cmp, node_cmp}
@@ -47,6 +47,7 @@ behind_is_node device =
       tags = r.tags;
       carry_bytes = r.carry_bytes;
       untagged = r.untagged;
+      registers_of = r.registers_of;
       mode = r.mode;
       hulls = r.hulls;
     }
@@ -62,6 +63,7 @@ callee_is_node device = record {
   tags = (tags_stay_fit.at_entry root).0;
   carry_bytes = (tags_stay_fit.at_entry root).1;
   untagged = λ e. absurd (cc);
+  registers_of = states_are_of.entered device true root reset_stands.formed.count_registers (states_are_of.root device);
   mode = refl;
   hulls = tt;
 }

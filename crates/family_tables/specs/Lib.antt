@@ -1,3 +1,4 @@
 pub mod Examples
+pub mod Seeds
 pub mod Stores
 pub mod Clearness

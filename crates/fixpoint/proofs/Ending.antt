@@ -172,7 +172,7 @@ module _ (task : Task) where
             let s = spent p.number p.budget in
             subst (AreRoundsWithout task steps) (sym s.0) (s.1, record { family = f; comes = p.comes; passes = ready.passes; more = still_open })
 
-        pub falls : 9416690630657 - weight g < 9416690630657 - weight f
+        pub falls : 9421119815681 - weight g < 9421119815681 - weight f
         falls =
             let top = rounds_are_joins.high f formed in
             let few = ready.passes.fits.few_cells in

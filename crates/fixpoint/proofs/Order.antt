@@ -13,13 +13,14 @@ use Rattle.avr_model.specs.Assumptions.{has_pairs}
 use Rattle.abs_state.specs.declared.state.AbsState.{AbsState}
 use Rattle.abs_state.specs.PairsBack.{returned}
 use Rattle.abs_state.specs.Formed.{IsFormed}
-use Rattle.abs_state.proofs.AllLaws.{returns_are_true, tags_stay_fit, states_are_ordered, hulls_hold_intervals}
+use Rattle.abs_state.specs.Banks.{IsStateOf}
+use Rattle.abs_state.proofs.AllLaws.{returns_are_true, tags_stay_fit, states_are_ordered, hulls_hold_intervals, states_are_of, joins_are_formed}
 use Rattle.node_keys.specs.declared.keys.InstKey.{InstKey}
 use Rattle.node_keys.specs.declared.keys.NodeKey.{NodeKey}
 use Rattle.node_keys.specs.declared.keys.EdgeKind.{EdgeKind}
 use Rattle.node_keys.specs.declared.keys.EdgeKind.TheVariants as kind
 use Rattle.node_keys.specs.declared.keys.SpForm.TheVariants.{Closed}
-use Rattle.node_keys.specs.Keys.{root_inst, entry_key, offset_of, PickFits}
+use Rattle.node_keys.specs.Keys.{root_inst, entry_key, offset_of, is_root, PickFits}
 use Rattle.local_rules.specs.declared.local.Exit.{Exit}
 use Rattle.local_rules.specs.declared.local.Node.{Node}
 use Rattle.local_rules.specs.Cover.{IsNodeIn}
@@ -69,10 +70,15 @@ both_same : (b : Bool) → (b && b) ≡ b
 both_same true = refl
 both_same false = refl
 
--- the target of a return from a node at its base, by an exit that keeps the enable bits
-returned_node : {device : Device} {followed : Bool} (way : EdgeKind) (k l : NodeKey) (s t after : AbsState) (back : ℕ) (x : Exit) → IsNodeIn device followed k s → back < limit_of device → IsNodeIn device followed l t → l.sp ≡ Closed 0 → x.masks ≡ l.masks
+-- an instance that is entered isn't the root
+entered_kind : {task : Task} {n : Node} {way : EdgeKind} {inst : InstKey} {back : ℕ} → Enters task n way inst back → is_root inst.kind ≡ false
+entered_kind (by_call offset site faultless form member) = refl
+entered_kind (by_interrupt offset v clears faultless form i delay enabled allowed clearable) = refl
+
+-- the target of a return from a node of an entered instance at its base, by an exit that keeps the enable bits
+returned_node : {device : Device} {followed : Bool} (way : EdgeKind) (k l : NodeKey) (s t after : AbsState) (back : ℕ) (x : Exit) → IsNodeIn device followed k s → back < limit_of device → IsNodeIn device followed l t → is_root l.inst.kind ≡ false → l.sp ≡ Closed 0 → x.masks ≡ l.masks
     → returned s t ≡ Some after → IsNodeIn device followed (returned_key way k back x) after
-returned_node {device = device} {followed = followed} way k l s t after back x node word other sp masks is =
+returned_node {device = device} {followed = followed} way k l s t after back x node word other kind sp masks is =
     let base : IsFormed t 0 = subst (IsFormed t) (ap offset_of sp) other.formed in
     record {
       word = word;
@@ -84,6 +90,9 @@ returned_node {device = device} {followed = followed} way k l s t after back x n
       tags = tags_stay_fit.at_return s t after node.formed.count_registers node.tags is;
       carry_bytes = tags_stay_fit.carry_at_return s t after node.carry_bytes is;
       untagged = λ kind. returns_are_true.untagged s t after (offset_of k.sp) node.formed base (node.untagged kind) is;
+      registers_of =
+          states_are_of.returned device (is_root k.inst.kind) s t after (joins_are_formed.whole s (offset_of k.sp) node.formed) (joins_are_formed.whole t 0 base) node.registers_of
+          (subst (λ b. IsStateOf device b t) kind other.registers_of) is;
       mode = returns_are_true.followed s t after is ∙ ap₂ (λ (f g : Bool). f && g) node.mode other.mode ∙ both_same followed;
       hulls = hulls_hold_intervals.returned s t after is;
     }
@@ -163,13 +172,14 @@ module _ (task : Task) where
               let h = were.leavers w.inst p j in
               let left = (local_parts_fit.fit task h.node.key h.node.state).exit p.exit h.exit in
               returned_node w.kind x.key p.node is.state t after w.back p.exit (formed n is.has) (back_small n w.kind w.inst w.back (formed n is.has) enters)
-              (formed (record { key = p.node; state = t }) at) (subst (λ (k : NodeKey). k.sp ≡ Closed 0) h.at left.0)
+              (formed (record { key = p.node; state = t }) at)
+              (ap (λ (k : NodeKey). is_root k.inst.kind) (sym h.at) ∙ ap (λ (i : InstKey). is_root i.kind) h.of ∙ entered_kind enters) (subst (λ (k : NodeKey). k.sp ≡ Closed 0) h.at left.0)
               (subst (λ (k : NodeKey). p.exit.masks ≡ k.masks) h.at left.1) r)
               (λ e p t after exit j at r.
               let h = were.callers x.key.inst p j in
               let left = (local_parts_fit.fit task x.key is.state).exit e exit in
               returned_node p.kind p.node x.key t is.state after p.back e (formed (record { key = p.node; state = t }) at)
-              (back_small h.node p.kind x.key.inst p.back h.was h.enters) (formed n is.has) left.0 left.1 r)
+              (back_small h.node p.kind x.key.inst p.back h.was h.enters) (formed n is.has) (entered_kind h.enters) left.0 left.1 r)
 
       -- if the family has no fault, an edge of it leads to each
       module _ (clean : HasNoFault task f) where
@@ -249,7 +259,7 @@ module _ (task : Task) where
 
   -- a visit removes an item of the worklist, and each item that is added raised the weight
   pub falls_again : (f g : Family) (c h now : ℕ) → AreFormed (device_of task.flash) (has_pairs task.assumptions) g → FitsLimits g → weight f + c ≤ weight g → now ≡ h + c
-      → 2 * (9416690630657 - weight g) + now ≤ 2 * (9416690630657 - weight f) + h
+      → 2 * (9421119815681 - weight g) + now ≤ 2 * (9421119815681 - weight f) + h
   falls_again f g c h now formed fits more is =
       let top = rounds_are_joins.high g formed in
       let few = fits.few_cells in

@@ -16,6 +16,6 @@ AreUnderWay task steps r = RoundsProgress task steps r.left r.table r.counted r.
 abbrev pub IsOnItsWay : Task → Walk → Type 0
 IsOnItsWay task w = IsUnderWay task w.table w.counted w.notes
 
--- how far the weight can rise: 1,122,557 for each of the most cells that a family within the limits has, and one
+-- how far the weight can rise: 1,123,085 for each of the most cells that a family within the limits has, and one
 abbrev pub room : Family → ℕ
-room f = 9416690630657 - weight f
+room f = 9421119815681 - weight f

@@ -154,9 +154,9 @@ impl Flash {
         None
     }
 
-    /// The byte at `z`.
+    /// The byte at byte address `z`.
     #[tactic(auto, using(crate::proofs::Narrowing::half))]
-    pub fn byte(&self, z: u16) -> u8
+    pub fn byte(&self, z: u32) -> u8
         requires { z < 2 * words_of (device_of self.now) }
         ensures { result ≡ byte_at self.now.words z }
     {

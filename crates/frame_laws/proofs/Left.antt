@@ -44,6 +44,7 @@ module _ (task : Task) (f : RankedFamily) where
             flags = l.flags;
             less = l.less;
             facts = l.facts;
+            banks = l.banks;
             slots =
                 slots_follow.kept g.origin old new floor g.node.state.slots kept (omega (arith, l.place, ap offset_of l.closed, (sound.formed g.node l.present).formed.count_slots)) l.slots;
             offset = l.offset;

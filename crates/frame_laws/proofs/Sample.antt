@@ -1,23 +1,27 @@
 -- The family of the worked firmware is sound: the definitions are satisfiable with a call.
-use Rattle.std.proofs.Common.{◌≡◌, ℕ, zero, suc, ◌+◌, ◌<◌, ◌≤◌, ◌⊎◌, inl, inr, ⊎_elim, false, List, [], ◌∷◌, Option, Some, None, slice_index_or, refl, sym, ap, ◌∙◌, subst, subst₂, arith, Contains}
+use Rattle.std.proofs.Common.{◌≡◌, ℕ, zero, suc, ◌+◌, ◌<◌, ◌≤◌, ◌==◌, ◌⊎◌, inl, inr, ⊎_elim, Bool, true, false, nat_lt, replicate, ◌++◌, List, [], ◌∷◌, Option, Some, None, slice_index_or, refl, sym, ap, ◌∙◌, subst, subst₂, arith, Contains}
 use Rattle.std.proofs.lemmas.List.{get_or-replicate}
+use Rattle.std.proofs.lemmas.Bool.Decides.{nat_tests}
 use Rattle.std.proofs.lemmas.Nat.{pow_pos}
+use Rattle.std.proofs.Math.ListN.{length-replicate, get_or-append}
 use Rattle.basics.specs.Items.{none_in, only_one_in}
 use Rattle.std.proofs.lemmas.Option.{same_Some}
 use Rattle.avr_model.specs.Assumptions.{has_pairs, recur_line}
 use Rattle.avr_model.specs.Devices.{size_of, back_of, device_of, device_row}
 use Rattle.avr_model.specs.Vectors.{enable_count}
+use Rattle.avr_model.specs.State.{RAMPZ, EIND, REGISTERS, has_register}
 use Rattle.bit_domain.specs.declared.bits.Tri.TheVariants.{Any}
 use Rattle.bit_domain.specs.TriByte.{IsWithin, byte_any}
 use Rattle.bit_domain.proofs.AllLaws.{bytes_are_their_bits, bytes_are_sets, ranges_hold}
 use Rattle.abs_state.specs.declared.values.AbsByte.{AbsByte}
 use Rattle.abs_state.specs.declared.state.AbsState.{AbsState}
-use Rattle.abs_state.specs.Values.{root, unknown, value_at}
+use Rattle.abs_state.specs.Values.{root, unknown, known, value_at}
 use Rattle.abs_state.specs.Order.{IsByteWithin, IsStateWithin}
 use Rattle.abs_state.specs.Formed.{IsFormed, IsUntagged}
+use Rattle.abs_state.specs.Banks.{IsStateOf}
 use Rattle.abs_state.specs.Frames.{entered}
 use Rattle.abs_state.specs.PairsBack.{returned}
-use Rattle.abs_state.proofs.AllLaws.{states_are_ordered, reset_stands, entries_are_true, returns_are_true, tags_stay_fit}
+use Rattle.abs_state.proofs.AllLaws.{values_are_ordered, states_are_ordered, joins_are_formed, reset_stands, entries_are_true, returns_are_true, tags_stay_fit, states_are_of}
 use Rattle.node_keys.specs.declared.keys.InstKey.{InstKey}
 use Rattle.node_keys.specs.declared.keys.EdgeKind.{EdgeKind}
 use Rattle.node_keys.specs.declared.keys.EdgeKind.TheVariants as kind
@@ -56,22 +60,70 @@ top_formed = record {
   facts = tt;
 }
 
+root_of : IsStateOf (device_of sample) true root
+root_of = states_are_of.root (device_of sample)
+
+top_of : IsStateOf (device_of sample) true top
+top_of = record { registers = root_of.registers; slots = λ d lt. absurd (omega arith); rampz = root_of.rampz; eind = root_of.eind }
+
+entered_of : IsStateOf (device_of sample) false (entered top)
+entered_of = states_are_of.entered (device_of sample) true top top_formed.count_registers top_of
+
 top_untagged : IsUntagged top
 top_untagged = record { registers = reset_stands.untagged.registers; entry = refl; carry = tt; slots = λ d lt. absurd (omega arith) }
 
-unknown_above : (s : AbsState) → IsFormed s 0 → (r : ℕ) → r < 32 → IsByteWithin (value_at s.registers r) (value_at top.registers r)
-unknown_above s formed r lt =
+-- r0 to r31 hold any bytes
+low_unknown : (r : ℕ) → r < 32 → value_at top.registers r ≡ unknown
+low_unknown r lt = get_or-append (replicate 32 unknown) (known 0 ∷ known 0 ∷ []) unknown r (subst (λ n. r < n) (sym (length-replicate 32 unknown)) lt) ∙ get_or-replicate 32 r unknown unknown lt
+
+low_above : (s : AbsState) → IsFormed s 0 → (r : ℕ) → r < 32 → IsByteWithin (value_at s.registers r) (value_at top.registers r)
+low_above s formed r lt =
     let v : AbsByte = value_at s.registers r in
     let below : IsWithin v.bits byte_any = λ x small has. bytes_are_sets.built (λ i. Any) x (λ i k. tt) in
     let wide = ranges_hold.bits_within v.bits byte_any below in
-    let fits = formed.ranges r lt in
-    subst (IsByteWithin v) (sym (get_or-replicate 32 r unknown unknown lt))
+    let fits = formed.ranges r (omega (arith, lt)) in
+    subst (IsByteWithin v) (sym (low_unknown r lt))
     record { tag = tt; bits = below; low = omega (arith, wide.low, fits.low); high = omega (arith, wide.high, fits.high) }
 
--- the top element is above all states without slots
-top_above : (s : AbsState) → IsFormed s 0 → IsStateWithin s top
-top_above s formed = record {
-  registers = unknown_above s formed;
+the_same : (r n : ℕ) → (r == n) ≡ true → r ≡ n
+the_same r n e = grind (arith, nat_tests)
+
+less : (r n : ℕ) → nat_lt r n ≡ true → r < n
+less r n e = grind (arith, nat_tests)
+
+last : (r : ℕ) → r < 34 → (r == 32) ≡ false → nat_lt r 32 ≡ false → r ≡ 33
+last r lt e f = grind (arith, nat_tests)
+
+-- the worked firmware's device has neither RAMPZ nor EIND
+no_rampz : has_register (device_of sample) RAMPZ ≡ false
+unfolding device_row
+no_rampz = refl
+
+no_eind : has_register (device_of sample) EIND ≡ false
+unfolding device_row
+no_eind = refl
+
+zero_above : (v : AbsByte) → v ≡ known 0 → IsByteWithin v (known 0)
+zero_above v is = subst (λ w. IsByteWithin w (known 0)) (sym is) (values_are_ordered.same (known 0))
+
+all_above : (s : AbsState) → IsFormed s 0 → IsStateOf (device_of sample) true s → (r : ℕ) → r < REGISTERS → IsByteWithin (value_at s.registers r) (value_at top.registers r)
+all_above s formed of r lt = by_32 (nat_lt r 32) refl
+  where
+    goal : ℕ → Type 0
+    goal r = IsByteWithin (value_at s.registers r) (value_at top.registers r)
+
+    by_33 : (is : Bool) → (r == 32) ≡ is → nat_lt r 32 ≡ false → goal r
+    by_33 true e f = subst goal (sym (the_same r 32 e)) (zero_above (value_at s.registers RAMPZ) (of.rampz.lacking no_rampz))
+    by_33 false e f = subst goal (sym (last r lt e f)) (zero_above (value_at s.registers EIND) (of.eind.lacking no_eind))
+
+    by_32 : (low : Bool) → nat_lt r 32 ≡ low → goal r
+    by_32 true e = low_above s formed r (less r 32 e)
+    by_32 false e = by_33 (r == 32) refl e
+
+-- the top element is above all of the root's states without slots
+top_above : (s : AbsState) → IsFormed s 0 → IsStateOf (device_of sample) true s → IsStateWithin s top
+top_above s formed of = record {
+  registers = all_above s formed of;
   flags = record { entry = λ e. cc; bits = λ x small has. bytes_are_sets.built (λ i. Any) x (λ i k. tt); carry = tt };
   count = formed.count_slots;
   slots = λ d lt. absurd (omega arith);
@@ -109,8 +161,8 @@ return_enters _ _ _ (by_interrupt offset v clears faultless form i delay enabled
 
 -- ---- edges
 
-covered_by_loop : (s : AbsState) → IsFormed s 0 → IsCovered family.nodes (record { key = at_loop.key; state = s })
-covered_by_loop s formed = record { state = top; present = (1, omega arith, refl); above = top_above s formed }
+covered_by_loop : (s : AbsState) → IsFormed s 0 → IsStateOf (device_of sample) true s → IsCovered family.nodes (record { key = at_loop.key; state = s })
+covered_by_loop s formed of = record { state = top; present = (1, omega arith, refl); above = top_above s formed of }
 
 no_pick : (way : EdgeKind) → pick_back way None ≡ None
 no_pick kind.Local = refl
@@ -129,10 +181,12 @@ return_covered way inst back inst_is back_is =
     (λ same x s exit is. absurd (let k = ap (λ (i : InstKey). i.kind) (same ∙ inst_is) in cc))
     (λ same x s exit is.
     let this : plain_exit ≡ x = same_Some _ x (sym (ap (λ (r : Raw). r.exit) return_leads) ∙ exit) in
-    let formed = returns_are_true.formed top (entered top) s 0 top_formed (entries_are_true.formed top 0 top_formed) is in
+    let inside = entries_are_true.formed top 0 top_formed in
+    let formed = returns_are_true.formed top (entered top) s 0 top_formed inside is in
+    let of = states_are_of.returned (device_of sample) true top (entered top) s (joins_are_formed.whole top 0 top_formed) (joins_are_formed.whole (entered top) 0 inside) top_of entered_of is in
     subst (λ (p : Option ℕ). IsCovered family.nodes (record { key = record (returned_key way at_call.key back x) { pick = p }; state = s })) (sym (no_pick way))
     (subst (λ b. IsCovered family.nodes (record { key = returned_key kind.Call at_call.key b x; state = s })) (sym back_is)
-    (subst (λ y. IsCovered family.nodes (record { key = returned_key kind.Call at_call.key 1 y; state = s })) this (covered_by_loop s formed))))
+    (subst (λ y. IsCovered family.nodes (record { key = returned_key kind.Call at_call.key 1 y; state = s })) this (covered_by_loop s formed of))))
 
 no_moves : (to : Node) (r : Raw) → r.moves ≡ [] → Contains (joined_onto [] r.moves) to → ⊥
 unfolding joined_onto
@@ -152,7 +206,7 @@ call_edges _ (returning way inst back leaver x state enters present same faultle
     return_covered way inst back both.0 both.1 leaver present same x state exit is
 
 loop_edges : (e : Edge) → IsEdge (bare sample) family.nodes at_loop e → IsCovered family.nodes (target e)
-loop_edges _ (moving to faultless member) = subst (IsCovered family.nodes) (sym (one_move to member)) (covered_by_loop top top_formed)
+loop_edges _ (moving to faultless member) = subst (IsCovered family.nodes) (sym (one_move to member)) (covered_by_loop top top_formed top_of)
 loop_edges _ (entering way inst back enters) = absurd (loop_enters way inst back enters)
 loop_edges _ (returning way inst back leaver x state enters present same faultless exit is) = absurd (loop_enters way inst back enters)
 
@@ -200,10 +254,10 @@ sample_back = refl
 pub the_sample_is_sound : IsSoundFamily (bare sample) family
 the_sample_is_sound = record {
   formed = each (λ n. IsNodeIn (device_of sample) (has_pairs []) n.key n.state)
-      record { word = omega arith; small = omega arith; masks = pow_pos (enable_count (device_of sample)); fits = tt; pick = tt; formed = top_formed; tags = tags_stay_fit.less root top (top_above root reset_stands.formed) tags_stay_fit.at_reset; carry_bytes = tt; untagged = λ k. top_untagged; mode = sym no_pairs; hulls = tt }
-      record { word = omega arith; small = omega arith; masks = pow_pos (enable_count (device_of sample)); fits = tt; pick = tt; formed = top_formed; tags = tags_stay_fit.less root top (top_above root reset_stands.formed) tags_stay_fit.at_reset; carry_bytes = tt; untagged = λ k. top_untagged; mode = sym no_pairs; hulls = tt }
-      record { word = omega arith; small = omega arith; masks = pow_pos (enable_count (device_of sample)); fits = tt; pick = tt; formed = entries_are_true.formed top 0 top_formed; tags = (tags_stay_fit.at_entry top).0; carry_bytes = tt; untagged = λ k. absurd (cc); mode = sym no_pairs; hulls = tt };
-  reset = record { state = top; present = (0, omega arith, refl); above = subst (λ b. IsStateWithin (root_by b) top) (sym no_pairs) (top_above root reset_stands.formed) };
+      record { word = omega arith; small = omega arith; masks = pow_pos (enable_count (device_of sample)); fits = tt; pick = tt; formed = top_formed; tags = tags_stay_fit.less root top (top_above root reset_stands.formed root_of) tags_stay_fit.at_reset; carry_bytes = tt; untagged = λ k. top_untagged; registers_of = top_of; mode = sym no_pairs; hulls = tt }
+      record { word = omega arith; small = omega arith; masks = pow_pos (enable_count (device_of sample)); fits = tt; pick = tt; formed = top_formed; tags = tags_stay_fit.less root top (top_above root reset_stands.formed root_of) tags_stay_fit.at_reset; carry_bytes = tt; untagged = λ k. top_untagged; registers_of = top_of; mode = sym no_pairs; hulls = tt }
+      record { word = omega arith; small = omega arith; masks = pow_pos (enable_count (device_of sample)); fits = tt; pick = tt; formed = entries_are_true.formed top 0 top_formed; tags = (tags_stay_fit.at_entry top).0; carry_bytes = tt; untagged = λ k. absurd (cc); registers_of = entered_of; mode = sym no_pairs; hulls = tt };
+  reset = record { state = top; present = (0, omega arith, refl); above = subst (λ b. IsStateWithin (root_by b) top) (sym no_pairs) (top_above root reset_stands.formed root_of) };
   faultless = each (λ n. IsFaultless (bare sample) n)
       (ap (λ (r : Raw). r.faults) call_leads) (ap (λ (r : Raw). r.faults) loop_leads) (ap (λ (r : Raw). r.faults) return_leads);
   edges = λ n e h. each (λ x. IsEdge (bare sample) family.nodes x e → IsCovered family.nodes (target e)) (call_edges e) (loop_edges e) (return_edges e) n h;

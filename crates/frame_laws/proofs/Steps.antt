@@ -32,7 +32,7 @@ use Rattle.node_keys.specs.Place.{EnablesAre, SpIs}
 use Rattle.local_rules.specs.declared.local.Node.{Node}
 use Rattle.local_rules.specs.declared.local.Exit.{Exit}
 use Rattle.local_rules.specs.Cover.{IsNodeIn, IsWithinBase, HasRoom, ArrivesAt, IsReturn}
-use Rattle.local_rules.specs.Machine.{IsMachine, floor_of}
+use Rattle.local_rules.specs.Machine.{IsMachine, AreBanks, floor_of}
 use Rattle.local_laws.specs.Laws.{LiveBytesStay}
 use Rattle.local_laws.proofs.AllLaws.{inside_pushed, sp_down, sp_up, joins_are_least, local_parts_are_nodes, local_parts_fit, open_pairs_stay}
 use Rattle.edge_rules.specs.Edges.{raw_of, IsFaultless, Enters, by_call, by_interrupt, returned_key, moving, entering, returning}
@@ -144,6 +144,7 @@ module _ (live : LiveBytesStay) (task : Task) (f : RankedFamily) (sound : IsSoun
                       place = place;
                       stands = values_say_less.state g.origin to.state cov.state n (states_are_ordered.through to.state joined.state cov.state joined.above cov.above) stands;
                       facts = facts_less to.state cov.state n (states_are_ordered.through to.state joined.state cov.state joined.above cov.above) lands.facts;
+                      banks = runs.running.banks;
                       root = subst (λ (i : InstKey). i.kind ≡ Root → g.origin.base ≡ ramend m.device) (sym inst) runs.running.root;
                       top = runs.running.top;
                       room = λ may. place_at node cov.present inst to.key.sp refl (λ offset high is. open_pairs_stay.stays task g.node.key g.node.state to offset high faultless member is) may;
@@ -206,6 +207,7 @@ module _ (live : LiveBytesStay) (task : Task) (f : RankedFamily) (sound : IsSoun
               flags = runs.running.stands.flags;
               less = runs.running.stands.less;
               facts = runs.running.facts;
+              banks = subst (λ device. AreBanks device g.origin.registers) runs.device runs.running.banks;
               slots = slots_follow.kept g.origin m.memory n (minus_sp m.device m.sp (back_of m.device)) g.node.state.slots kept (omega (arith, count_slots, ap offset_of form, down, sp)) runs.running.stands.slots;
               offset = offset;
               closed = form;
@@ -249,6 +251,7 @@ module _ (live : LiveBytesStay) (task : Task) (f : RankedFamily) (sound : IsSoun
                     facts =
                         facts_less (entered g.node.state) covered.state n covered.above
                         (entries_are_true.facts g.node.state m.registers (flag m.sreg 0) (flag m.sreg 1) (flag m.sreg 4) (flag n.sreg 0) (flag n.sreg 1) (flag n.sreg 4) runs.running.facts);
+                    banks = runs.running.machine.banks;
                     root = λ kind. absurd (not_root enters kind);
                     top = omega (arith, down, top);
                     room = λ may. omega (arith, room, down);
@@ -267,7 +270,7 @@ module _ (live : LiveBytesStay) (task : Task) (f : RankedFamily) (sound : IsSoun
       returned_state = after m guarded e
 
       same_registers : returned_state.registers ≡ m.registers
-      same_registers = ap₂ (λ rs ws. registers_after (with_registers m.registers rs) ws) is.registers is.stores
+      same_registers = ap₂ (λ rs ws. registers_after m.device (with_registers m.registers rs) ws) is.registers is.stores
 
       same_sreg : returned_state.sreg ≡ e.sreg
       same_sreg = ap (sreg_after e.sreg) is.stores
@@ -335,6 +338,7 @@ module _ (live : LiveBytesStay) (task : Task) (f : RankedFamily) (sound : IsSoun
                 };
                 stands = values_say_less.state h.origin back.0 cov.state n cov.above stands;
                 facts = facts_less back.0 cov.state n cov.above (subst₂ (HoldsAt back.0.facts) (sym same_registers) (sym same_sreg) back.6);
+                banks = on_machine (λ device. AreBanks device h.origin.registers) was.banks;
                 root = λ kind. root_base task f n.memory hs h.node.key.inst h.origin (left_kept task f sound m.memory n.memory (g.origin.base + back_of (device_of task.flash)) kept hs h.node.key.inst h.origin (omega (arith, was.place)) left.1) kind ∙ ap ramend (sym runs.device);
                 top = base_low;
                 room = λ may. caller_room h hs left.1 was.present was.offset was.closed;

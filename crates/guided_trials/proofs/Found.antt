@@ -14,9 +14,9 @@ use Rattle.local_rules.specs.Site.{task_with}
 use Rattle.certificate.specs.Valid.{Attains}
 use Rattle.guided_trials.specs.declared.guide.Guide.{Guide}
 use Rattle.guided_trials.specs.Choosing.{pick, left}
-use Rattle.trial_runs.specs.Length.{most_trial_steps}
+use Rattle.stimulus.specs.TrialLength.{most_trial_steps}
 use Rattle.guided_trials.specs.Trials.{fill_of, initial, start_of, trial_by, trial_of, GuidedSucceeds, NoGuidedSucceeds, IsGuidedTried, IsGuidedFound}
-use Rattle.trial_runs.proofs.AllLaws.{few, ends_well, run_legal}
+use Rattle.stimulus.proofs.AllLaws.{few, ends_well, run_legal}
 
 choices_are : most_trial_steps ≡ 200000
 unfolding most_trial_steps

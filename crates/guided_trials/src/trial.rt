@@ -6,7 +6,7 @@ ghost use Rattle.avr_model.specs.Devices.{device_of};
 ghost use Rattle.avr_model.specs.State.{IsReset};
 ghost use Rattle.avr_model.specs.Run.{IsRun};
 ghost use Rattle.stimulus.specs.Steady.{IsSteady};
-ghost use Rattle.trial_runs.specs.Length.{most_trial_steps};
+ghost use Rattle.stimulus.specs.TrialLength.{most_trial_steps};
 ghost use Rattle.guided_trials.specs.Attaining.{AttainsIfBounded};
 ghost use Rattle.guided_trials.specs.Choosing as choosing;
 ghost use Rattle.guided_trials.specs.Trials.{fill_of, initial, trial_by, depth_by, HasDepth, IsGuidedBy, IsGuidedTried, IsGuidedFound};
@@ -18,8 +18,7 @@ use avr_machine::{Choice, Machine, Menu};
 use flash_image::Flash;
 use std::alloc::{AllocError, Global};
 use stimulus::laws::depth_is_kept;
-use stimulus::{Driver, Trace};
-use trial_runs::most_trial_steps;
+use stimulus::{Driver, Trace, most_trial_steps};
 use vector_table::Assumptions;
 use witness_replay::Schedule;
 

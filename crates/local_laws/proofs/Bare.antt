@@ -1,4 +1,5 @@
--- Nodes without their facts on pairs, as rows need and keep them. A row ends some intervals before it writes.
+-- Nodes without their facts on pairs and without what the device says of their values, as rows need and keep them. A row ends some
+-- intervals before it writes.
 use Rattle.std.proofs.Common.{◌≡◌, ◌+◌, ◌^◌, ◌<◌, ◌≤◌, ◌||◌, ap, Bool, true, false, List, arith}
 use Rattle.avr_model.specs.declared.device.Device.{Device}
 use Rattle.avr_model.proofs.AllLaws.{devices_are_alike}
@@ -12,14 +13,15 @@ use Rattle.sp_domain.specs.Tags.{Origin, HasByteNumbers}
 use Rattle.pair_domain.specs.Facts.{is_followed}
 use Rattle.abs_state.specs.declared.state.AbsState.{AbsState}
 use Rattle.abs_state.specs.Formed.{IsFormed, IsUntagged, TagsFit}
+use Rattle.abs_state.specs.Banks.{IsStateOf}
 use Rattle.abs_state.specs.Hulls.{IsInHulls}
 use Rattle.abs_state.specs.Laws.{HoldsAt}
 use Rattle.abs_state.specs.Stands.{Stands}
 use Rattle.node_keys.specs.declared.keys.NodeKey.{NodeKey}
 use Rattle.node_keys.specs.declared.keys.Kind.TheVariants.{Root}
-use Rattle.node_keys.specs.Keys.{offset_of, PickFits}
+use Rattle.node_keys.specs.Keys.{offset_of, is_root, PickFits}
 use Rattle.node_keys.specs.Place.{AtNode}
-use Rattle.local_rules.specs.Machine.{IsMachine}
+use Rattle.local_rules.specs.Machine.{IsMachine, AreBanks}
 use Rattle.local_rules.specs.Cover.{FormFits, IsKey, IsNodeIn, InFrameIn}
 
 pub record IsBare (device : Device) (k : NodeKey) (s : AbsState) : Type 0 where
@@ -39,6 +41,7 @@ pub record InBareFrame (may : Bool) (m : State) (o : Origin) (k : NodeKey) (s : 
   pub place : AtNode may o.base m k
   pub stands : Stands o s m
   pub facts : HoldsAt s.facts m.registers m.sreg
+  pub banks : AreBanks m.device o.registers
   pub root : k.inst.kind ≡ Root → o.base ≡ ramend m.device
   pub top : o.base ≤ ramend m.device
   pub base_word : o.base < 65536
@@ -74,6 +77,7 @@ bare_frame m o k s sees h =
       place = h.place;
       stands = h.stands;
       facts = h.facts;
+      banks = h.banks;
       root = h.root;
       top = h.top;
       base_word = omega (arith, h.top, devices_are_alike.most_bytes m.device, devices_are_alike.most_io m.device);
@@ -81,9 +85,10 @@ bare_frame m o k s sees h =
       sees = sees;
     }
 
--- with valid facts on pairs it is a node
-pub node_of : {device : Device} {followed : Bool} (k : NodeKey) (s : AbsState) → IsBare device k s → is_followed s.facts ≡ followed → IsInHulls s → IsNodeIn device followed k s
-node_of k s h mode hulls =
+-- with tags of the device and valid facts on pairs it is a node
+pub node_of : {device : Device} {followed : Bool} (k : NodeKey) (s : AbsState) → IsBare device k s → IsStateOf device (is_root k.inst.kind) s
+    → is_followed s.facts ≡ followed → IsInHulls s → IsNodeIn device followed k s
+node_of k s h registers_of mode hulls =
     record {
       word = h.word;
       small = h.small;
@@ -94,6 +99,7 @@ node_of k s h mode hulls =
       tags = h.tags;
       carry_bytes = h.carry_bytes;
       untagged = h.untagged;
+      registers_of = registers_of;
       mode = mode;
       hulls = hulls;
     }

@@ -16,10 +16,10 @@ use Rattle.avr_model.specs.Image.{byte_at}
 use Rattle.avr_model.specs.Sites.{base_register, pointer_register}
 use Rattle.avr_model.specs.Sreg.{flag}
 use Rattle.avr_model.specs.Written.{moved_pair, written as registers_of}
-use Rattle.avr_model.specs.State.{State, register, pair, read, plus16, minus16}
+use Rattle.avr_model.specs.State.{State, REGISTERS, RAMPZ, register, pair, read, plus16, minus16}
 use Rattle.avr_model.specs.Vectors.{held_of, has_enables, written_enables, kept_byte}
 use Rattle.avr_model.specs.Step.{with_registers, flagged_write, protected_write}
-use Rattle.avr_model.specs.Effects.{set, set_pair, setting, going_to, further, moved, pointed as address_of, port, flash_read, effect_of}
+use Rattle.avr_model.specs.Effects.{set, set_pair, setting, going_to, further, moved, pointed as address_of, port, extended_byte, stepped_bank, flash_read, effect_of}
 use Rattle.bit_domain.specs.declared.bits.Tri.TheVariants.{Zero, One}
 use Rattle.bit_domain.specs.Tri.{Permits, tri_not}
 use Rattle.bit_domain.specs.TriByte.{Has, tri_at, byte_with}
@@ -39,9 +39,10 @@ use Rattle.local_rules.specs.Permitted.{permits_number}
 use Rattle.local_rules.specs.Raw.{Raw, at_word, off_table, next, going_to as node_going_to, setting as node_setting, further as node_further}
 use Rattle.local_rules.specs.HighBytes.{SpView, view_by}
 use Rattle.local_rules.specs.Registers.{value, set as node_set, pair_moved}
+use Rattle.local_rules.specs.Banks.{extended_constant, stepped_bank as node_bank}
 use Rattle.local_rules.specs.Reads.{read_at, kept_bits, pair_constant, pointed, read_pointed, flash_value}
 use Rattle.local_rules.specs.Writes.{written_at, pointer_write}
-use Rattle.local_rules.specs.Local.{step_before, pointer_moved, loading, pointer_load, bit_row}
+use Rattle.local_rules.specs.Local.{step_before, pointer_moved, extended_moved, loading, pointer_load, bit_row}
 use Rattle.local_rules.specs.Cover.{stays}
 use Rattle.local_laws.proofs.Bare.{InBareFrame}
 use Rattle.local_laws.proofs.Enables.{bit_both, held_in_io, zero_read}
@@ -51,6 +52,7 @@ use Rattle.local_rules.specs.Machine.{AreWords}
 use Rattle.local_laws.proofs.Alu.{register_byte}
 use Rattle.local_laws.proofs.EffectSizes.{byte_at_small, flash_small}
 use Rattle.local_laws.proofs.Less.{Spares, SparesAll, less_set, less_two, less_moved}
+use Rattle.local_laws.proofs.BankValues.{extended_is, stepped_stands}
 use Rattle.local_laws.proofs.Bits.{with_bit_small, has_with, permits_flag}
 use Rattle.local_laws.proofs.Frame.{set_stands, register_stands, set_one, same_frame, turns_with, turns_to, only, sets}
 use Rattle.local_laws.proofs.FlowRows.{not_may, further_is, goes_further, skip_keys}
@@ -149,13 +151,13 @@ module _ (task : Task) (m : State) (o : Origin) (k : NodeKey) (s : AbsState) (at
   setting_covered writes registers stand less = sets m o k s at (not scratch) b1 b2 writes m.sreg registers s.flags refl stand at.stands.flags less
 
   -- sets a register after others
-  after_set : (writes : List Write) (registers : List AbsByte) (d x : ℕ) (v : AbsByte) → length registers ≡ 32 → RegistersStand o registers (with_registers m.registers writes)
+  after_set : (writes : List Write) (registers : List AbsByte) (d x : ℕ) (v : AbsByte) → length registers ≡ REGISTERS → RegistersStand o registers (with_registers m.registers writes)
       → ByteStands o v x → RegistersStand o (slice_set registers d v) (with_registers m.registers (writes ++ set d x))
   after_set writes registers d x v count stand h =
       subst (RegistersStand o (slice_set registers d v)) (added m.registers writes d x)
       (set_stands o registers (with_registers m.registers writes) d v x count (count_set m.registers writes ∙ at.machine.count_registers) h stand)
 
-  loading_covered : (writes : List Write) (registers : List AbsByte) (d x : ℕ) (v : Option AbsByte) → length registers ≡ 32
+  loading_covered : (writes : List Write) (registers : List AbsByte) (d x : ℕ) (v : Option AbsByte) → length registers ≡ REGISTERS
       → RegistersStand o registers (with_registers m.registers writes) → LessHolds (with_registers m.registers writes) s.flags.carry (flag m.sreg 0)
       → Spares s.flags.carry d → IsRead o v x
       → FollowsWhere (reads_masks m.device task.assumptions) m o s.facts k (not scratch) b1 b2 (setting m (writes ++ set d x) m.sreg) (loading (site_at m.device k s) registers d v)
@@ -192,6 +194,9 @@ module _ (task : Task) (m : State) (o : Origin) (k : NodeKey) (s : AbsState) (at
 
   lpm_stands : AreWords task.flash → b1 < 256 → ByteStands o (flash_value task.flash (pair_constant s 30)) (flash_read task.flash (pair m 30) b1)
   lpm_stands are small = flash_stands o task.flash (pair_constant s 30) (pair m 30) b1 are small (pair_constant_is m o k s at 30)
+
+  elpm_stands : AreWords task.flash → b1 < 256 → ByteStands o (flash_value task.flash (extended_constant s)) (flash_read task.flash (extended_byte m) b1)
+  elpm_stands are small = flash_stands o task.flash (extended_constant s) (extended_byte m) b1 are small (extended_is m o k s at)
 
   -- ---- writes
 
@@ -255,7 +260,7 @@ module _ (task : Task) (m : State) (o : Origin) (k : NodeKey) (s : AbsState) (at
         (value s t) (register_stands m o k s at t) at.node.formed.count_registers at.machine.count_registers members task refl told s.flags s.facts r up (number_permitted m o k s at r up is) unflagged clean)
 
     -- the pointer has moved; `was` is the state before the instruction, with all facts on pairs
-    pub st_covered : m.device ≡ device_of task.flash → (p : Pointer) (t : ℕ) (flags : AbsFlags) (facts : Option PairFacts) (registers : List AbsByte) (told : Option PairFacts) → SparesAll s.flags.carry (moved_pair p) → length registers ≡ 32 → KnownFits told
+    pub st_covered : m.device ≡ device_of task.flash → (p : Pointer) (t : ℕ) (flags : AbsFlags) (facts : Option PairFacts) (registers : List AbsByte) (told : Option PairFacts) → SparesAll s.flags.carry (moved_pair p) → length registers ≡ REGISTERS → KnownFits told
         → permits_number (record s { flags = flags; facts = facts }) (pointer_register p) (minus16 (plus16 (pair m (pointer_register p)) (step_before p)) (step_before p)) ≡ true
         → RegistersStand o registers (with_registers m.registers (moved p (pair m (pointer_register p))))
         → protected_write task.flash task.assumptions m.pc (i.St p t) (effect_of task.flash (reads_masks m.device task.assumptions) m (i.St p t) b1 b2) ≡ None
@@ -308,11 +313,15 @@ module _ (task : Task) (m : State) (o : Origin) (k : NodeKey) (s : AbsState) (at
       loading_covered (set_pair 30 (plus16 (pair m 30) 1)) (pair_moved (view_by m.device k) s 30 true 1) d (flash_read task.flash (pair m 30) b1) (Some (flash_value task.flash (pair_constant s 30))) (count_moved (view_by m.device k) s 30 true ∙ at.node.formed.count_registers)
       (z_moved m o k s at) (less_two m.registers s.flags.carry (flag m.sreg 0) 30 31 _ _ spares.1 at.stands.less) spares.0 (lpm_stands are small)
   addressed_covered members are small i.Lpm spares is told clean unflagged = one_covered 0 _ _ (lpm_stands are small) spares.0
-  addressed_covered members are small (i.ElpmZ d) spares is told clean unflagged = one_covered d _ _ (flash_by o false 0 b1 (omega arith) small) spares.0
+  addressed_covered members are small (i.ElpmZ d) spares is told clean unflagged = one_covered d _ _ (elpm_stands are small) spares.0
   addressed_covered members are small (i.ElpmZPlus d) spares is told clean unflagged =
-      loading_covered (set_pair 30 (plus16 (pair m 30) 1)) (pair_moved (view_by m.device k) s 30 true 1) d b1 (Some unknown) (count_moved (view_by m.device k) s 30 true ∙ at.node.formed.count_registers)
-      (z_moved m o k s at) (less_two m.registers s.flags.carry (flag m.sreg 0) 30 31 _ _ spares.1 at.stands.less) spares.0 (flash_by o false 0 b1 (omega arith) small)
-  addressed_covered members are small i.Elpm spares is told clean unflagged = one_covered 0 _ _ (flash_by o false 0 b1 (omega arith) small) spares.0
+      loading_covered (set_pair 30 (plus16 (pair m 30) 1) ++ set RAMPZ (stepped_bank m)) (extended_moved (site_at m.device k s)) d (flash_read task.flash (extended_byte m) b1)
+      (Some (flash_value task.flash (extended_constant s))) (length-set _ _ _ ∙ count_moved (view_by m.device k) s 30 true ∙ at.node.formed.count_registers)
+      (after_set (set_pair 30 (plus16 (pair m 30) 1)) (pair_moved (view_by m.device k) s 30 true 1) RAMPZ (stepped_bank m) (node_bank m.device s)
+      (count_moved (view_by m.device k) s 30 true ∙ at.node.formed.count_registers) (z_moved m o k s at) (stepped_stands m o k s at))
+      (less_set (with_registers m.registers (set_pair 30 (plus16 (pair m 30) 1))) s.flags.carry (flag m.sreg 0) RAMPZ (stepped_bank m) spares.1.1.1.0
+      (less_two m.registers s.flags.carry (flag m.sreg 0) 30 31 _ _ (spares.1.0, (spares.1.1.0, tt)) at.stands.less)) spares.0 (elpm_stands are small)
+  addressed_covered members are small i.Elpm spares is told clean unflagged = one_covered 0 _ _ (elpm_stands are small) spares.0
   addressed_covered members are small (i.In d a) spares is told clean unflagged = one_covered d _ _ (read_stands m o k s at (port a) b1 small) spares.0
   addressed_covered members are small (i.Out a r) spares is told clean unflagged = register_covered members on_next 1 (goes_further m o k s at (not scratch) b1 b2 1) true (port a) r clean
   addressed_covered members are small (i.Cbi a b) spares is told clean unflagged = bit_covered members (port a) b false clean

@@ -58,7 +58,7 @@ use Rattle.local_laws.proofs.FrameCover.{framed_add_covered, framed_adc_covered,
 use Rattle.local_laws.proofs.Alu.{register_byte, register_bits, moves, carry_may, sum_covered, compare_covered, difference_covered, sub_covered, sbc_covered, sub_by, logic_covered, kept_covered, eor_by, step_covered, shift_covered, com_covered, swap_covered, product_covered, movw_covered, wide_covered}
 use Rattle.local_laws.proofs.Less.{Spares, SparesAll, compared, than_untagged, than_holds, alone_untagged, kept_is, kept_holds}
 use Rattle.local_laws.proofs.FlagRows.{flag_covered, bld_covered, bst_covered}
-use Rattle.local_laws.proofs.FlowRows.{not_may, going_covered, further_is, goes_further, brbs_covered, brbc_covered, skip_covered, ijmp_covered, icall_covered, call_covered, ret_covered, reti_covered}
+use Rattle.local_laws.proofs.FlowRows.{not_may, going_covered, further_is, goes_further, brbs_covered, brbc_covered, skip_covered, ijmp_covered, icall_covered, eijmp_covered, eicall_covered, call_covered, ret_covered, reti_covered}
 use Rattle.local_laws.proofs.Sized.{IsInstrSized}
 use Rattle.local_laws.proofs.Stack.{pop_covered, push_covered, rcall_covered}
 use Rattle.local_laws.proofs.Targets.{MakesRoom}
@@ -215,6 +215,14 @@ listed_call : (A : List Entry) (pc : ℕ) (e : Effect) → unlisted_transfer A p
 unfolding unlisted_transfer
 listed_call A pc e h = h
 
+listed_far : (A : List Entry) (pc : ℕ) (e : Effect) → unlisted_transfer A pc i.Eijmp e ≡ None → unless_listed (jump_line A pc) e.pc ≡ None
+unfolding unlisted_transfer
+listed_far A pc e h = h
+
+listed_far_call : (A : List Entry) (pc : ℕ) (e : Effect) → unlisted_transfer A pc i.Eicall e ≡ None → unless_listed (jump_line A pc) e.pc ≡ None
+unfolding unlisted_transfer
+listed_far_call A pc e h = h
+
 module _ (A : List Entry) (m : State) (o : Origin) (k : NodeKey) (s : AbsState) (at : InBareFrame (reads_masks m.device A) m o k s) (b1 b2 : ℕ) (image : Image) (scratch : Bool) where
   abbrev task : Task
   task = task_with image A
@@ -256,6 +264,8 @@ module _ (A : List Entry) (m : State) (o : Origin) (k : NodeKey) (s : AbsState) 
   row_covered small (i.Bclr n) spares sized rooms addressed none unflagged = flag_covered m o k s at (not scratch) b1 b2 n false
   row_covered small i.Ijmp spares sized rooms addressed none unflagged = ijmp_covered m o k s at (not scratch) b1 b2 A (listed_word A m.pc (effect_of image (reads_masks m.device A) m i.Ijmp b1 b2) unflagged.listed) none
   row_covered small i.Icall spares sized rooms addressed none unflagged = icall_covered m o k s at (not scratch) b1 b2 A (not_from_never scratch rooms) (listed_call A m.pc (effect_of image (reads_masks m.device A) m i.Icall b1 b2) unflagged.listed) none
+  row_covered small i.Eijmp spares sized rooms addressed none unflagged = eijmp_covered m o k s at (not scratch) b1 b2 A (listed_far A m.pc (effect_of image (reads_masks m.device A) m i.Eijmp b1 b2) unflagged.listed) none
+  row_covered small i.Eicall spares sized rooms addressed none unflagged = eicall_covered m o k s at (not scratch) b1 b2 A (not_from_never scratch rooms) (listed_far_call A m.pc (effect_of image (reads_masks m.device A) m i.Eicall b1 b2) unflagged.listed) none
   row_covered small i.Ret spares sized rooms addressed none unflagged = ret_covered m o k s at (not scratch) b1 b2 none
   row_covered small i.Reti spares sized rooms addressed none unflagged = reti_covered m o k s at (not scratch) b1 b2 none
   row_covered small i.Sleep spares sized rooms addressed none unflagged = going_covered m o k s at (not scratch) b1 b2 _ (further m.device k 1) (goes_further m o k s at (not scratch) b1 b2 1)

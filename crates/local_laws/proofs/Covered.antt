@@ -14,19 +14,24 @@ use Rattle.node_keys.specs.declared.keys.NodeKey.{NodeKey}
 use Rattle.node_keys.specs.Keys.{offset_of}
 use Rattle.local_rules.specs.declared.local.NodeFault.TheVariants.{UnresolvedJump}
 use Rattle.local_rules.specs.Raw.{Raw, fails, all_of, untracked_if, too_deep_if}
-use Rattle.local_rules.specs.Local.{row_at, row_in, row_by, plain_row, is_hung, fetched, picks, picking, picked_row, split_site, splitting, raw}
+use Rattle.local_rules.specs.Local.{row_at, row_in, row_by, row_of, plain_row, is_hung, fetched, picks, picking, picked_row, split_site, splitting, raw}
 use Rattle.abs_state.specs.FlagsSet.{sets_flags, sets_carry}
 use Rattle.local_rules.specs.Registers.{before}
 use Rattle.local_rules.specs.Machine.{AreWords}
 use Rattle.local_rules.specs.Cover.{Follows, effect_by, CoversStep, InFrameIn}
-use Rattle.local_laws.proofs.Bare.{InBareFrame, masked, bare_frame}
+use Rattle.local_laws.proofs.Bare.{InBareFrame, masked, bare_frame, bare_key}
+use Rattle.local_laws.proofs.MonotoneFields.{instruction_fits}
+use Rattle.local_laws.proofs.MonotoneRows.{row_less}
+use Rattle.local_laws.proofs.MonotoneValues.{node_less}
+use Rattle.local_laws.proofs.SettledCover.{settling_follows}
+use Rattle.abs_state.proofs.AllLaws.{states_are_ordered}
 use Rattle.local_laws.proofs.PairedStep.{paired_covered}
 use Rattle.pair_domain.specs.declared.facts.PairFacts.{PairFacts}
 use Rattle.pair_cuts.specs.Cuts.{pick_cut}
 use Rattle.local_laws.proofs.Less.{forgetting_at, forgotten_spares}
 use Rattle.local_laws.specs.Laws.{LocalPartsCover}
 use Rattle.local_laws.proofs.CoverMemory.{addressed_covered}
-use Rattle.local_laws.proofs.CoverRows.{guards_are, CoversRow, row_covered}
+use Rattle.local_laws.proofs.CoverRows.{guarding, guards_are, CoversRow, row_covered}
 use Rattle.local_laws.proofs.Sized.{sized_at}
 use Rattle.local_laws.proofs.Ends.{held}
 use Rattle.local_laws.proofs.SplitMembers.{are_written}
@@ -63,10 +68,15 @@ module _ (ws : List ℕ) (A : List Entry) (m : State) (o : Origin) (k : NodeKey)
       let there = forgetting_at m o k s (written instr) (sets_flags instr) (sets_carry instr) at in
       let spares = forgotten_spares (written instr) s.flags.carry in
       let sized = sized_at words m.pc instr e in
+      let le = node_less k t t there.node there.node (states_are_ordered.same t) in
+      let leads = row_less m.device task k (bare_key k s at.node) t t le (is_scratch words m.pc) instr (instruction_fits words m.pc instr e) in
       let row =
       row_covered A m o k t there b1 b2 words (is_scratch words m.pc) small instr spares sized (λ scratch. scratch_makes_room words m.pc instr scratch e)
       (λ names. addressed_covered task m o k t there (is_scratch words m.pc) b1 b2 are_written are small instr spares names refl) in
-      λ clean unflagged. (row clean unflagged).leads (held words (reads_masks m.device A) m o k s b1 b2 instr are small other sized at)
+      λ clean unflagged.
+      settling_follows m o k s at (guarding (is_scratch words m.pc) A k.pc instr) b1 b2 (effect_by task m instr b1 b2) (row_of task (is_scratch words m.pc) (site_at m.device k t) instr)
+      (λ to member. ((leads clean).moves to member).node.formed.count_registers)
+      ((row clean unflagged).leads (held words (reads_masks m.device A) m o k s b1 b2 instr are small other sized at))
 
   at_instruction : (instr : Option Instr) → instruction_at words m.pc ≡ instr → CoversStep task m o k b1 b2 instr (row_at task (is_scratch words m.pc) (site_at m.device k s) instr)
   at_instruction None e = λ clean. absurd (let e = clean in cc)

@@ -26,8 +26,9 @@ use Rattle.avr_model.specs.Product.{result_of, flags_of_product}
 use Rattle.avr_model.specs.Sreg.{flag}
 use Rattle.avr_model.specs.Wide.{wide_of, flags_of_wide}
 use Rattle.avr_model.specs.State.{State, register, pair, plus16, minus16}
-use Rattle.avr_model.specs.Effects.{set, set_pair, going_to, setting, storing, calling, flash_read, moved, binary_effect, immediate_effect, unary_effect, effect_of, branch_effect, logic_effect, carry}
+use Rattle.avr_model.specs.Effects.{set, set_pair, going_to, setting, storing, calling, flash_read, extended_byte, stepped_bank, moved, binary_effect, immediate_effect, unary_effect, effect_of, branch_effect, logic_effect, carry}
 use Rattle.local_rules.specs.Machine.{IsMachine, AreWords}
+use Rattle.local_laws.proofs.BankSizes.{stepped_most}
 use Rattle.local_laws.proofs.Bytes.{below_in_list, byte_in_list}
 use Rattle.local_laws.proofs.Bits.{with_bit_small, with_flags_small, with_carry_and_zero_small}
 use Rattle.local_laws.proofs.Memory.{AreByteWrites}
@@ -99,6 +100,9 @@ module _ (m : State) (h : IsMachine m) where
 
   inside : (a : ℕ) → wrapped m.device a < words_of m.device
   inside a = devices_are_alike.inside m.device a
+
+  stepped_small : stepped_bank m < 256
+  stepped_small = omega (arith, stepped_most m h, devices_are_alike.most_rampz m.device)
 
   goes : (pc : ℕ) → IsEffect m.device (going_to m pc)
   goes pc = record { pc = inside pc; registers = tt; sreg = h.sreg_byte; sp = h.sp_fits; enables = h.enable_bits; stores = tt; pushes = tt }
@@ -183,9 +187,9 @@ module _ (m : State) (h : IsMachine m) where
     row_fits (i.Ld d p) sized = sets _ _ (moved_and_one p _ d _ (read_small m still _ b1 h small1)) h.sreg_byte
     row_fits (i.LpmZ d) sized = sets _ _ (one_write d _ (flash_small image (pair m 30) b1 are small1)) h.sreg_byte
     row_fits (i.LpmZPlus d) sized = sets _ _ (and_one 30 (plus16 (pair m 30) 1) d _ (omega arith) (flash_small image (pair m 30) b1 are small1)) h.sreg_byte
-    row_fits (i.ElpmZ d) sized = sets _ _ (one_write d _ small1) h.sreg_byte
-    row_fits (i.ElpmZPlus d) sized = sets _ _ (and_one 30 (plus16 (pair m 30) 1) d _ (omega arith) small1) h.sreg_byte
-    row_fits i.Elpm sized = sets _ _ (one_write 0 _ small1) h.sreg_byte
+    row_fits (i.ElpmZ d) sized = sets _ _ (one_write d _ (flash_small image (extended_byte m) b1 are small1)) h.sreg_byte
+    row_fits (i.ElpmZPlus d) sized = sets _ _ (omega arith, (omega arith, (stepped_small, (flash_small image (extended_byte m) b1 are small1, tt)))) h.sreg_byte
+    row_fits i.Elpm sized = sets _ _ (one_write 0 _ (flash_small image (extended_byte m) b1 are small1)) h.sreg_byte
     row_fits (i.Pop d) sized = record { pc = inside _; registers = (read_small m still _ b1 h small1, tt); sreg = h.sreg_byte; sp = up_small m.device m.sp 1; enables = h.enable_bits; stores = tt; pushes = tt }
     row_fits (i.Sts a r) sized = record { pc = inside _; registers = tt; sreg = h.sreg_byte; sp = h.sp_fits; enables = h.enable_bits; stores = (byte r, tt); pushes = tt }
     row_fits (i.St p r) sized = record { pc = inside _; registers = moved_writes p _; sreg = h.sreg_byte; sp = h.sp_fits; enables = h.enable_bits; stores = (byte r, tt); pushes = tt }
@@ -195,6 +199,8 @@ module _ (m : State) (h : IsMachine m) where
     row_fits (i.Bclr n) sized = record { pc = inside _; registers = tt; sreg = with_bit_small m.sreg n false; sp = h.sp_fits; enables = h.enable_bits; stores = tt; pushes = tt }
     row_fits i.Ijmp sized = goes _
     row_fits i.Icall sized = calls _ _
+    row_fits i.Eijmp sized = goes _
+    row_fits i.Eicall sized = calls _ _
     row_fits i.Ret sized = record { pc = inside _; registers = tt; sreg = h.sreg_byte; sp = up_small m.device m.sp (back_of m.device); enables = h.enable_bits; stores = tt; pushes = tt }
     row_fits i.Reti sized = record { pc = inside _; registers = tt; sreg = with_bit_small m.sreg 7 true; sp = up_small m.device m.sp (back_of m.device); enables = h.enable_bits; stores = tt; pushes = tt }
     row_fits i.Sleep sized = goes _

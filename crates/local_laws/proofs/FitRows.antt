@@ -5,6 +5,7 @@ use Rattle.std.proofs.lemmas.Map.Views.{Contains-from_any}
 use Rattle.std.proofs.lemmas.Option.{same_Some}
 use Rattle.basics.specs.Items.{none_in}
 use Rattle.avr_model.proofs.AllLaws.{devices_are_alike}
+use Rattle.avr_model.specs.State.{EIND}
 use Rattle.avr_model.specs.Devices.{size_of, wrapped, width, device_of, words_of, limit_width}
 use Rattle.avr_model.specs.declared.device.Device.{Device}
 use Rattle.avr_model.specs.declared.assumption.Entry.{Entry}
@@ -38,10 +39,11 @@ use Rattle.local_rules.specs.Raw.{enters, fails, next, at_word, further, leaves_
 use Rattle.local_rules.specs.declared.local.NodeFault.TheVariants.{UnresolvedJump}
 use Rattle.local_rules.specs.Registers.{before, bits, value}
 use Rattle.local_rules.specs.FrameLines.{binary_at}
-use Rattle.local_rules.specs.HighBytes.{view_by}
+use Rattle.local_rules.specs.HighBytes.{SpView, view_by}
+use Rattle.local_rules.specs.Settling.{settling}
 use Rattle.local_rules.specs.Reads.{read_at, pointed, read_pointed}
-use Rattle.local_rules.specs.Flow.{reading_zero, flag_at, words_on, targets_by, z_with, targets_at, is_half_written, site, calling, indirect_call, relative_call, at_closed, returning, ret_exit, reti_exit, pushing, popping, making_room}
-use Rattle.local_rules.specs.Local.{step_before, pointer_moved, row_of, row_at, row_by, paired_row, paired_binary, refining, storing, row_in, is_hung, fetched, picks, split_site, splitting, raw}
+use Rattle.local_rules.specs.Flow.{reading_zero, flag_at, words_on, targets_by, z_with, targets_at, far_targets_at, is_half_written, site, calling, indirect_call, relative_call, at_closed, returning, ret_exit, reti_exit, pushing, popping, making_room}
+use Rattle.local_rules.specs.Local.{step_before, pointer_moved, row_of, row_at, row_by, plain_row, paired_row, paired_binary, refining, storing, row_in, is_hung, fetched, picks, split_site, splitting, raw}
 use Rattle.local_laws.proofs.Members.{each_of, each_in_map, filter_passes}
 use Rattle.local_laws.specs.Laws.{LocalPartsFit}
 use Rattle.local_laws.proofs.MonotoneFields.{InstrFits, fetched_fits}
@@ -133,6 +135,15 @@ module _ (device : Device) (task : Task) (k : NodeKey) (s : AbsState) where
         ascending = λ entries. site_targets_ascend device task.assumptions k.pc p targets entries (numbers_are_permitted.ascending f (width device)) e;
       }
 
+  far_words : (targets : List ℕ) → far_targets_at task.assumptions (site_at device k s) ≡ Some targets → AreTargetWords device task.assumptions targets
+  far_words targets e =
+      let p = z_with s (bits s EIND) in
+      let f = pointer_bit p in
+      record {
+        small = targets_small device (jump_line task.assumptions k.pc) p targets (λ z h. ((numbers_are_permitted.members f (width device) z).0 h).small) e;
+        ascending = λ entries. site_targets_ascend device task.assumptions k.pc p targets entries (numbers_are_permitted.ascending f (width device)) e;
+      }
+
   row_fits : (scratch : Bool) (instr : Instr) → InstrFits instr → IsFit device task.assumptions k (row_of task scratch (site_at device k s) instr)
   row_fits scratch (i.Movw d r) fits = quiet_fits task.assumptions k _ (refl, refl)
   row_fits scratch (i.Muls d r) fits = quiet_fits task.assumptions k _ (refl, refl)
@@ -174,6 +185,8 @@ module _ (device : Device) (task : Task) (k : NodeKey) (s : AbsState) where
   row_fits scratch (i.Sbi a b) fits = quiet_fits task.assumptions k _ (written_quiet device k.pc (next device k) s false (port a) _)
   row_fits scratch i.Ijmp fits = quiet_fits task.assumptions k _ (jumping_quiet (targets_at task.assumptions (site_at device k s)) k s)
   row_fits scratch i.Icall fits = indirect_fits device task.assumptions k (targets_at task.assumptions (site_at device k s)) all_words
+  row_fits scratch i.Eijmp fits = quiet_fits task.assumptions k _ (jumping_quiet (far_targets_at task.assumptions (site_at device k s)) k s)
+  row_fits scratch i.Eicall fits = indirect_fits device task.assumptions k (far_targets_at task.assumptions (site_at device k s)) far_words
   row_fits scratch i.Ret fits = return_fits device task.assumptions k (ret_exit k) refl
   row_fits scratch i.Reti fits = return_fits device task.assumptions k (reti_exit k) refl
   row_fits scratch (i.Jmp target) fits = quiet_fits task.assumptions k _ (refl, refl)
@@ -196,10 +209,16 @@ module _ (device : Device) (task : Task) (k : NodeKey) (s : AbsState) where
 -- ---- where pairs are followed
 
 -- replacing the moves keeps calls and returns
+settling_fits : (device : Device) (task : Task) (k : NodeKey) (view : SpView) (r : Raw) → IsFit device task.assumptions k r → IsFit device task.assumptions k (settling view r)
+settling_fits device task k view r h = record { words = record { calls = h.words.calls; exit = h.words.exit }; ascending = h.ascending }
+
 refining_fits : (device : Device) (task : Task) (k : NodeKey) (s : AbsState) (instr : Instr) (r : Raw) → IsFit device task.assumptions k r → IsFit device task.assumptions k (refining task.flash instr s r)
 refining_fits device task k s instr r h = record { words = record { calls = h.words.calls; exit = h.words.exit }; ascending = h.ascending }
 
 module _ (device : Device) (task : Task) (k : NodeKey) (s : AbsState) where
+  plain_fits : (scratch : Bool) (instr : Instr) → InstrFits instr → IsFit device task.assumptions k (plain_row task scratch (site_at device k s) instr)
+  plain_fits scratch instr fits = settling_fits device task k (view_by device k) _ (row_fits device task k (before instr s) scratch instr fits)
+
   storing_fits : (p : Pointer) (r : ℕ) (moved : Option AbsState) → IsFit device task.assumptions k (storing task (site_at device k s) p r moved)
   storing_fits p r None = quiet_fits task.assumptions k _ (refl, refl)
   storing_fits p r (Some moved) =
@@ -214,15 +233,15 @@ module _ (device : Device) (task : Task) (k : NodeKey) (s : AbsState) where
   paired_binary_fits op d r other h = h
 
   paired_fits : (scratch : Bool) (instr : Instr) → InstrFits instr → IsFit device task.assumptions k (paired_row task scratch (site_at device k s) instr)
-  paired_fits scratch (i.Brbs n t) fits = if_fits (nat_lt n 7) _ _ (quiet_fits task.assumptions k _ (refl, refl)) (row_fits device task k (before (i.Brbs n t) s) scratch (i.Brbs n t) fits)
-  paired_fits scratch (i.Brbc n t) fits = if_fits (nat_lt n 7) _ _ (quiet_fits task.assumptions k _ (refl, refl)) (row_fits device task k (before (i.Brbc n t) s) scratch (i.Brbc n t) fits)
+  paired_fits scratch (i.Brbs n t) fits = if_fits (nat_lt n 7) _ _ (quiet_fits task.assumptions k _ (refl, refl)) (plain_fits scratch (i.Brbs n t) fits)
+  paired_fits scratch (i.Brbc n t) fits = if_fits (nat_lt n 7) _ _ (quiet_fits task.assumptions k _ (refl, refl)) (plain_fits scratch (i.Brbc n t) fits)
   paired_fits scratch (i.Sbrc r b) fits = quiet_fits task.assumptions k _ (refl, refl)
   paired_fits scratch (i.Sbrs r b) fits = quiet_fits task.assumptions k _ (refl, refl)
   paired_fits scratch (i.Binary op d r) fits =
       paired_binary_fits op d r _
-      (refining_fits device task k s (i.Binary op d r) _ (row_fits device task k (before (i.Binary op d r) s) scratch (i.Binary op d r) fits))
+      (refining_fits device task k s (i.Binary op d r) _ (plain_fits scratch (i.Binary op d r) fits))
   paired_fits scratch (i.St p r) fits = storing_fits p r _
-  paired_fits scratch instr fits = refining_fits device task k s instr _ (row_fits device task k (before instr s) scratch instr fits)
+  paired_fits scratch instr fits = refining_fits device task k s instr _ (plain_fits scratch instr fits)
 
 module _ (task : Task) (k : NodeKey) (s : AbsState) where
   at_fits : (scratch : Bool) (x : Option Instr) → ((instr : Instr) → x ≡ Some instr → InstrFits instr) → IsFit (device_of task.flash) task.assumptions k (row_at task scratch (site_at (device_of task.flash) k s) x)
@@ -230,7 +249,7 @@ module _ (task : Task) (k : NodeKey) (s : AbsState) where
   at_fits scratch (Some instr) fits = by s.facts
     where
       by : (f : Option PairFacts) → IsFit (device_of task.flash) task.assumptions k (row_by f task scratch (site_at (device_of task.flash) k s) instr)
-      by None = row_fits (device_of task.flash) task k (before instr s) scratch instr (fits instr refl)
+      by None = plain_fits (device_of task.flash) task k s scratch instr (fits instr refl)
       by (Some f) = paired_fits (device_of task.flash) task k s scratch instr (fits instr refl)
 
   -- a node that splits neither calls nor returns

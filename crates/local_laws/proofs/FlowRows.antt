@@ -9,13 +9,14 @@ use Rattle.avr_model.specs.Image.{word_at}
 use Rattle.avr_model.specs.Sreg.{flag}
 use Rattle.avr_model.specs.Table.{length_of}
 use Rattle.avr_model.specs.Text.{near}
-use Rattle.avr_model.specs.State.{State, register, pair}
-use Rattle.avr_model.specs.Effects.{going_to, further, skipping, calling, returning, branch_effect, reti_effect}
+use Rattle.avr_model.specs.State.{State, EIND, register, pair}
+use Rattle.avr_model.specs.Effects.{extended_word, going_to, further, skipping, calling, returning, branch_effect, reti_effect}
 use Rattle.avr_model.specs.Step.{unless_listed}
 use Rattle.bit_domain.specs.declared.bits.Tri.{Tri}
 use Rattle.bit_domain.specs.declared.bits.Tri.TheVariants.{Zero, One, Any}
 use Rattle.bit_domain.specs.Tri.{Permits, tri_not}
-use Rattle.bit_domain.specs.TriByte.{tri_at, byte_known}
+use Rattle.bit_domain.specs.declared.bytes.TriByte.{TriByte}
+use Rattle.bit_domain.specs.TriByte.{Has, tri_at, byte_known}
 use Rattle.bit_domain.specs.Numbers.{PointerBits}
 use Rattle.bit_domain.proofs.AllLaws.{bytes_are_sets}
 use Rattle.sp_domain.specs.declared.tags.CarryTag.{CarryTag}
@@ -33,7 +34,7 @@ use Rattle.node_keys.specs.declared.keys.SpForm.TheVariants.{Closed, Open}
 use Rattle.local_rules.specs.declared.local.Exit.{Exit}
 use Rattle.local_rules.specs.declared.local.Node.{Node}
 use Rattle.local_rules.specs.Raw.{Raw, moves_to, all_of, untracked_if, at_word, off_table, going_to as node_going_to, further as node_further}
-use Rattle.local_rules.specs.Registers.{value, set, carry_bit}
+use Rattle.local_rules.specs.Registers.{value, bits, set, carry_bit}
 use Rattle.local_rules.specs.Flow.{branch, branch_by as node_branch_by, skipping as node_skipping, flag_at, with_value, where_carry, going_where, carry_branch, flag_branch, words_on, targets_by, z_with, jumping, is_half_written, at_closed, calling as node_calling, indirect_call, site, returning as node_returning, ret_exit, reti_exit}
 use Rattle.local_rules.specs.Cover.{stays, calls, leaves, IsReturn}
 use Rattle.local_laws.proofs.Bare.{InBareFrame}
@@ -132,7 +133,7 @@ module _ {may : Bool} (m : State) (o : Origin) (k : NodeKey) (s : AbsState) (at 
   cut_by (carry_tag.Borrow j l) is lt h on e = (s.registers, (refl, at.stands.registers))
   cut_by (carry_tag.Sum j l) is lt h on e = (s.registers, (refl, at.stands.registers))
   cut_by (carry_tag.Less r n) is lt h on e =
-      let part = part_stands o (value s r) (register m r) n on (at.stands.registers r lt) (sym e ∙ h) in
+      let part = part_stands o (value s r) (register m r) n on (at.stands.registers r (omega (arith, lt))) (sym e ∙ h) in
       let kept : slice_set m.registers r (register m r) ≡ m.registers = set_itself m.registers r in (
         set s r part.0,
         (
@@ -237,37 +238,50 @@ module _ {may : Bool} (m : State) (o : Origin) (k : NodeKey) (s : AbsState) (at 
 
   -- ---- indirect transfers
 
-  -- the target
-  abbrev target : ℕ
-  target = wrapped m.device (pair m 30)
+  -- what the state permits of the target
+  abbrev permitted : TriByte → PointerBits
+  permitted bank = z_with s bank
 
-  -- what the state permits
-  abbrev permitted : PointerBits
-  permitted = z_with s (byte_known 0)
+  -- the word of Z behind a bank is permitted
+  bank_has : (bank : TriByte) (b z : ℕ) → Has bank b → z ≡ pair m 30 + 65536 * b → Contains (words_on m.device (permitted bank)) (wrapped m.device z)
+  bank_has bank b z has is =
+      subst (λ (n : ℕ). Contains (words_on m.device (permitted bank)) (wrapped m.device n)) (sym is)
+      (word_permitted m.device (permitted bank) (register m 30) (register m 31) b (register_byte m o k s at 30) (register_byte m o k s at 31)
+      (register_bits m o k s at 30) (register_bits m o k s at 31) has)
 
-  target_has : Contains (words_on m.device permitted) target
-  target_has =
-      let same : pair m 30 + 65536 * 0 ≡ pair m 30 = omega arith in
-      subst (λ (z : ℕ). Contains (words_on m.device permitted) (wrapped m.device z)) same
-      (word_permitted m.device permitted (register m 30) (register m 31) 0 (register_byte m o k s at 30) (register_byte m o k s at 31)
-      (register_bits m o k s at 30) (register_bits m o k s at 31) ((bytes_are_sets.known 0 0 (omega arith) (omega arith)).1 refl))
+  z_has : Contains (words_on m.device (permitted (byte_known 0))) (wrapped m.device (pair m 30))
+  z_has = bank_has (byte_known 0) 0 (pair m 30) ((bytes_are_sets.known 0 0 (omega arith) (omega arith)).1 refl) (omega arith)
 
-  jump_by : (line : Option (List ℕ)) (found : Option (List ℕ)) → targets_by m.device line permitted ≡ found → unless_listed line target ≡ None
-      → (jumping found k s).faults ≡ [] → FollowsWhere may m o s.facts k guarded b1 b2 (going_to m (pair m 30)) (jumping found k s)
-  jump_by line None e unflagged none = absurd (cc)
-  jump_by line (Some targets) e unflagged none =
+  far_has : Contains (words_on m.device (permitted (bits s EIND))) (wrapped m.device (extended_word m))
+  far_has = bank_has (bits s EIND) (register m EIND) (extended_word m) (register_bits m o k s at EIND) (omega arith)
+
+  jump_by : (p : PointerBits) (z : ℕ) → Contains (words_on m.device p) (wrapped m.device z) → (line : Option (List ℕ)) (found : Option (List ℕ)) → targets_by m.device line p ≡ found
+      → unless_listed line (wrapped m.device z) ≡ None
+      → (jumping found k s).faults ≡ [] → FollowsWhere may m o s.facts k guarded b1 b2 (going_to m z) (jumping found k s)
+  jump_by p z has line None e unflagged none = absurd (cc)
+  jump_by p z has line (Some targets) e unflagged none =
       record {
-        leads = λ held. stays (record { key = off_table k target; state = s })
-            (in_map (λ t. record { key = off_table k t; state = s }) target targets (targets_have m.device line permitted targets target e target_has unflagged))
-            refl ((turns_to m o k s at guarded (pair m 30) target refl).lands held);
+        leads = λ held. stays (record { key = off_table k (wrapped m.device z); state = s })
+            (in_map (λ t. record { key = off_table k t; state = s }) (wrapped m.device z) targets (targets_have m.device line p targets (wrapped m.device z) e has unflagged))
+            refl ((turns_to m o k s at guarded z (wrapped m.device z) refl).lands held);
       }
 
-  pub ijmp_covered : (A : List Entry) → unless_listed (jump_line A m.pc) target ≡ None
-      → (jumping (targets_by m.device (jump_line A k.pc) permitted) k s).faults ≡ []
-      → FollowsWhere may m o s.facts k guarded b1 b2 (going_to m (pair m 30)) (jumping (targets_by m.device (jump_line A k.pc) permitted) k s)
-  ijmp_covered A unflagged none =
-      jump_by (jump_line A k.pc) (targets_by m.device (jump_line A k.pc) permitted) refl
-      (subst (λ pc. unless_listed (jump_line A pc) target ≡ None) at.place.pc unflagged) none
+  jump_covered : (p : PointerBits) (z : ℕ) → Contains (words_on m.device p) (wrapped m.device z) → (A : List Entry) → unless_listed (jump_line A m.pc) (wrapped m.device z) ≡ None
+      → (jumping (targets_by m.device (jump_line A k.pc) p) k s).faults ≡ []
+      → FollowsWhere may m o s.facts k guarded b1 b2 (going_to m z) (jumping (targets_by m.device (jump_line A k.pc) p) k s)
+  jump_covered p z has A unflagged none =
+      jump_by p z has (jump_line A k.pc) (targets_by m.device (jump_line A k.pc) p) refl
+      (subst (λ pc. unless_listed (jump_line A pc) (wrapped m.device z) ≡ None) at.place.pc unflagged) none
+
+  pub ijmp_covered : (A : List Entry) → unless_listed (jump_line A m.pc) (wrapped m.device (pair m 30)) ≡ None
+      → (jumping (targets_by m.device (jump_line A k.pc) (permitted (byte_known 0))) k s).faults ≡ []
+      → FollowsWhere may m o s.facts k guarded b1 b2 (going_to m (pair m 30)) (jumping (targets_by m.device (jump_line A k.pc) (permitted (byte_known 0))) k s)
+  ijmp_covered = jump_covered (permitted (byte_known 0)) (pair m 30) z_has
+
+  pub eijmp_covered : (A : List Entry) → unless_listed (jump_line A m.pc) (wrapped m.device (extended_word m)) ≡ None
+      → (jumping (targets_by m.device (jump_line A k.pc) (permitted (bits s EIND))) k s).faults ≡ []
+      → FollowsWhere may m o s.facts k guarded b1 b2 (going_to m (extended_word m)) (jumping (targets_by m.device (jump_line A k.pc) (permitted (bits s EIND))) k s)
+  eijmp_covered = jump_covered (permitted (bits s EIND)) (extended_word m) far_has
 
   -- ---- calls
 
@@ -290,20 +304,31 @@ module _ {may : Bool} (m : State) (o : Origin) (k : NodeKey) (s : AbsState) (at 
       unless_open k.sp k.pc _ (calling m target back) none
       (λ offset form free. record { leads = λ held. calls offset (site target' back') (in_map (λ t. site t back') target' targets has) form guards (call_is target target' back back' is is') })
 
-  icall_by : (line : Option (List ℕ)) (found : Option (List ℕ)) → guarded ≡ true → targets_by m.device line permitted ≡ found
-      → unless_listed line target ≡ None → (indirect_call m.device found k).faults ≡ []
-      → FollowsWhere may m o s.facts k guarded b1 b2 (calling m (pair m 30) (further m 1)) (indirect_call m.device found k)
-  icall_by line None guards e unflagged none = unless_open k.sp k.pc _ _ none (λ offset form wrong. absurd (cc))
-  icall_by line (Some targets) guards e unflagged none =
-      call_covered (pair m 30) target (further m 1) (node_further m.device k 1) targets guards refl (further_is 1)
-      (targets_have m.device line permitted targets target e target_has unflagged) none
+  indirect_by : (p : PointerBits) (z : ℕ) → Contains (words_on m.device p) (wrapped m.device z) → (line : Option (List ℕ)) (found : Option (List ℕ)) → guarded ≡ true
+      → targets_by m.device line p ≡ found → unless_listed line (wrapped m.device z) ≡ None → (indirect_call m.device found k).faults ≡ []
+      → FollowsWhere may m o s.facts k guarded b1 b2 (calling m z (further m 1)) (indirect_call m.device found k)
+  indirect_by p z has line None guards e unflagged none = unless_open k.sp k.pc _ _ none (λ offset form wrong. absurd (cc))
+  indirect_by p z has line (Some targets) guards e unflagged none =
+      call_covered z (wrapped m.device z) (further m 1) (node_further m.device k 1) targets guards refl (further_is 1)
+      (targets_have m.device line p targets (wrapped m.device z) e has unflagged) none
 
-  pub icall_covered : (A : List Entry) → guarded ≡ true → unless_listed (jump_line A m.pc) target ≡ None
-      → (indirect_call m.device (targets_by m.device (jump_line A k.pc) permitted) k).faults ≡ []
-      → FollowsWhere may m o s.facts k guarded b1 b2 (calling m (pair m 30) (further m 1)) (indirect_call m.device (targets_by m.device (jump_line A k.pc) permitted) k)
-  icall_covered A guards unflagged none =
-      icall_by (jump_line A k.pc) (targets_by m.device (jump_line A k.pc) permitted) guards refl
-      (subst (λ pc. unless_listed (jump_line A pc) target ≡ None) at.place.pc unflagged) none
+  indirect_covered : (p : PointerBits) (z : ℕ) → Contains (words_on m.device p) (wrapped m.device z) → (A : List Entry) → guarded ≡ true
+      → unless_listed (jump_line A m.pc) (wrapped m.device z) ≡ None
+      → (indirect_call m.device (targets_by m.device (jump_line A k.pc) p) k).faults ≡ []
+      → FollowsWhere may m o s.facts k guarded b1 b2 (calling m z (further m 1)) (indirect_call m.device (targets_by m.device (jump_line A k.pc) p) k)
+  indirect_covered p z has A guards unflagged none =
+      indirect_by p z has (jump_line A k.pc) (targets_by m.device (jump_line A k.pc) p) guards refl
+      (subst (λ pc. unless_listed (jump_line A pc) (wrapped m.device z) ≡ None) at.place.pc unflagged) none
+
+  pub icall_covered : (A : List Entry) → guarded ≡ true → unless_listed (jump_line A m.pc) (wrapped m.device (pair m 30)) ≡ None
+      → (indirect_call m.device (targets_by m.device (jump_line A k.pc) (permitted (byte_known 0))) k).faults ≡ []
+      → FollowsWhere may m o s.facts k guarded b1 b2 (calling m (pair m 30) (further m 1)) (indirect_call m.device (targets_by m.device (jump_line A k.pc) (permitted (byte_known 0))) k)
+  icall_covered = indirect_covered (permitted (byte_known 0)) (pair m 30) z_has
+
+  pub eicall_covered : (A : List Entry) → guarded ≡ true → unless_listed (jump_line A m.pc) (wrapped m.device (extended_word m)) ≡ None
+      → (indirect_call m.device (targets_by m.device (jump_line A k.pc) (permitted (bits s EIND))) k).faults ≡ []
+      → FollowsWhere may m o s.facts k guarded b1 b2 (calling m (extended_word m) (further m 1)) (indirect_call m.device (targets_by m.device (jump_line A k.pc) (permitted (bits s EIND))) k)
+  eicall_covered = indirect_covered (permitted (bits s EIND)) (extended_word m) far_has
 
   -- ---- returns
 

@@ -10,7 +10,7 @@ use Rattle.avr_model.specs.Devices.{wrapped}
 use Rattle.avr_model.specs.declared.effect.Write.{Write}
 use Rattle.avr_model.specs.declared.effect.Effect.{Effect}
 use Rattle.avr_model.specs.Sreg.{flag}
-use Rattle.avr_model.specs.State.{State, Memory, register, is_live, live_in}
+use Rattle.avr_model.specs.State.{State, Memory, REGISTERS, register, is_live, live_in}
 use Rattle.avr_model.specs.Effects.{going_to, setting, further}
 use Rattle.avr_model.specs.Step.{after, with_registers, registers_after, sreg_after, sp_after, open_after, enables_after, all_inside}
 use Rattle.sp_domain.specs.declared.slots.Slot.{Slot}
@@ -45,7 +45,7 @@ second x y xs = (1, omega arith, refl)
 
 -- ---- registers
 
-pub set_stands : (o : Origin) (values : List AbsByte) (registers : List ℕ) (d : ℕ) (v : AbsByte) (x : ℕ) → length values ≡ 32 → length registers ≡ 32
+pub set_stands : (o : Origin) (values : List AbsByte) (registers : List ℕ) (d : ℕ) (v : AbsByte) (x : ℕ) → length values ≡ REGISTERS → length registers ≡ REGISTERS
     → ByteStands o v x → RegistersStand o values registers → RegistersStand o (slice_set values d v) (slice_set registers d x)
 set_stands o values registers d v x count_values count_registers h old r lt =
     ⊎_elim
@@ -85,7 +85,7 @@ module _ {may : Bool} (m : State) (o : Origin) (k : NodeKey) (s : AbsState) (at 
       ⊎_elim
       (λ lt. at.stands.registers r lt)
       (λ over. subst (λ v. ByteStands o v (register m r)) (sym (get_or_past s.registers r unknown (omega (arith, at.node.formed.count_registers)))) (any_stands o (register m r) (byte_in_list m.registers r at.machine.register_bytes)))
-      (cases_lt r 32)
+      (cases_lt r REGISTERS)
 
   pub set_one : (d : ℕ) (v : AbsByte) (x : ℕ) → ByteStands o v x → RegistersStand o (slice_set s.registers d v) (slice_set m.registers d x)
   set_one d v x h = set_stands o s.registers m.registers d v x at.node.formed.count_registers at.machine.count_registers h at.stands.registers
@@ -109,10 +109,10 @@ module _ {may : Bool} (m : State) (o : Origin) (k : NodeKey) (s : AbsState) (at 
   pub frame_kept : (told : Option PairFacts) (guarded : Bool) (e : Effect) (to : Node) → e.pushes ≡ [] → to.key.sp ≡ k.sp → to.state.slots ≡ s.slots
       → sp_after m.device e.sp e.stores ≡ m.sp → open_after m.device e.is_open e.stores ≡ m.is_open
       → e.pc ≡ to.key.pc → EnablesAre may (enables_after m.device e.enables e.stores) to.key.masks → flag (sreg_after e.sreg e.stores) 7 ≡ to.key.i → e.delay ≡ to.key.delay
-      → RegistersStand o to.state.registers (registers_after (with_registers m.registers e.registers) e.stores)
+      → RegistersStand o to.state.registers (registers_after m.device (with_registers m.registers e.registers) e.stores)
       → FlagsStand o to.state.flags (sreg_after e.sreg e.stores)
-      → LessHolds (registers_after (with_registers m.registers e.registers) e.stores) to.state.flags.carry (flag (sreg_after e.sreg e.stores) 0)
-      → (HeldAt m told e → HoldsAt to.state.facts (registers_after (with_registers m.registers e.registers) e.stores) (sreg_after e.sreg e.stores))
+      → LessHolds (registers_after m.device (with_registers m.registers e.registers) e.stores) to.state.flags.carry (flag (sreg_after e.sreg e.stores) 0)
+      → (HeldAt m told e → HoldsAt to.state.facts (registers_after m.device (with_registers m.registers e.registers) e.stores) (sreg_after e.sreg e.stores))
       → ArrivesWhere may m o told guarded e to
   frame_kept told guarded e to pushes sp slots sp_is open_is pc enables i delay registers flags less facts =
       record {
@@ -138,10 +138,10 @@ module _ {may : Bool} (m : State) (o : Origin) (k : NodeKey) (s : AbsState) (at 
   pub same_frame : (guarded : Bool) (e : Effect) (to : Node) → e.pushes ≡ [] → to.key.sp ≡ k.sp → to.state.slots ≡ s.slots
       → sp_after m.device e.sp e.stores ≡ m.sp → open_after m.device e.is_open e.stores ≡ m.is_open
       → e.pc ≡ to.key.pc → EnablesAre may (enables_after m.device e.enables e.stores) to.key.masks → flag (sreg_after e.sreg e.stores) 7 ≡ to.key.i → e.delay ≡ to.key.delay
-      → RegistersStand o to.state.registers (registers_after (with_registers m.registers e.registers) e.stores)
+      → RegistersStand o to.state.registers (registers_after m.device (with_registers m.registers e.registers) e.stores)
       → FlagsStand o to.state.flags (sreg_after e.sreg e.stores)
-      → LessHolds (registers_after (with_registers m.registers e.registers) e.stores) to.state.flags.carry (flag (sreg_after e.sreg e.stores) 0)
-      → (HeldAt m s.facts e → HoldsAt to.state.facts (registers_after (with_registers m.registers e.registers) e.stores) (sreg_after e.sreg e.stores))
+      → LessHolds (registers_after m.device (with_registers m.registers e.registers) e.stores) to.state.flags.carry (flag (sreg_after e.sreg e.stores) 0)
+      → (HeldAt m s.facts e → HoldsAt to.state.facts (registers_after m.device (with_registers m.registers e.registers) e.stores) (sreg_after e.sreg e.stores))
       → ArrivesWhere may m o s.facts guarded e to
   same_frame = frame_kept s.facts
 

@@ -60,7 +60,7 @@ seen_holds o view zero j v x h = by view.high refl
 
 module _ {may : Bool} (m : State) (o : Origin) (k : NodeKey) (s : AbsState) (at : InBareFrame may m o k s) where
   -- without SPH, in the frame the high byte is 0
-  base_high : has_sph m.device ≡ false → (n : ℕ) → n ≤ offset_of k.sp → high (minus16 o.base n) ≡ 0
+  pub base_high : has_sph m.device ≡ false → (n : ℕ) → n ≤ offset_of k.sp → high (minus16 o.base n) ≡ 0
   base_high none n le = high_zero o.base (offset_of k.sp) (io_end m.device) n (at.room (at.sees none)) (omega (arith, at.top, devices_are_alike.low_end m.device none)) le
 
   -- the tag that is read of a register

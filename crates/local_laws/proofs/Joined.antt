@@ -10,10 +10,11 @@ use Rattle.pair_domain.proofs.AllLaws.{known_is_ordered}
 use Rattle.avr_model.specs.declared.device.Device.{Device}
 use Rattle.abs_state.specs.declared.state.AbsState.{AbsState}
 use Rattle.abs_state.specs.Order.{IsStateWithin, IsLeastAbove, state_join}
+use Rattle.abs_state.specs.Banks.{is_tag_of, IsStateOf}
 use Rattle.abs_state.specs.Formed.{IsFormed}
-use Rattle.abs_state.proofs.AllLaws.{states_are_ordered, joins_are_formed, tags_stay_fit, hulls_hold_intervals}
+use Rattle.abs_state.proofs.AllLaws.{states_are_ordered, joins_are_formed, states_are_of, tags_stay_fit, hulls_hold_intervals}
 use Rattle.node_keys.specs.declared.keys.NodeKey.{NodeKey}
-use Rattle.node_keys.specs.Keys.{offset_of}
+use Rattle.node_keys.specs.Keys.{offset_of, is_root}
 use Rattle.node_keys.specs.Order.{node_cmp}
 use Rattle.node_keys.proofs.AllLaws.{keys_are_ordered}
 use Rattle.local_rules.specs.declared.local.Node.{Node}
@@ -52,6 +53,10 @@ joined_node {device = device} {followed = followed} m n e a b =
       untagged = λ root.
           joins_are_formed.untagged m.state n.state (offset_of m.key.sp) a.formed (formed_at m n e b) (a.untagged root)
           (b.untagged (ap (λ (k : NodeKey). k.inst.kind) e ∙ root));
+      registers_of =
+          states_are_of.joined (is_tag_of device) device (is_root m.key.inst.kind) m.state n.state refl (joins_are_formed.whole m.state (offset_of m.key.sp) a.formed)
+          (joins_are_formed.whole n.state (offset_of m.key.sp) (formed_at m n e b)) (a.formed.count_slots ∙ sym (formed_at m n e b).count_slots) a.registers_of
+          (subst (λ (k : NodeKey). IsStateOf device (is_root k.inst.kind) n.state) e b.registers_of);
       mode = known_is_ordered.followed m.state.facts n.state.facts ∙ ap₂ (λ x y. x && y) a.mode b.mode ∙ and_self followed;
       hulls =
           hulls_hold_intervals.joins m.state n.state (joins_are_formed.whole m.state (offset_of m.key.sp) a.formed)

@@ -1,19 +1,18 @@
 -- Successors follow pairs if the node does, and their intervals lie in the hulls of their registers.
-use Rattle.std.proofs.Common.{◌≡◌, ◌≢◌, refl, sym, subst, subst₂, ap, ap₂, ◌∙◌, ℕ, ◌+◌, ◌*◌, ◌/◌, ◌<◌, ◌==◌, Bool, true, false, List, [], ◌∷◌, ◌++◌, length, map, filter, Option, Some, None, if◌then◌else◌, slice_set, Contains, ◌⊎◌, inl, inr, ⊎_elim, arith, nat_lt, nat_le, ltb-true}
+use Rattle.std.proofs.Common.{◌≡◌, ◌≢◌, refl, sym, subst, subst₂, ap, ap₂, ◌∙◌, ℕ, ◌+◌, ◌*◌, ◌/◌, ◌<◌, ◌==◌, Bool, true, false, List, [], ◌∷◌, length, Option, Some, None, if◌then◌else◌, slice_set, ◌⊎◌, inl, inr, ⊎_elim, ◌≤◌, length-set, arith, nat_lt}
 use Rattle.std.specs.Prelude.{◌||◌}
-use Rattle.std.proofs.lemmas.Bool.{cases_eq, ne_eqb}
+use Rattle.std.proofs.lemmas.List.{get_or_past}
+use Rattle.std.proofs.lemmas.Bool.{cases_eq, cases_lt, ne_eqb}
 use Rattle.std.proofs.lemmas.Grind.{elements}
-use Rattle.std.proofs.lemmas.List.Elements.{Contains-append_cases}
-use Rattle.basics.specs.Items.{none_in}
-use Rattle.avr_model.specs.Devices.{size_of}
+use Rattle.avr_model.specs.Devices.{has_sph}
 use Rattle.avr_model.specs.declared.device.Device.{Device}
-use Rattle.avr_model.specs.declared.assumption.Entry.{Entry}
-use Rattle.avr_model.specs.Assumptions.{is_fixed_site, store_line}
-use Rattle.avr_model.specs.State.{SPL, SREG, is_sph}
+use Rattle.avr_model.specs.State.{RAMPZ, EIND, REGISTERS, has_register}
 use Rattle.avr_model.specs.Written.{written}
 use Rattle.bit_domain.specs.declared.bits.Tri.{Tri}
 use Rattle.bit_domain.specs.declared.bits.Tri.TheVariants.{Zero, One, Any}
-use Rattle.bit_domain.specs.TriByte.{tri_at}
+use Rattle.sp_domain.specs.declared.tags.Tag.{Tag}
+use Rattle.sp_domain.specs.declared.tags.Tag.TheVariants as tag
+use Rattle.sp_domain.specs.Tags.{is_same_tag}
 use Rattle.sp_domain.specs.declared.tags.CarryTag.{CarryTag}
 use Rattle.sp_domain.specs.declared.tags.CarryTag.TheVariants as carry
 use Rattle.pair_domain.specs.declared.facts.PairFacts.{PairFacts}
@@ -24,25 +23,23 @@ use Rattle.pair_domain.proofs.AllLaws.{intervals_are_ordered}
 use Rattle.abs_state.specs.declared.values.AbsByte.{AbsByte}
 use Rattle.abs_state.specs.declared.values.AbsFlags.{AbsFlags}
 use Rattle.abs_state.specs.declared.state.AbsState.{AbsState}
-use Rattle.abs_state.specs.Values.{value_at, set_of, with_bits}
+use Rattle.abs_state.specs.Values.{value_at, set_of, unknown, with_bits}
 use Rattle.abs_state.specs.Ended.{is_one_of, in_pair, intervals_ended, ended, hull_at, written_hull}
+use Rattle.abs_state.specs.Banks.{is_tag_of, absent, IsBankIn, IsStateOf}
 use Rattle.abs_state.specs.Hulls.{AreInHulls, IsInHulls}
 use Rattle.abs_state.proofs.AllLaws.{writes_end_facts, ended_at}
 use Rattle.node_keys.specs.declared.keys.NodeKey.{NodeKey}
-use Rattle.node_keys.specs.declared.keys.High.{High}
-use Rattle.node_keys.specs.Splits.{splits}
-use Rattle.node_keys.specs.Wakes.{widened}
-use Rattle.local_rules.specs.declared.local.Node.{Node}
-use Rattle.local_rules.specs.Raw.{Raw, nowhere, one, all_of, off_table}
+use Rattle.local_rules.specs.Raw.{Raw, nowhere, all_of, off_table}
 use Rattle.local_rules.specs.Registers.{value, carry_bit, forgetting}
+use Rattle.local_rules.specs.Banks.{own_tag, bank_value, stored_value}
 use Rattle.local_rules.specs.Flow.{branch, part_of, with_value, where_carry, going_where, carry_branch, flag_branch}
-use Rattle.local_rules.specs.Writes.{opening, closing, sreg_written, written_at, fixed_write, may_wake, waking, pointer_write, high_part, closing_offset, flags_written, register_written, put_flags, reaches}
-use Rattle.local_laws.proofs.Members.{each_of, each_in_map}
-use Rattle.local_laws.proofs.MonotoneValues.{set_other}
+use Rattle.local_rules.specs.Writes.{written_at, pointer_write, put_register, put_flags}
+use Rattle.local_laws.proofs.EachState.{AllOf, each_none, each_both, each_branch, each_where}
+use Rattle.local_laws.proofs.EachStore.{HasBehind, written_each, pointer_each}
+use Rattle.local_laws.proofs.MonotoneValues.{set_same, set_other}
+use Rattle.local_laws.proofs.SettledNodes.{IsLow}
 use Rattle.local_rules.specs.Site.{Task}
 use Rattle.local_rules.specs.Writes.{write_at}
-use Rattle.local_rules.specs.HighBytes.{view_by}
-use Rattle.local_rules.specs.Reads.{pointed}
 
 -- it follows pairs as `followed` says, and its intervals lie in their hulls
 pub record IsModeKept (followed : Bool) (t : AbsState) : Type 0 where
@@ -83,10 +80,10 @@ module _ (followed : Bool) where
       let high : (a == 2 * n + 1) ≡ false = ne_eqb a (2 * n + 1) (λ e. ne (omega arith)) in
       ap₂ (λ x y. (x || false) || (y || false)) low high
 
-  written_in : (registers : List AbsByte) (a : ℕ) (w : AbsByte) → a < 32 → (x : Option PairFacts) → HasSixteen x → AreInHulls registers x
+  written_in : (registers : List AbsByte) (a : ℕ) (w : AbsByte) → (x : Option PairFacts) → HasSixteen x → AreInHulls registers x
       → AreInHulls (slice_set registers a w) (written_hull (slice_set registers a w) a (ended (is_one_of (a ∷ [])) false false x))
-  written_in registers a w small None sixteen h = tt
-  written_in registers a w small (Some f) sixteen h = λ n lt. by n lt (cases_eq n (a / 2))
+  written_in registers a w None sixteen h = tt
+  written_in registers a w (Some f) sixteen h = λ n lt. by n lt (cases_eq n (a / 2))
     where
       new : List AbsByte
       new = slice_set registers a w
@@ -97,8 +94,8 @@ module _ (followed : Bool) where
       count : length left ≡ 16
       count = writes_end_facts.count (is_one_of (a ∷ [])) false false (Some f) sixteen
 
-      there : interval_at (slice_set left (a / 2) (hull_at new (a / 2))) (a / 2) ≡ hull_at new (a / 2)
-      there = let inside : a / 2 < length left = omega (arith, small, count) in grind (arith, elements)
+      there : a / 2 < 16 → interval_at (slice_set left (a / 2) (hull_at new (a / 2))) (a / 2) ≡ hull_at new (a / 2)
+      there low = let inside : a / 2 < length left = omega (arith, low, count) in grind (arith, elements)
 
       elsewhere : (n : ℕ) → n ≢ a / 2 → interval_at (slice_set left (a / 2) (hull_at new (a / 2))) n ≡ interval_at left n
       elsewhere n ne = grind (arith, elements)
@@ -106,7 +103,7 @@ module _ (followed : Bool) where
       by : (n : ℕ) → n < 16 → (n ≡ a / 2) ⊎ (n ≡ a / 2 → ⊥) → IsIntervalWithin (interval_at (slice_set left (a / 2) (hull_at new (a / 2))) n) (hull_at new n)
       by n lt (inl e) =
           let P : ℕ → Type 0 = λ k. IsIntervalWithin (interval_at (slice_set left (a / 2) (hull_at new (a / 2))) k) (hull_at new k) in
-          subst P (sym e) (subst (λ (j : Interval). IsIntervalWithin j (hull_at new (a / 2))) (sym there) (intervals_are_ordered.same (hull_at new (a / 2))))
+          subst P (sym e) (subst (λ (j : Interval). IsIntervalWithin j (hull_at new (a / 2))) (sym (there (omega (arith, lt, e)))) (intervals_are_ordered.same (hull_at new (a / 2))))
       by n lt (inr ne) =
           let was : interval_at left n ≡ interval_at f.intervals n =
           ended_at (is_one_of (a ∷ [])) f.intervals n ∙ ap (λ (b : Bool). if b then whole else interval_at f.intervals n) (not_there a n ne) in
@@ -116,90 +113,123 @@ module _ (followed : Bool) where
           ap₂ (λ (v u : AbsByte). hull (set_of v) (set_of u)) (sym lo) (sym hi) in
           subst₂ IsIntervalWithin (sym (elsewhere n ne ∙ was)) same (h n lt)
 
-  register_kept : (s : AbsState) (a : ℕ) (v : AbsByte) → a < 32 → HasSixteen s.facts → IsModeKept followed s → IsModeKept followed (register_written s a v)
-  register_kept s a v small sixteen h =
+  register_kept : (s : AbsState) (a : ℕ) (v : AbsByte) → HasSixteen s.facts → IsModeKept followed s → IsModeKept followed (put_register s a v)
+  register_kept s a v sixteen h =
       record {
         mode =
-            writes_end_facts.hull_followed (slice_set s.registers a (with_bits v.tag v.bits)) a (ended (is_one_of (a ∷ [])) false false s.facts)
+            writes_end_facts.hull_followed (slice_set s.registers a v) a (ended (is_one_of (a ∷ [])) false false s.facts)
             ∙ writes_end_facts.followed (is_one_of (a ∷ [])) false false s.facts
             ∙ h.mode;
-        hulls = written_in s.registers a (with_bits v.tag v.bits) small s.facts sixteen h.hulls;
+        hulls = written_in s.registers a v s.facts sixteen h.hulls;
       }
 
   -- ---- moves
 
   abbrev pub AllKept : Raw → Type 0
-  AllKept r = (to : Node) → Contains r.moves to → IsModeKept followed to.state
+  AllKept r = AllOf (IsModeKept followed) r
 
   pub kept_none : AllKept nowhere
-  kept_none to h = absurd (none_in to h)
-
-  pub kept_one : (k : NodeKey) (s : AbsState) → IsModeKept followed s → AllKept (one k s)
-  kept_one k s h = each_of (λ (n : Node). IsModeKept followed n.state) (record { key = k; state = s }) [] h (λ n j. absurd (none_in n j))
-
-  kept_two : (j k : NodeKey) (s : AbsState) → IsModeKept followed s → (to : Node) → Contains (record { key = j; state = s } ∷ record { key = k; state = s } ∷ []) to → IsModeKept followed to.state
-  kept_two j k s h = each_of (λ (n : Node). IsModeKept followed n.state) (record { key = j; state = s }) (record { key = k; state = s } ∷ []) h (kept_one k s h)
+  kept_none = each_none (IsModeKept followed)
 
   pub kept_if : (b : Bool) (p q : Raw) → (b ≡ true → AllKept p) → (b ≡ false → AllKept q) → AllKept (if b then p else q)
   kept_if true p q h g = h refl
   kept_if false p q h g = g refl
 
   pub kept_both : (p q : Raw) → AllKept p → AllKept q → AllKept (all_of (p ∷ q ∷ []))
-  kept_both p q h g to j =
-      ⊎_elim (h to) (λ rest. ⊎_elim (g to) (λ none. absurd (none_in to none)) (Contains-append_cases q.moves [] to rest)) (Contains-append_cases p.moves (q.moves ++ []) to j)
-
-  kept_all : (f : ℕ → Raw) (xs : List ℕ) → ((x : ℕ) → AllKept (f x)) → AllKept (all_of (map f xs))
-  kept_all f [] h to j = kept_none to j
-  kept_all f (x ∷ xs) h to j = ⊎_elim (h x to) (kept_all f xs h to) (Contains-append_cases (f x).moves (all_of (map f xs)).moves to j)
+  kept_both = each_both (IsModeKept followed)
 
   pub kept_branch : (t : Tri) (k : NodeKey) (s : AbsState) (taken other : ℕ) → IsModeKept followed s → AllKept (branch t k s taken other)
-  kept_branch One k s taken other h = kept_one (off_table k taken) s h
-  kept_branch Zero k s taken other h = kept_one (off_table k other) s h
-  kept_branch Any k s taken other h = kept_two (off_table k other) (off_table k taken) s h
+  kept_branch t k s taken other h = each_branch (IsModeKept followed) t (off_table k taken) (off_table k other) s h
 
   pub kept_where : (k : NodeKey) (x : Option AbsState) (pc : ℕ) → ((u : AbsState) → x ≡ Some u → IsModeKept followed u) → AllKept (going_where k x pc)
-  kept_where k None pc h = kept_none
-  kept_where k (Some u) pc h = kept_one (off_table k pc) u (h u refl)
+  kept_where = each_where (IsModeKept followed)
 
-  -- ---- stores
+-- ---- stores
 
-  kept_closing : (device : Device) (n : Option ℕ) (k : NodeKey) (s : AbsState) (pc : ℕ) → IsModeKept followed s → AllKept (closing device n k s pc)
-  kept_closing device None k s pc h = kept_none
-  kept_closing device (Some n) k s pc h = kept_if (nat_le n (size_of device)) _ _ (λ e. kept_one _ _ (record { mode = h.mode; hulls = h.hulls })) (λ e. kept_none)
-
-  kept_opening : (high : Option High) (k : NodeKey) (s : AbsState) (pc : ℕ) → IsModeKept followed s → AllKept (opening high k s pc)
-  kept_opening None k s pc h = kept_none
-  kept_opening (Some high) k s pc h = kept_one _ s h
-
-  kept_sreg : (t : Tri) (k : NodeKey) (s : AbsState) (is_out : Bool) → IsModeKept followed s → AllKept (sreg_written t k s is_out)
-  kept_sreg Zero k s is_out h = kept_one _ s h
-  kept_sreg One k s is_out h = kept_one _ s h
-  kept_sreg Any k s is_out h = kept_two _ _ s h
+module _ (followed : Bool) where
+  pub kept_behind : (device : Device) (s : AbsState) (v : AbsByte) → HasSixteen s.facts → IsModeKept followed s → HasBehind (IsModeKept followed) device s v
+  kept_behind device s v sixteen h =
+      record {
+        same = h;
+        flags = λ f. flags_kept followed s f h;
+        slots = λ n. record { mode = h.mode; hulls = h.hulls };
+        register = λ a r e. register_kept followed s r (stored_value device r v) sixteen h;
+      }
 
   pub kept_written : (device : Device) (pc : ℕ) (k : NodeKey) (s : AbsState) (is_out : Bool) (a : ℕ) (v : AbsByte) → HasSixteen s.facts → IsModeKept followed s
-      → AllKept (written_at (write_at device pc k s v) is_out a)
-  unfolding written_at
-  kept_written device pc k s is_out a v sixteen h =
-      kept_if (nat_lt a 0x20) _ _ (λ e. kept_one k (register_written s a v) (register_kept s a v (ltb-true a 0x20 e) sixteen h)) (λ e.
-      kept_if (a == SPL) _ _ (λ e. kept_closing device (closing_offset device k.inst.kind k.sp v) k s pc h) (λ e.
-      kept_if (is_sph device a) _ _ (λ e. kept_opening (high_part k.inst.kind v) k s pc h) (λ e.
-      kept_if (a == SREG) _ _ (λ e. kept_sreg (tri_at v.bits 7) k (put_flags s (flags_written v)) is_out (flags_kept s (flags_written v) h)) (λ e.
-      each_in_map (λ m. record { key = record k { masks = m }; state = s }) (λ (n : Node). IsModeKept followed n.state) (splits device k.masks a v.bits) (λ m j. h)))))
-
-  kept_fixed : (device : Device) (a : Option ℕ) (pc : ℕ) (k : NodeKey) (s : AbsState) (v : AbsByte) → HasSixteen s.facts → IsModeKept followed s → AllKept (fixed_write a (write_at device pc k s v))
-  kept_fixed device None pc k s v sixteen h = kept_none
-  kept_fixed device (Some a) pc k s v sixteen h = kept_written device pc k s false a v sixteen h
-
-  kept_waking : (b : Bool) (device : Device) (A : List Entry) (k : NodeKey) (s : AbsState) (r : Raw) → IsModeKept followed s → AllKept r → AllKept (waking b (record { key = record k { masks = widened device A k.masks }; state = s }) r)
-  kept_waking false device A k s r h all to j = all to j
-  kept_waking true device A k s r h all to j = ⊎_elim (all to) (kept_one _ s h to) (Contains-append_cases r.moves (record { key = record k { masks = widened device A k.masks }; state = s } ∷ []) to j)
+      → AllKept followed (written_at (write_at device pc k s v) is_out a)
+  kept_written device pc k s is_out a v sixteen h = written_each (IsModeKept followed) device s v (kept_behind device s v sixteen h) pc k is_out a
 
   pub kept_pointer : (device : Device) (task : Task) (was : AbsState) (r up : ℕ) (pc : ℕ) (k : NodeKey) (s : AbsState) (v : AbsByte)
-      → HasSixteen s.facts → IsModeKept followed s → AllKept (pointer_write task was r up (write_at device pc k s v))
-  kept_pointer device task was r up pc k s v sixteen h =
-      kept_if (is_fixed_site task.flash task.assumptions pc) _ _ (λ e. kept_fixed device (pointed (view_by device k) was r up).constant pc k s v sixteen h) (λ e. kept_waking (may_wake task.assumptions was r up (write_at device pc k s v)) device task.assumptions k s _ h (λ to j.
-      ⊎_elim (kept_one k s h to) (kept_all (λ a. written_at (write_at device pc k s v) false a) (filter (λ a. reaches was r up a) (store_line task.assumptions pc)) (λ a. kept_written device pc k s false a v sixteen h) to)
-      (Contains-append_cases (one k s).moves (all_of (map (λ a. written_at (write_at device pc k s v) false a) (filter (λ a. reaches was r up a) (store_line task.assumptions pc)))).moves to j)))
+      → HasSixteen s.facts → IsModeKept followed s → AllKept followed (pointer_write task was r up (write_at device pc k s v))
+  kept_pointer device task was r up pc k s v sixteen h = pointer_each (IsModeKept followed) device s v (kept_behind device s v sixteen h) task was r up pc k
+
+-- ---- tags of high bytes
+
+-- no register has the tag of a high byte
+abbrev pub AreLow : AbsState → Type 0
+AreLow s = (r : ℕ) → IsLow (value_at s.registers r).tag
+
+low_own : (r : ℕ) (t : Tag) → IsLow t → IsLow (own_tag r t)
+low_own r t low = by (is_same_tag t (tag.Entry r))
+  where
+    by : (same : Bool) → IsLow (if same then t else tag.None)
+    by true = low
+    by false = tt
+
+low_stored : (device : Device) (r : ℕ) (v : AbsByte) → IsLow v.tag → IsLow (stored_value device r v).tag
+low_stored device r v low = by (nat_lt r 32)
+  where
+    by : (b : Bool) → IsLow (if b then with_bits v.tag v.bits else bank_value device r v).tag
+    by true = low
+    by false = low_own r v.tag low
+
+low_set : (registers : List AbsByte) (a : ℕ) (v : AbsByte) → IsLow v.tag → ((r : ℕ) → IsLow (value_at registers r).tag) → (r : ℕ) → IsLow (value_at (slice_set registers a v) r).tag
+low_set registers a v low all r = by (cases_eq r a) (cases_lt a (length registers))
+  where
+    by : (r ≡ a) ⊎ (r ≡ a → ⊥) → (a < length registers) ⊎ (length registers ≤ a) → IsLow (value_at (slice_set registers a v) r).tag
+    by (inr other) _ = subst (λ (w : AbsByte). IsLow w.tag) (sym (set_other registers a r v other)) (all r)
+    by (inl same) (inl inside) = subst (λ (w : AbsByte). IsLow w.tag) (sym (set_same registers a r v same inside)) low
+    by (inl same) (inr over) =
+        subst (λ (w : AbsByte). IsLow w.tag) (sym (get_or_past (slice_set registers a v) r unknown (omega (arith, length-set registers a v, over, same)))) tt
+
+-- without SPH a state of the device is such
+pub low_of : (device : Device) (is_root : Bool) (s : AbsState) → length s.registers ≡ REGISTERS → has_sph device ≡ false → IsStateOf device is_root s → AreLow s
+low_of device is_root s count none h r = by (cases_lt r 32) (cases_eq r 32) (cases_eq r 33)
+  where
+    tag_low : (t : Tag) → is_tag_of device t ≡ true → IsLow t
+    tag_low tag.None is = tt
+    tag_low (tag.Entry r) is = tt
+    tag_low tag.EntryFlags is = tt
+    tag_low (tag.SpLo j) is = tt
+    tag_low (tag.SpHi k) is = let no : true ≡ false = sym is ∙ none in absurd (cc)
+
+    absent_low : (b : Bool) (r : ℕ) → IsLow (absent b r).tag
+    absent_low true r = tt
+    absent_low false r = tt
+
+    bank_low : (r : ℕ) (v : AbsByte) → IsBankIn (is_tag_of device) device is_root r v → IsLow v.tag
+    bank_low r v bank = has (has_register device r) refl
+      where
+        has : (b : Bool) → has_register device r ≡ b → IsLow v.tag
+        has true e = tag_low v.tag (bank.tag e)
+        has false e = subst (λ (w : AbsByte). IsLow w.tag) (sym (bank.lacking e)) (absent_low is_root r)
+
+    beyond : length s.registers ≡ 34 → 32 ≤ r → r ≢ 32 → r ≢ 33 → length s.registers ≤ r
+    beyond count over ne ne' = ⊎_elim (λ lt. absurd (⊎_elim (λ lt'. ne (omega (arith, lt', over))) (λ over'. ne' (omega (arith, lt, over'))) (cases_lt r 33))) (λ over'. omega (arith, over', count)) (cases_lt r 34)
+
+    by : (r < 32) ⊎ (32 ≤ r) → (r ≡ 32) ⊎ (r ≡ 32 → ⊥) → (r ≡ 33) ⊎ (r ≡ 33 → ⊥) → IsLow (value_at s.registers r).tag
+    by (inl lt) _ _ = tag_low (value_at s.registers r).tag (h.registers r lt)
+    by (inr over) (inl is) _ = subst (λ (n : ℕ). IsLow (value_at s.registers n).tag) (sym is) (bank_low RAMPZ (value_at s.registers RAMPZ) h.rampz)
+    by (inr over) (inr other) (inl is) = subst (λ (n : ℕ). IsLow (value_at s.registers n).tag) (sym is) (bank_low EIND (value_at s.registers EIND) h.eind)
+    by (inr over) (inr other) (inr another) =
+        let ne : r ≢ 32 = other in
+        let ne' : r ≢ 33 = another in
+        subst (λ (w : AbsByte). IsLow w.tag) (sym (get_or_past s.registers r unknown (beyond count over ne ne'))) tt
+
+pub low_behind : (device : Device) (s : AbsState) (v : AbsByte) → IsLow v.tag → AreLow s → HasBehind AreLow device s v
+low_behind device s v low all =
+    record { same = all; flags = λ f. all; slots = λ n. all; register = λ a r e. low_set s.registers r (stored_value device r v) (low_stored device r v low) all }
 
 -- ---- branches on C, where pairs aren't followed
 

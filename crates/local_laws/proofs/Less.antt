@@ -171,6 +171,7 @@ forgetting_at m o k s written flags carry at =
       facts =
           known_is_ordered.less s.facts (ended (is_one_of written) flags carry s.facts) m.registers (flag m.sreg 0) (flag m.sreg 1) (flag m.sreg 4)
           (writes_end_facts.less (is_one_of written) flags carry s.facts at.node.formed.facts) at.facts;
+      banks = at.banks;
       root = at.root;
       top = at.top;
       base_word = at.base_word;

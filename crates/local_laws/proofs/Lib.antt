@@ -5,6 +5,7 @@ pub mod Less
 pub mod Landing
 pub mod Frame
 pub mod Memory
+pub mod BankSizes
 pub mod HighBytes
 pub mod Alu
 pub mod FlagRows
@@ -23,6 +24,7 @@ pub mod SpWrites
 pub mod SplitMembers
 pub mod WriteValues
 pub mod Permitted
+pub mod BankValues
 pub mod PointerWrites
 pub mod CoverMemory
 pub mod Ends
@@ -36,10 +38,14 @@ pub mod MonotonePermits
 pub mod MonotoneRaw
 pub mod MonotoneAlu
 pub mod MonotoneReads
+pub mod MonotoneBanks
 pub mod MonotoneWrites
 pub mod MonotoneFlow
 pub mod MonotoneFields
 pub mod MonotoneRows
+pub mod LeftNodes
+pub mod SettledValues
+pub mod SettledMonotone
 pub mod Monotone
 pub mod MonotoneNodes
 pub mod MonotoneLocal
@@ -61,3 +67,10 @@ pub mod PairedMonotone
 pub mod MonotoneSplits
 pub mod KeptNodes
 pub mod KeptRaw
+pub mod SettledNodes
+pub mod EachState
+pub mod EachStore
+pub mod Banks
+pub mod BankRows
+pub mod BanksKept
+pub mod SettledCover

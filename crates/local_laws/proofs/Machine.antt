@@ -1,5 +1,5 @@
 -- Every step leaves a state of the machine: equally many registers and bytes, all in range.
-use Rattle.std.proofs.Common.{◌≡◌, ◌∙◌, ℕ, zero, suc, ◌+◌, ◌%◌, ◌-◌, ◌*◌, ◌^◌, ◌<◌, ◌==◌, ◌&&◌, Bool, true, false, nat_lt, nat_le, if◌then◌else◌, List, [], ◌∷◌, length, Option, Some, None, slice_set, arith, length-set}
+use Rattle.std.proofs.Common.{◌≡◌, ◌∙◌, ℕ, zero, suc, ◌+◌, ◌%◌, ◌-◌, ◌*◌, ◌^◌, ◌<◌, ◌==◌, ◌&&◌, Bool, true, false, nat_le, if◌then◌else◌, List, [], ◌∷◌, length, Option, Some, None, slice_set, arith, length-set}
 use Rattle.std.specs.Int.{bit_at}
 use Rattle.std.specs.List.{All}
 use Rattle.std.proofs.lemmas.Nat.Bits.{bit_at-lt}
@@ -8,12 +8,13 @@ use Rattle.avr_model.specs.Devices.{words_of, io_end, size_of, has_sph, sp_count
 use Rattle.avr_model.specs.declared.device.Device.{Device}
 use Rattle.avr_model.specs.declared.effect.Write.{Write}
 use Rattle.avr_model.specs.declared.effect.Effect.{Effect}
-use Rattle.avr_model.specs.State.{State, SPL, SPH, SREG, is_sph, sram_at, is_sram, byte_in, read, low, high, plus_sp, minus_sp}
+use Rattle.avr_model.specs.State.{State, REGISTERS, SPL, SPH, SREG, register_at, read_behind, is_sph, sram_at, is_sram, byte_in, read, low, high, plus_sp, minus_sp}
 use Rattle.avr_model.specs.Effects.{back_bytes, pushed_from}
-use Rattle.avr_model.specs.Step.{with_registers, registers_after, sreg_after, sp_after, open_after, enables_after, after}
+use Rattle.avr_model.specs.Step.{with_registers, register_stored, registers_after, sreg_after, sp_after, open_after, enables_after, after}
 use Rattle.avr_model.specs.Vectors.{enable_count, is_ivsel, io_bit, io_byte}
 use Rattle.vector_table.proofs.AllLaws.{numbers_are_their_bits, enables_are_vectors}
 use Rattle.local_rules.specs.Machine.{IsMachine}
+use Rattle.local_laws.proofs.BankSizes.{AreBankWrites, kept_small, banks_set, banks_after}
 use Rattle.local_laws.proofs.Bytes.{byte_in_list}
 use Rattle.local_laws.proofs.Memory.{AreByteWrites, memory_stays}
 
@@ -29,9 +30,9 @@ pub record IsEffect (device : Device) (e : Effect) : Type 0 where
 
 -- ---- the state after such an effect
 
--- 32 registers, each a byte
+-- 34 registers, each a byte
 pub record AreRegisters (registers : List ℕ) : Type 0 where
-  pub count : length registers ≡ 32
+  pub count : length registers ≡ REGISTERS
   pub each : All (λ b. b < 256) registers
 
 set_register : (registers : List ℕ) (r b : ℕ) → b < 256 → AreRegisters registers → AreRegisters (slice_set registers r b)
@@ -41,13 +42,13 @@ pub with_stay : (ws : List Write) (registers : List ℕ) → AreByteWrites ws �
 with_stay [] registers small h = h
 with_stay (w ∷ ws) registers small h = with_stay ws (slice_set registers w.address w.byte) small.1 (set_register registers w.address w.byte small.0 h)
 
-registers_stay : (ws : List Write) (registers : List ℕ) → AreByteWrites ws → AreRegisters registers → AreRegisters (registers_after registers ws)
-registers_stay [] registers small h = h
-registers_stay (w ∷ ws) registers small h = registers_stay ws _ small.1 (here (nat_lt w.address 0x20))
-  where
-    here : (inside : Bool) → AreRegisters (if inside then slice_set registers w.address w.byte else registers)
-    here true = set_register registers w.address w.byte small.0 h
-    here false = h
+stored_stay : (device : Device) (registers : List ℕ) (b : ℕ) (r : Option ℕ) → b < 256 → AreRegisters registers → AreRegisters (register_stored device registers b r)
+stored_stay device registers b None small h = h
+stored_stay device registers b (Some r) small h = set_register registers r _ (kept_small device r b small) h
+
+registers_stay : (device : Device) (ws : List Write) (registers : List ℕ) → AreByteWrites ws → AreRegisters registers → AreRegisters (registers_after device registers ws)
+registers_stay device [] registers small h = h
+registers_stay device (w ∷ ws) registers small h = registers_stay device ws _ small.1 (stored_stay device registers w.byte (register_at device w.address) small.0 h)
 
 chosen : (b : Bool) (bound x y : ℕ) → x < bound → y < bound → (if b then x else y) < bound
 chosen true bound x y h g = h
@@ -97,16 +98,17 @@ enables_stay : (device : Device) (ws : List Write) (enables : ℕ) → enables <
 enables_stay device [] enables h = h
 enables_stay device (w ∷ ws) enables h = enables_stay device ws _ (enables_are_vectors.written device enables w.address w.byte)
 
-pub after_stays : (m : State) (guarded : Bool) (e : Effect) → IsMachine m → IsEffect m.device e → IsMachine (after m guarded e)
-after_stays m guarded e h fits =
+pub after_stays : (m : State) (guarded : Bool) (e : Effect) → IsMachine m → IsEffect m.device e → AreBankWrites m.device e.registers → IsMachine (after m guarded e)
+after_stays m guarded e h fits banked =
     let set_first = with_stay e.registers m.registers fits.registers (record { count = h.count_registers; each = h.register_bytes }) in
-    let registers = registers_stay e.stores (with_registers m.registers e.registers) fits.stores set_first in
+    let registers = registers_stay m.device e.stores (with_registers m.registers e.registers) fits.stores set_first in
     let memory = memory_stays (io_end m.device) (size_of m.device) m.memory guarded (open_after m.device e.is_open e.stores) (sp_after m.device e.sp e.stores) e.stores e.pushes fits.stores fits.pushes
     (record { is = h.below; count_bytes = h.count_bytes; sram_bytes = h.sram_bytes; count_live = h.count_live }) in
     record {
       pc_small = fits.pc;
       count_registers = registers.count;
       register_bytes = registers.each;
+      banks = banks_after m.device e.stores (with_registers m.registers e.registers) (banks_set m.device e.registers m.registers banked h.banks);
       sreg_byte = sreg_stays e.stores e.sreg fits.stores fits.sreg;
       sp_fits = sp_stays m.device e.stores e.sp fits.stores fits.sp;
       enable_bits = enables_stay m.device e.stores e.enables fits.enables;
@@ -151,10 +153,13 @@ high_small false sp h = omega arith
 
 pub read_small : (m : State) (still : Bool) (a input : ℕ) → IsMachine m → input < 256 → read still m a input < 256
 unfolding read
-read_small m still a input h small =
-    chosen (nat_lt a 0x20) 256 _ _ (byte_in_list m.registers a h.register_bytes)
-    (chosen (a == SPL) 256 (low m.sp) _ (omega arith)
-    (chosen (is_sph m.device a) 256 (high m.sp) _ (high_small (has_sph m.device) m.sp h.sp_fits)
-    (chosen (a == SREG) 256 m.sreg _ h.sreg_byte
-    (chosen (nat_le a (io_end m.device)) 256 (io_byte m.device still m.enables a input) _ (io_small m.device still m.enables a input)
-    (chosen (is_sram m.device a) 256 (sram_at m a) input (byte_small m.memory.below m.memory.bytes a h.sram_bytes) small)))))
+read_small m still a input h small = by (register_at m.device a)
+  where
+    by : (r : Option ℕ) → read_behind still m a input r < 256
+    by (Some r) = byte_in_list m.registers r h.register_bytes
+    by None =
+        chosen (a == SPL) 256 (low m.sp) _ (omega arith)
+        (chosen (is_sph m.device a) 256 (high m.sp) _ (high_small (has_sph m.device) m.sp h.sp_fits)
+        (chosen (a == SREG) 256 m.sreg _ h.sreg_byte
+        (chosen (nat_le a (io_end m.device)) 256 (io_byte m.device still m.enables a input) _ (io_small m.device still m.enables a input)
+        (chosen (is_sram m.device a) 256 (sram_at m a) input (byte_small m.memory.below m.memory.bytes a h.sram_bytes) small))))

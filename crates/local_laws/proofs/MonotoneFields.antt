@@ -17,6 +17,11 @@ use Rattle.local_laws.proofs.Sized.{decoded_at}
 abbrev pub InstrFits : Instr → Type 0
 InstrFits (i.Immediate op d n) = (d < 32) × (n < 256)
 InstrFits (i.Binary op d r) = d < 32
+InstrFits (i.Std b q r) = r < 32
+InstrFits (i.Sts a r) = r < 32
+InstrFits (i.St p r) = r < 32
+InstrFits (i.Out a r) = r < 32
+InstrFits (i.Push r) = r < 32
 InstrFits (i.Sbrc r b) = (r < 32) × (b < 8)
 InstrFits (i.Sbrs r b) = (r < 32) × (b < 8)
 InstrFits instr = ⊤
@@ -47,6 +52,9 @@ sixteen p w e = let lt : letter 100 0 p w < 16 = subst (λ (n : ℕ). letter 100
 
 all_registers : (p : List ℕ) (w : ℕ) → bound_of 100 1 p ≡ 32 → letter 100 0 p w < 32
 all_registers p w e = subst (λ (n : ℕ). letter 100 0 p w < n) e (letter_below 100 p w 0 1 (omega arith))
+
+a_source : (p : List ℕ) (w : ℕ) → bound_of 114 1 p ≡ 32 → letter 114 0 p w < 32
+a_source p w e = subst (λ (n : ℕ). letter 114 0 p w < n) e (letter_below 114 p w 0 1 (omega arith))
 
 both : (p : List ℕ) (w : ℕ) → bound_of 100 1 p ≡ 16 → bound_of 75 1 p ≡ 256 → (16 + letter 100 0 p w < 32) × (letter 75 0 p w < 256)
 both p w d k = (sixteen p w d, eight p w k)
@@ -85,7 +93,19 @@ table_fits w next =
     let of_mul = all_registers (places "1001 11rd dddd rrrr") w refl in
     let of_sbrc = bit_of_register (places "1111 110r rrrr 0bbb") w refl refl in
     let of_sbrs = bit_of_register (places "1111 111r rrrr 0bbb") w refl refl in
-    assumption (cpi, sbci, subi, ori, andi, ldi, of_cpc, of_sbc, of_add, of_cpse, of_cp, of_sub, of_adc, of_and, of_eor, of_or, of_mov, of_mul, of_sbrc, of_sbrs)
+    let of_std_z = a_source (places "10q0 qq1r rrrr 0qqq") w refl in
+    let of_std_y = a_source (places "10q0 qq1r rrrr 1qqq") w refl in
+    let of_sts = a_source (places "1001 001r rrrr 0000") w refl in
+    let of_st_1 = a_source (places "1001 001r rrrr 0001") w refl in
+    let of_st_2 = a_source (places "1001 001r rrrr 0010") w refl in
+    let of_st_3 = a_source (places "1001 001r rrrr 1001") w refl in
+    let of_st_4 = a_source (places "1001 001r rrrr 1010") w refl in
+    let of_st_5 = a_source (places "1001 001r rrrr 1100") w refl in
+    let of_st_6 = a_source (places "1001 001r rrrr 1101") w refl in
+    let of_st_7 = a_source (places "1001 001r rrrr 1110") w refl in
+    let of_push = a_source (places "1001 001r rrrr 1111") w refl in
+    let of_out = a_source (places "1011 1AAr rrrr AAAA") w refl in
+    assumption (cpi, sbci, subi, ori, andi, ldi, of_cpc, of_sbc, of_add, of_cpse, of_cp, of_sub, of_adc, of_and, of_eor, of_or, of_mov, of_mul, of_sbrc, of_sbrs, of_std_z, of_std_y, of_sts, of_st_1, of_st_2, of_st_3, of_st_4, of_st_5, of_st_6, of_st_7, of_push, of_out)
 
 rows_fit : (rows : List Row) (w next : ℕ) (instr : Instr) → RowsFit rows w next → decoded_by rows w next ≡ Some instr → InstrFits instr
 rows_fit [] w next instr h e = cc

@@ -14,6 +14,7 @@ use Rattle.avr_model.specs.declared.assumption.Entry.{Entry}
 use Rattle.avr_model.specs.Image.{word_at}
 use Rattle.avr_model.specs.Table.{length_of}
 use Rattle.avr_model.specs.Assumptions.{jump_line, lists}
+use Rattle.avr_model.specs.State.{EIND}
 use Rattle.avr_model.specs.Vectors.{enable_count, held_of}
 use Rattle.bit_domain.specs.declared.bits.Tri.{Tri}
 use Rattle.bit_domain.specs.declared.bits.Tri.TheVariants.{Zero, One, Any}
@@ -45,9 +46,9 @@ use Rattle.vector_table.proofs.AllLaws.{enables_are_vectors}
 use Rattle.local_rules.specs.declared.local.Exit.{Exit}
 use Rattle.local_rules.specs.declared.local.NodeFault.TheVariants.{UnresolvedJump, UntrackedSp, TooDeep}
 use Rattle.local_rules.specs.Raw.{Raw, moves_to, fails, enters, untracked_if, all_of, at_word, off_table, turning_to, further, next}
-use Rattle.local_rules.specs.Registers.{value, set, carry_bit}
+use Rattle.local_rules.specs.Registers.{value, bits, set, carry_bit}
 use Rattle.local_rules.specs.Reads.{value_of}
-use Rattle.local_rules.specs.Flow.{branch, branch_by, skipping, reading_zero, flag_at, part_of, with_value, where_carry, going_where, carry_branch, flag_branch, words_on, targets_by, z_with, targets_at, jumping, is_half_written, at_closed, pushed_slot, pushing, popping, making_room, site, calling, indirect_call, relative_call, returning}
+use Rattle.local_rules.specs.Flow.{branch, branch_by, skipping, reading_zero, flag_at, part_of, with_value, where_carry, going_where, carry_branch, flag_branch, words_on, targets_by, z_with, targets_at, far_targets_at, jumping, is_half_written, at_closed, pushed_slot, pushing, popping, making_room, site, calling, indirect_call, relative_call, returning}
 use Rattle.local_laws.proofs.Members.{in_map, each_in_map, filter_more, filter_passes, not_empty, any_more}
 use Rattle.local_laws.proofs.MonotoneValues.{IsLess, IsSlotLess, AreSlotsLess, IsStateLess, free_less, any_bit_within, registers_set}
 use Rattle.local_laws.proofs.MonotoneRaw.{IsKeyPlace, LeadsLess, nodes_at, fails_less, untracked_less, if_leads, nowhere_less, above_first, above_rest, none_less, both_less, turning_less, several_less, one_less, choose, choose_more, choose_each, enters_less, leaves_less, further_small, off_table_key}
@@ -451,11 +452,22 @@ module _ (device : Device) (k : NodeKey) (at : IsKey device k) (s t : AbsState) 
       words_targets device (z_with s (byte_known 0)) (z_with t (byte_known 0)) (reg_bits device k at s t le 30) (reg_bits device k at s t le 31) (same_within (byte_known 0))
       (jump_line A k.pc)
 
+  far_targets : (A : List Entry) → AreTargetsLess (limit_of device) (far_targets_at A (site_at device k s)) (far_targets_at A (site_at device k t))
+  far_targets A =
+      words_targets device (z_with s (bits s EIND)) (z_with t (bits t EIND)) (reg_bits device k at s t le 30) (reg_bits device k at s t le 31) (reg_bits device k at s t le EIND)
+      (jump_line A k.pc)
+
   pub jump_less : (A : List Entry) → LeadsLess device k.inst (jumping (targets_at A (site_at device k s)) k s) (jumping (targets_at A (site_at device k t)) k t)
   jump_less A = jumping_by (targets_at A (site_at device k s)) (targets_at A (site_at device k t)) (targets A)
 
+  pub far_jump_less : (A : List Entry) → LeadsLess device k.inst (jumping (far_targets_at A (site_at device k s)) k s) (jumping (far_targets_at A (site_at device k t)) k t)
+  far_jump_less A = jumping_by (far_targets_at A (site_at device k s)) (far_targets_at A (site_at device k t)) (far_targets A)
+
   pub indirect_less : (A : List Entry) → LeadsLess device k.inst (indirect_call device (targets_at A (site_at device k s)) k) (indirect_call device (targets_at A (site_at device k t)) k)
   indirect_less A = indirect_by (targets_at A (site_at device k s)) (targets_at A (site_at device k t)) (targets A)
+
+  pub far_indirect_less : (A : List Entry) → LeadsLess device k.inst (indirect_call device (far_targets_at A (site_at device k s)) k) (indirect_call device (far_targets_at A (site_at device k t)) k)
+  far_indirect_less A = indirect_by (far_targets_at A (site_at device k s)) (far_targets_at A (site_at device k t)) (far_targets A)
 
   slots_at : (offset : ℕ) → k.sp ≡ Closed offset → AreSlotsLess kind offset s.slots t.slots
   slots_at offset e = subst (λ (n : ℕ). AreSlotsLess kind n s.slots t.slots) (ap offset_of e) le.slots

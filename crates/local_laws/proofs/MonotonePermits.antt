@@ -14,7 +14,7 @@ use Rattle.abs_state.specs.declared.values.AbsByte.{AbsByte}
 use Rattle.abs_state.specs.declared.state.AbsState.{AbsState}
 use Rattle.abs_state.specs.Order.{IsByteWithin}
 use Rattle.local_rules.specs.Registers.{value}
-use Rattle.local_rules.specs.Permitted.{may_be, is_between, is_in_interval, permits_number}
+use Rattle.local_rules.specs.Permitted.{may_be, is_between, is_in_interval, permits_bytes, permits_number}
 use Rattle.local_laws.proofs.MonotoneValues.{bit_within}
 
 pub and_more : (a b c d : Bool) → (a ≡ true → c ≡ true) → (b ≡ true → d ≡ true) → a && b ≡ true → c && d ≡ true
@@ -26,7 +26,7 @@ pub has_more : (b c : TriByte) (x : ℕ) → IsWithin b c → has b x ≡ true �
 has_more b c x le e =
     (tests_tell_members.bytes c x).1 (λ i lt. bit_within b c i lt le (bit_at x i) ((tests_tell_members.bytes b x).0 e i lt))
 
-may_more : (v w : AbsByte) (x : ℕ) → IsByteWithin v w → may_be v x ≡ true → may_be w x ≡ true
+pub may_more : (v w : AbsByte) (x : ℕ) → IsByteWithin v w → may_be v x ≡ true → may_be w x ≡ true
 may_more v w x le =
     and_more _ _ _ _
     (and_more _ _ _ _ (has_more v.bits w.bits x le.bits) (λ (e : nat_le v.low x ≡ true). let is : nat_le w.low x ≡ true = grind (arith, nat_tests, le.low) in is))
@@ -50,8 +50,13 @@ pub record IsPairWithin (s t : AbsState) (r : ℕ) : Type 0 where
   pub high : IsByteWithin (value s (r + 1)) (value t (r + 1))
   pub facts : IsKnownWithin s.facts t.facts
 
+-- by bits and ranges alone
+pub bytes_more : (s t : AbsState) (r p : ℕ) → IsByteWithin (value s r) (value t r) → IsByteWithin (value s (r + 1)) (value t (r + 1)) → permits_bytes s r p ≡ true
+    → permits_bytes t r p ≡ true
+bytes_more s t r p lo hi = and_more _ _ _ _ (may_more (value s r) (value t r) (low p) lo) (may_more (value s (r + 1)) (value t (r + 1)) (high p) hi)
+
 pub permits_more : (s t : AbsState) (r p : ℕ) → IsPairWithin s t r → permits_number s r p ≡ true → permits_number t r p ≡ true
 permits_more s t r p le =
     and_more _ _ _ _
-    (and_more _ _ _ _ (may_more (value s r) (value t r) (low p) le.low) (may_more (value s (r + 1)) (value t (r + 1)) (high p) le.high))
+    (bytes_more s t r p le.low le.high)
     (interval_more s.facts t.facts r p le.there le.facts)

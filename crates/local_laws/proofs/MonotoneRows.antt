@@ -16,6 +16,7 @@ use Rattle.avr_model.specs.declared.operation.Mul.TheVariants as product
 use Rattle.avr_model.specs.Assumptions.{is_frame, has_scratch}
 use Rattle.avr_model.specs.Masks.{reads_masks}
 use Rattle.avr_model.specs.Text.{far, near}
+use Rattle.avr_model.specs.State.{RAMPZ}
 use Rattle.avr_model.specs.Sites.{base_register, pointer_register}
 use Rattle.avr_model.specs.Effects.{port}
 use Rattle.bit_domain.specs.declared.bits.Tri.TheVariants.{Zero, One}
@@ -32,17 +33,19 @@ use Rattle.local_rules.specs.Raw.{Raw, at_word, next, further}
 use Rattle.local_rules.specs.HighBytes.{view_by}
 use Rattle.local_rules.specs.Registers.{value, bits, carry_bit, set, less_than, less_kept, or_nothing, pair_moved, going_by, binary_after}
 use Rattle.local_rules.specs.FrameLines.{is_followed, framed_binary}
-use Rattle.local_rules.specs.Reads.{read_at, pair_constant, kept_bits}
+use Rattle.local_rules.specs.Reads.{read_at, pair_constant, kept_bits, flash_value}
+use Rattle.local_rules.specs.Banks.{extended_constant}
 use Rattle.local_rules.specs.Flow.{skipping, reading_zero, flag_at, ret_exit, reti_exit}
-use Rattle.local_rules.specs.Local.{step_before, pointer_moved, bit_row, row_of}
-use Rattle.local_laws.proofs.MonotoneValues.{unknown_same, AreRegistersLess, IsStateLess, any_bit_within, constant_is, constant_tells, untagged_less, registers_set}
+use Rattle.local_rules.specs.Local.{step_before, pointer_moved, extended_moved, bit_row, row_of}
+use Rattle.local_laws.proofs.MonotoneValues.{IsLess, AreRegistersLess, IsStateLess, any_bit_within, constant_is, constant_tells, untagged_less, registers_set}
 use Rattle.local_laws.proofs.MonotoneRaw.{LeadsLess, further_small, wrapped_small, word_key, next_key, going_less, on_less, setting_less}
 use Rattle.local_laws.proofs.MonotoneAlu.{with_7, pair_set, reg, reg_bits, flag_bits, kept_flags, setting_flags, setting_register, sum_less, compare_less, sub_less, sbc_less, or_nothing_within, logic_less, than_of, than_within, kept_of, kept_within, product_less, pair_less, wide_less, flag_less as one_flag_less}
 use Rattle.local_laws.proofs.FrameMonotone.{add_less, adc_less, framed_sub_less, immediate_line_less, unary_line_less}
 use Rattle.local_laws.proofs.MonotonePermits.{IsPairWithin}
 use Rattle.local_laws.proofs.MonotoneReads.{flash_less, read_less, constants, pointed_constants, pointed_frames, pointer_read, loading_less}
+use Rattle.local_laws.proofs.MonotoneBanks.{extended_tells, stepped_less}
 use Rattle.local_laws.proofs.MonotoneWrites.{write_less, pointer_less}
-use Rattle.local_laws.proofs.MonotoneFlow.{calling_less, here, zero_place, branch_less, flag_less, skipping_less, flag_within, jump_less, indirect_less, push_less, relative_less, pop_less, return_less}
+use Rattle.local_laws.proofs.MonotoneFlow.{calling_less, here, zero_place, branch_less, flag_less, skipping_less, flag_within, jump_less, indirect_less, far_jump_less, far_indirect_less, push_less, relative_less, pop_less, return_less}
 use Rattle.local_laws.proofs.MonotoneFields.{InstrFits}
 use Rattle.local_rules.specs.Site.{Task, site_at}
 use Rattle.local_rules.specs.Local.{equal_skip}
@@ -153,6 +156,16 @@ module _ (device : Device) (task : Task) (k : NodeKey) (at : IsKey device k) (s 
   pub pair_less_at : (r : ℕ) → r < 32 → IsPairWithin s t r
   pair_less_at r there = record { there = there; low = (reg device k at s t le r).within; high = (reg device k at s t le (r + 1)).within; facts = le.facts.within }
 
+  -- the byte of flash at the address in RAMPZ and Z
+  far_byte_less : IsLess kind (flash_value task.flash (extended_constant s)) (flash_value task.flash (extended_constant t))
+  far_byte_less = flash_less kind task.flash (extended_constant s) (extended_constant t) (extended_tells device k at s t le)
+
+  -- Z and RAMPZ behind Z+
+  extended_less : AreRegistersLess kind (extended_moved (site_at device k s)) (extended_moved (site_at device k t))
+  extended_less =
+      registers_set kind (pair_moved (view_by device k) s 30 true 1) (pair_moved (view_by device k) t 30 true 1) (pair_less device k at s t le 30 true 1) RAMPZ _ _
+      (stepped_less device k at s t le)
+
   -- ---- the whole table
 
   pub row_less : (scratch : Bool) (instr : Instr) → InstrFits instr → LeadsLess device k.inst (row_of task scratch (site_at device k s) instr) (row_of task scratch (site_at device k t) instr)
@@ -204,11 +217,11 @@ module _ (device : Device) (task : Task) (k : NodeKey) (at : IsKey device k) (s 
       (registers_set kind (pair_moved (view_by device k) s 30 true 1) (pair_moved (view_by device k) t 30 true 1) (pair_less device k at s t le 30 true 1) d _ _
       (flash_less kind task.flash (pair_constant s 30) (pair_constant t 30) (constants device k at s t le 30))) le.flags
   row_less scratch i.Lpm fits = setting_register device k at s t le 0 _ _ (flash_less kind task.flash (pair_constant s 30) (pair_constant t 30) (constants device k at s t le 30))
-  row_less scratch (i.ElpmZ d) fits = setting_register device k at s t le d _ _ (unknown_same kind)
+  row_less scratch (i.ElpmZ d) fits = setting_register device k at s t le d _ _ far_byte_less
   row_less scratch (i.ElpmZPlus d) fits =
       setting_less device k at s t le _ _ s.flags t.flags
-      (registers_set kind (pair_moved (view_by device k) s 30 true 1) (pair_moved (view_by device k) t 30 true 1) (pair_less device k at s t le 30 true 1) d _ _ (unknown_same kind)) le.flags
-  row_less scratch i.Elpm fits = setting_register device k at s t le 0 _ _ (unknown_same kind)
+      (registers_set kind (extended_moved (site_at device k s)) (extended_moved (site_at device k t)) extended_less d _ _ far_byte_less) le.flags
+  row_less scratch i.Elpm fits = setting_register device k at s t le 0 _ _ far_byte_less
   row_less scratch (i.Pop d) fits = pop_less device k at s t le d
   row_less scratch (i.Push r) fits = push_less device k at s t le (scratch || has_scratch task.assumptions k.pc) r
   row_less scratch (i.In d a) fits = setting_register device k at s t le d _ _ (read_less device may k at s t le (port a))
@@ -217,6 +230,8 @@ module _ (device : Device) (task : Task) (k : NodeKey) (at : IsKey device k) (s 
   row_less scratch (i.Sbi a b) fits = bit_less (port a) b true
   row_less scratch i.Ijmp fits = jump_less device k at s t le task.assumptions
   row_less scratch i.Icall fits = indirect_less device k at s t le task.assumptions
+  row_less scratch i.Eijmp fits = far_jump_less device k at s t le task.assumptions
+  row_less scratch i.Eicall fits = far_indirect_less device k at s t le task.assumptions
   row_less scratch i.Ret fits = return_less device k at s t le (ret_exit k)
   row_less scratch i.Reti fits = return_less device k at s t le (reti_exit k)
   row_less scratch (i.Jmp target) fits = going_less device k at s t le (wrapped device target) (wrapped_small device target)

@@ -1,5 +1,6 @@
 -- A node, with pairs or without, and split or not, is monotone.
-use Rattle.std.proofs.Common.{◌≡◌, refl, sym, subst, ap, ◌∙◌, ℕ, ◌<◌, ◌≤◌, Bool, true, false, length, map, Option, Some, None, if◌then◌else◌, Contains, arith, nat_lt, nat_le}
+use Rattle.std.proofs.Common.{◌≡◌, refl, sym, subst, ap, ◌∙◌, ℕ, ◌<◌, ◌≤◌, ⊎_elim, Bool, true, false, length, map, Option, Some, None, if◌then◌else◌, Contains, arith, nat_lt, nat_le}
+use Rattle.std.proofs.lemmas.Bool.{cases_eq}
 use Rattle.std.proofs.lemmas.Bool.Decides.{nat_tests}
 use Rattle.basics.specs.Booleans.{all_three}
 use Rattle.basics.specs.Items.{none_in}
@@ -7,40 +8,40 @@ use Rattle.avr_model.specs.Devices.{Image, size_of, words_of, device_of}
 use Rattle.avr_model.specs.declared.device.Device.{Device}
 use Rattle.avr_model.specs.declared.instruction.Instr.{Instr}
 use Rattle.avr_model.specs.Sites.{instruction_at, is_scratch}
-use Rattle.avr_model.specs.Written.{written}
-use Rattle.bit_domain.specs.TriByte.{has}
+use Rattle.avr_model.specs.State.{RAMPZ, EIND}
+use Rattle.bit_domain.specs.TriByte.{has, byte_known}
 use Rattle.bit_domain.proofs.AllLaws.{tests_tell_members}
 use Rattle.pair_domain.specs.declared.facts.PairFacts.{PairFacts}
 use Rattle.pair_domain.specs.Facts.{IsKnownWithin, is_followed}
 use Rattle.abs_state.specs.declared.values.AbsByte.{AbsByte}
 use Rattle.abs_state.specs.declared.state.AbsState.{AbsState}
 use Rattle.abs_state.specs.Order.{IsByteWithin, IsStateWithin}
-use Rattle.abs_state.specs.FlagsSet.{sets_flags, sets_carry}
+use Rattle.abs_state.specs.Banks.{IsBankIn, IsStateOf, is_tag_of}
+use Rattle.abs_state.specs.Values.{with_bits}
 use Rattle.abs_state.proofs.AllLaws.{states_are_ordered}
+use Rattle.pair_cuts.specs.Cuts.{with_index, pick_cut}
 use Rattle.pair_rules.specs.Fits.{HasRegisters}
-use Rattle.pair_laws.proofs.AllLaws.{operands_fit}
+use Rattle.pair_laws.proofs.AllLaws.{operands_fit, picks_are_cut}
 use Rattle.abs_state.specs.Cuts.{cut_known}
 use Rattle.pair_domain.specs.PairSets as pairs
-use Rattle.pair_cuts.specs.Cuts.{with_index, pick_cut}
-use Rattle.pair_cut_laws.proofs.AllLaws.{picks_are_cut}
 use Rattle.node_keys.specs.declared.keys.NodeKey.{NodeKey}
-use Rattle.node_keys.specs.Keys.{offset_of}
+use Rattle.node_keys.specs.Keys.{offset_of, is_root}
 use Rattle.local_rules.specs.declared.local.NodeFault.TheVariants.{UnresolvedJump, Unsupported}
 use Rattle.local_rules.specs.Raw.{Raw, nowhere, fails, all_of}
-use Rattle.local_rules.specs.Registers.{value, before}
+use Rattle.local_rules.specs.Registers.{value}
 use Rattle.local_rules.specs.Local.{row_at, row_by, row_in, is_hung, fetched, below, picks, picking, picked_row, split_site, splitting, raw}
 use Rattle.local_rules.specs.Permitted.{may_be}
 use Rattle.local_rules.specs.Cover.{IsNodeIn}
-use Rattle.local_laws.proofs.Bare.{IsBare, bare, node_of, bare_key}
+use Rattle.local_laws.proofs.Bare.{IsBare, bare, node_of}
 use Rattle.local_laws.proofs.Members.{fewer}
 use Rattle.local_laws.proofs.MonotoneFields.{InstrFits, fetched_fits}
 use Rattle.local_laws.proofs.MonotoneRaw.{LeadsLess, fails_less, untracked_less, too_deep_less, filtered_less}
-use Rattle.local_laws.proofs.MonotoneRows.{row_less}
-use Rattle.local_laws.proofs.MonotoneValues.{IsStateLess, node_less, less_node, forgetting_both}
+use Rattle.local_laws.proofs.MonotoneValues.{IsStateLess, set_same, set_other, node_less, less_node}
 use Rattle.local_laws.proofs.PairedCover.{left_bare}
 use Rattle.local_laws.proofs.PairedMonotone.{paired_less}
 use Rattle.local_laws.proofs.Picks.{below_small, picked_less, splits_at, at_quiet}
 use Rattle.local_laws.proofs.Quiet.{Quiet}
+use Rattle.local_laws.proofs.SettledMonotone.{plain_less}
 use Rattle.local_rules.specs.Site.{Task, site_at}
 
 -- an instruction of flash names registers
@@ -60,9 +61,7 @@ module _ {followed : Bool} (task : Task) (k : NodeKey) (s t : AbsState) (a : IsN
 
   row_by_less : (scratch : Bool) (instr : Instr) → InstrFits instr → HasRegisters instr → (f g : Option PairFacts) → s.facts ≡ f → t.facts ≡ g
       → LeadsLess (device_of task.flash) k.inst (row_by f task scratch (site_at (device_of task.flash) k s) instr) (row_by g task scratch (site_at (device_of task.flash) k t) instr)
-  row_by_less scratch instr fits has None None e e' =
-      row_less (device_of task.flash) task k (bare_key k s low) (before instr s) (before instr t)
-      (forgetting_both k.inst.kind (offset_of k.sp) (written instr) (sets_flags instr) (sets_carry instr) s t (node_less k s t low high within)) scratch instr fits
+  row_by_less scratch instr fits has None None e e' = plain_less (device_of task.flash) task k s t low high within scratch instr fits
   row_by_less scratch instr fits has None (Some g) e e' =
       let no : false ≡ true = sym (ap is_followed e) ∙ a.mode ∙ sym b.mode ∙ ap is_followed e' in absurd (cc)
   row_by_less scratch instr fits has (Some f) None e e' =
@@ -104,10 +103,25 @@ module _ {device : Device} {followed : Bool} (k : NodeKey) (byte : ℕ) (small :
       ap (λ (v : AbsState). is_followed v.facts) eq ∙ ap is_followed is
   picked_mode u e (Some f) is = mode_within u.facts s.facts (picks_are_cut.leaves byte s u (offset_of k.sp) a.formed e).within.facts (ap is_followed is)
 
+  -- the device says the same of the state with the byte
+  index_of : IsStateOf device (is_root k.inst.kind) (with_index byte s)
+  index_of =
+      let tags = a.registers_of in
+      let v : AbsByte = with_bits (value s 30).tag (byte_known byte) in
+      record {
+        registers = λ r lt. ⊎_elim
+            (λ same. ap (λ (w : AbsByte). is_tag_of device w.tag) (set_same s.registers 30 r v same (omega (arith, a.formed.count_registers))) ∙ tags.registers 30 (omega arith))
+            (λ other. ap (λ (w : AbsByte). is_tag_of device w.tag) (set_other s.registers 30 r v other) ∙ tags.registers r lt)
+            (cases_eq r 30);
+        slots = tags.slots;
+        rampz = subst (IsBankIn (is_tag_of device) device (is_root k.inst.kind) RAMPZ) (sym (set_other s.registers 30 RAMPZ v (omega arith))) tags.rampz;
+        eind = subst (IsBankIn (is_tag_of device) device (is_root k.inst.kind) EIND) (sym (set_other s.registers 30 EIND v (omega arith))) tags.eind;
+      }
+
   pub picked_node : (u : AbsState) → pick_cut byte s ≡ Some u → IsNodeIn device followed (picking k byte) u
   picked_node u e =
       node_of (picking k byte) u (left_bare (picking k byte) (with_index byte s) u index_bare (picks_are_cut.leaves byte s u (offset_of k.sp) a.formed e))
-      (picked_mode u e s.facts refl ∙ a.mode) (picks_are_cut.hulls byte s u (offset_of k.sp) a.formed a.hulls e)
+      ((picks_are_cut.leaves byte s u (offset_of k.sp) a.formed e).of (is_tag_of device) device (is_root k.inst.kind) index_of) (picked_mode u e s.facts refl ∙ a.mode) (picks_are_cut.hulls byte s u (offset_of k.sp) a.formed a.hulls e)
 
 module _ {followed : Bool} (task : Task) (k : NodeKey) (s t : AbsState) (a : IsNodeIn (device_of task.flash) followed k s) (b : IsNodeIn (device_of task.flash) followed k t) (within : IsStateWithin s t) where
   -- the row with one byte picked

@@ -38,6 +38,7 @@ use Rattle.node_keys.specs.declared.keys.Kind.TheVariants.{Root}
 use Rattle.node_keys.specs.Keys.{offset_of, PickFits}
 use Rattle.avr_model.specs.declared.device.Device.{Device}
 use Rattle.avr_model.specs.Devices.{limit_of, depth_of}
+use Rattle.avr_model.specs.State.{REGISTERS}
 use Rattle.avr_model.specs.Vectors.{enable_count}
 use Rattle.local_rules.specs.Registers.{forgetting}
 use Rattle.local_rules.specs.Cover.{FormFits}
@@ -67,8 +68,8 @@ pub record AreFlagsLess (kind : Kind) (f g : AbsFlags) : Type 0 where
   pub no_carry : kind ≡ Root → CarryIsUntagged f.carry
 
 pub record AreRegistersLess (kind : Kind) (vs ws : List AbsByte) : Type 0 where
-  pub count : length vs ≡ 32
-  pub others : length ws ≡ 32
+  pub count : length vs ≡ REGISTERS
+  pub others : length ws ≡ REGISTERS
   pub each : (r : ℕ) → IsLess kind (value_at vs r) (value_at ws r)
 
 abbrev pub IsSlotOf : Kind → Slot AbsByte → Type 0
@@ -184,14 +185,18 @@ range_less kind v w h =
 pub known_same : (kind : Kind) (n : ℕ) → IsLess kind (known n) (known n)
 known_same kind n = untagged_less kind (byte_known n) (byte_known n) (same_within (byte_known n))
 
-pub below_unknown : (kind : Kind) (v : AbsByte) → IsTagOf kind v.tag → ByteFits v → IsLess kind v unknown
-below_unknown kind v h fit =
-    let wide = ranges_hold.bits_within v.bits byte_any (below_any v.bits) in
+-- a value is below each byte of greater bits without a tag
+pub below_bits : (kind : Kind) (v : AbsByte) (b : TriByte) → IsTagOf kind v.tag → ByteFits v → IsWithin v.bits b → IsLess kind v (untagged b)
+below_bits kind v b h fit le =
+    let wide = ranges_hold.bits_within v.bits b le in
     record {
-      within = record { tag = tt; bits = below_any v.bits; low = omega (arith, wide.low, fit.low); high = omega (arith, wide.high, fit.high) };
+      within = record { tag = tt; bits = le; low = omega (arith, wide.low, fit.low); high = omega (arith, wide.high, fit.high) };
       good = h;
       ranged = fit;
     }
+
+pub below_unknown : (kind : Kind) (v : AbsByte) → IsTagOf kind v.tag → ByteFits v → IsLess kind v unknown
+below_unknown kind v h fit = below_bits kind v byte_any h fit (below_any v.bits)
 
 pub if_less : (kind : Kind) (b : Bool) (v v' w w' : AbsByte) → IsLess kind v w → IsLess kind v' w' → IsLess kind (if b then v else v') (if b then w else w')
 if_less kind true v v' w w' h k = h
@@ -215,10 +220,10 @@ module _ (kind : Kind) (vs ws : List AbsByte) (le : AreRegistersLess kind vs ws)
         count = length-set vs d v ∙ le.count;
         others = length-set ws d w ∙ le.others;
         each = λ r. ⊎_elim (inside r) (λ over. subst₂ (IsLess kind) (sym (set_past vs d r v (omega (arith, le.count)))) (sym (set_past ws d r w (omega (arith, le.others)))) (unknown_same kind))
-            (cases_lt r 32);
+            (cases_lt r REGISTERS);
       }
     where
-      inside : (r : ℕ) → r < 32 → IsLess kind (value_at (slice_set vs d v) r) (value_at (slice_set ws d w) r)
+      inside : (r : ℕ) → r < REGISTERS → IsLess kind (value_at (slice_set vs d v) r) (value_at (slice_set ws d w) r)
       inside r lt =
           ⊎_elim
           (λ same. subst₂ (IsLess kind) (sym (set_same vs d r v same (omega (arith, le.count)))) (sym (set_same ws d r w same (omega (arith, le.others)))) h)
@@ -232,7 +237,7 @@ free_less kind = record { within = tt; good = tt }
 
 -- ---- states of nodes
 
-register_tags : (kind : Kind) (s : AbsState) (offset : ℕ) → IsFormed s offset → TagsFit s → (kind ≡ Root → IsUntagged s) → (r : ℕ) → r < 32 → IsTagOf kind (value_at s.registers r).tag
+register_tags : (kind : Kind) (s : AbsState) (offset : ℕ) → IsFormed s offset → TagsFit s → (kind ≡ Root → IsUntagged s) → (r : ℕ) → r < REGISTERS → IsTagOf kind (value_at s.registers r).tag
 register_tags kind s offset formed fit untagged r lt =
     record { names = formed.registers r lt; fits = fit.registers r lt; none = λ root. (untagged root).registers r lt }
 
@@ -266,7 +271,7 @@ node_less k s t a b le =
             (λ lt. record { within = le.registers r lt; good = register_tags k.inst.kind s (offset_of k.sp) a.formed a.tags a.untagged r lt; ranged = a.formed.ranges r lt })
             (λ over. subst₂ (IsLess k.inst.kind) (sym (get_or_past s.registers r unknown (omega (arith, a.formed.count_registers)))) (sym (get_or_past t.registers r unknown (omega (arith, b.formed.count_registers))))
             (unknown_same k.inst.kind))
-            (cases_lt r 32);
+            (cases_lt r REGISTERS);
       };
       flags = record {
         within = le.flags;

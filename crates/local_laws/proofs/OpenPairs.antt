@@ -16,7 +16,7 @@ use Rattle.avr_model.specs.Assumptions.{is_fixed_site, is_frame, has_scratch, st
 use Rattle.avr_model.specs.Image.{word_at}
 use Rattle.avr_model.specs.Table.{length_of}
 use Rattle.avr_model.specs.Sites.{is_scratch}
-use Rattle.avr_model.specs.State.{SPL, SREG, is_sph}
+use Rattle.avr_model.specs.State.{SPL, SREG, register_at, is_sph}
 use Rattle.avr_model.specs.Text.{far, near}
 use Rattle.bit_domain.specs.declared.bits.Tri.{Tri}
 use Rattle.bit_domain.specs.declared.bits.Tri.TheVariants.{Zero, One, Any}
@@ -43,14 +43,15 @@ use Rattle.local_rules.specs.declared.local.NodeFault.TheVariants.{UnresolvedJum
 use Rattle.local_rules.specs.Raw.{Raw, nowhere, one, fails, moves_to, enters, all_of, at_word, off_table, next, further, untracked_if, too_deep_if}
 use Rattle.local_rules.specs.FrameLines.{binary_at}
 use Rattle.local_rules.specs.Registers.{bits, carry_bit, before, going_by, interrupts_row, flag_row}
-use Rattle.local_rules.specs.Writes.{opening, closing, with_i, sreg_written, written_at, fixed_write, listed_writes, may_wake, waking, pointer_write, high_part, closing_offset, flags_written, put_flags, reaches}
-use Rattle.local_rules.specs.Flow.{branch_by, where_carry, going_where, carry_branch, flag_branch, skipping, jumping, at_closed, pushing, popping, making_room, is_half_written, indirect_call, relative_call, returning, targets_at, ret_exit, reti_exit}
-use Rattle.local_rules.specs.Local.{loading, pointer_moved, row_of, plain_row, row_by, row_at, row_in, cut_branch, cut_skip, paired_branch, paired_row, paired_binary, refined_nodes, refining, node_where, storing, fetched, is_hung, picks, picking, picked_row, split_site, splitting, raw}
+use Rattle.local_rules.specs.Writes.{opening, closing, with_i, sreg_written, written_behind, written_at, fixed_write, listed_writes, may_wake, waking, pointer_write, high_part, closing_offset, flags_written, put_flags, reaches}
+use Rattle.local_rules.specs.Flow.{branch_by, where_carry, going_where, carry_branch, flag_branch, skipping, jumping, at_closed, pushing, popping, making_room, is_half_written, indirect_call, relative_call, returning, targets_at, far_targets_at, ret_exit, reti_exit}
+use Rattle.local_rules.specs.Local.{loading, pointer_moved, row_of, plain_row, row_by, row_at, row_in, cut_branch, cut_skip, paired_branch, paired_row, paired_binary, refined_nodes, refining, refined_if, storing, fetched, is_hung, picks, picking, picked_row, split_site, splitting, raw}
 use Rattle.local_laws.specs.Laws.{OpenPairsStay}
 use Rattle.local_laws.proofs.Members.{each_of, each_in_map}
 use Rattle.local_rules.specs.Site.{Task, site_at}
 use Rattle.local_rules.specs.Writes.{write_at}
-use Rattle.local_rules.specs.HighBytes.{view_by}
+use Rattle.local_rules.specs.HighBytes.{SpView, view_by}
+use Rattle.local_rules.specs.Settling.{settled_state, node_where, settled_nodes, settling}
 use Rattle.local_rules.specs.Reads.{pointed}
 use Rattle.local_rules.specs.Local.{zeroing}
 use Rattle.avr_model.specs.Effects.{port}
@@ -183,6 +184,17 @@ module _ (n : ℕ) where
       (stay_refined image instr s xs (λ y i. h y (further_in x y xs i)) to)
       (Contains-append_cases (node_where x.key (refined (marks image) image instr s x.state)) (refined_nodes image instr s xs) to j)
 
+  -- where high bytes are settled
+
+  stay_settled : (view : SpView) (nodes : List Node) → ((to : Node) → Contains nodes to → IsStaying to) → (to : Node) → Contains (settled_nodes view nodes) to → IsStaying to
+  stay_settled view [] h to j = stay_none to j
+  stay_settled view (x ∷ xs) h to j =
+      ⊎_elim (stay_node x.key (settled_state view x.state) (h x (first_in x xs)) to) (stay_settled view xs (λ y i. h y (further_in x y xs i)) to)
+      (Contains-append_cases (node_where x.key (settled_state view x.state)) (settled_nodes view xs) to j)
+
+  stay_settling : (view : SpView) (r : Raw) → AllStay r → AllStay (settling view r)
+  stay_settling view r h = stay_settled view r.moves h
+
   stay_refining : (image : Image) (instr : Instr) (s : AbsState) (r : Raw) → AllStay r → AllStay (refining image instr s r)
   stay_refining image instr s r h = stay_refined image instr s r.moves h
 
@@ -214,12 +226,15 @@ module _ (k : NodeKey) where
 
   stay_written : (device : Device) (pc : ℕ) (s : AbsState) (is_out : Bool) (a : ℕ) (v : AbsByte) → FromKey k (written_at (write_at device pc k s v) is_out a)
   unfolding written_at
-  stay_written device pc s is_out a v =
-      stay_if at (nat_lt a 0x20) _ _ (same _)
-      (stay_if at (a == SPL) _ _ (stay_closing device (closing_offset device k.inst.kind k.sp v) s pc)
-      (stay_if at (is_sph device a) _ _ (stay_opening (high_part k.inst.kind v) s pc)
-      (stay_if at (a == SREG) _ _ (stay_sreg (tri_at v.bits 7) (put_flags s (flags_written v)) is_out)
-      (each_in_map (λ m. record { key = record k { masks = m }; state = s }) (IsStaying at) (splits device k.masks a v.bits) (λ m i. itself k.sp)))))
+  stay_written device pc s is_out a v = behind (register_at device a)
+    where
+      behind : (r : Option ℕ) → FromKey k (written_behind (write_at device pc k s v) is_out a r)
+      behind (Some r) = same _
+      behind None =
+          stay_if at (a == SPL) _ _ (stay_closing device (closing_offset device k.inst.kind k.sp v) s pc)
+          (stay_if at (is_sph device a) _ _ (stay_opening (high_part k.inst.kind v) s pc)
+          (stay_if at (a == SREG) _ _ (stay_sreg (tri_at v.bits 7) (put_flags s (flags_written v)) is_out)
+          (each_in_map (λ m. record { key = record k { masks = m }; state = s }) (IsStaying at) (splits device k.masks a v.bits) (λ m i. itself k.sp))))
 
   stay_fixed : (device : Device) (a : Option ℕ) (pc : ℕ) (s : AbsState) (v : AbsByte) → FromKey k (fixed_write a (write_at device pc k s v))
   stay_fixed device None pc s v = stay_none at
@@ -289,6 +304,8 @@ module _ (device : Device) (task : Task) (scratch : Bool) (k : NodeKey) where
   row_stays s (i.Sbi a b) = stay_written (next device k) device k.pc s false _ _
   row_stays s i.Ijmp = stay_jumping place (targets_at task.assumptions (site_at device k s)) k s held
   row_stays s i.Icall = stay_indirect place device (targets_at task.assumptions (site_at device k s)) k
+  row_stays s i.Eijmp = stay_jumping place (far_targets_at task.assumptions (site_at device k s)) k s held
+  row_stays s i.Eicall = stay_indirect place device (far_targets_at task.assumptions (site_at device k s)) k
   row_stays s i.Ret = stay_closed place k.sp k.pc _ (stay_returning place (ret_exit k) k.pc k.inst.kind)
   row_stays s i.Reti = stay_closed place k.sp k.pc _ (stay_returning place (reti_exit k) k.pc k.inst.kind)
   row_stays s (i.Jmp target) = stay_one place _ _ held
@@ -306,6 +323,9 @@ module _ (device : Device) (task : Task) (scratch : Bool) (k : NodeKey) where
   row_stays s i.Break = stay_one place _ _ held
   row_stays s i.Wdr = stay_one place _ _ held
 
+  plain_stays : (s : AbsState) (instr : Instr) → FromKey k (plain_row task scratch (site_at device k s) instr)
+  plain_stays s instr = stay_settling place (view_by device k) (row_of task scratch (site_at device k (before instr s)) instr) (row_stays (before instr s) instr)
+
   cuts_stay : (x y : Option AbsState) (p q : ℕ) → FromKey k (all_of (going_where k x p ∷ going_where k y q ∷ []))
   cuts_stay x y p q = stay_both place (going_where k x p) (going_where k y q) (stay_where place k x p held) (stay_where place k y q held)
 
@@ -316,7 +336,7 @@ module _ (device : Device) (task : Task) (scratch : Bool) (k : NodeKey) where
   skip_stays s x y = cuts_stay y x (further device k 1) (further device k (1 + length_of (word_at task.flash (k.pc + 1))))
 
   refining_stays : (s : AbsState) (instr : Instr) → FromKey k (refining task.flash instr s (plain_row task scratch (site_at device k s) instr))
-  refining_stays s instr = stay_refining place task.flash instr s (plain_row task scratch (site_at device k s) instr) (row_stays (before instr s) instr)
+  refining_stays s instr = stay_refining place task.flash instr s (plain_row task scratch (site_at device k s) instr) (plain_stays s instr)
 
   binary_stays : (op : BinaryOp) (s : AbsState) (d r : ℕ) (other : Raw) → FromKey k other → FromKey k (paired_binary op (cut_skip task.flash (site_at device k s) (equal_cut d r true s) (equal_cut d r false s)) other)
   binary_stays binary.Cpse s d r other h = skip_stays s (equal_cut d r true s) (equal_cut d r false s)
@@ -328,18 +348,18 @@ module _ (device : Device) (task : Task) (scratch : Bool) (k : NodeKey) where
 
   paired_stays : (s : AbsState) (instr : Instr) → FromKey k (paired_row task scratch (site_at device k s) instr)
   paired_stays s (i.Brbs m t) =
-      branch_stays s m (wrapped device (near k.pc t)) (further device k 1) (plain_row task scratch (site_at device k s) (i.Brbs m t)) (row_stays (before (i.Brbs m t) s) (i.Brbs m t))
+      branch_stays s m (wrapped device (near k.pc t)) (further device k 1) (plain_row task scratch (site_at device k s) (i.Brbs m t)) (plain_stays s (i.Brbs m t))
   paired_stays s (i.Brbc m t) =
-      branch_stays s m (further device k 1) (wrapped device (near k.pc t)) (plain_row task scratch (site_at device k s) (i.Brbc m t)) (row_stays (before (i.Brbc m t) s) (i.Brbc m t))
+      branch_stays s m (further device k 1) (wrapped device (near k.pc t)) (plain_row task scratch (site_at device k s) (i.Brbc m t)) (plain_stays s (i.Brbc m t))
   paired_stays s (i.Sbrc r b) = skip_stays s (bit_cut r b false s) (bit_cut r b true s)
   paired_stays s (i.Sbrs r b) = skip_stays s (bit_cut r b true s) (bit_cut r b false s)
   paired_stays s (i.Binary op d r) =
       binary_stays op s d r (refining task.flash (i.Binary op d r) s (plain_row task scratch (site_at device k s) (i.Binary op d r))) (refining_stays s (i.Binary op d r))
-  paired_stays s (i.St p r) = storing_stays s p r (refined (marks task.flash) task.flash (i.St p r) s (record (before (i.St p r) s) { registers = pointer_moved (view_by device k) p s }))
+  paired_stays s (i.St p r) = storing_stays s p r (refined_if task (i.St p r) s (settled_state (view_by device k) (record (before (i.St p r) s) { registers = pointer_moved (view_by device k) p s })))
   paired_stays s instr = refining_stays s instr
 
   by_stays : (f : Option PairFacts) (s : AbsState) (instr : Instr) → FromKey k (row_by f task scratch (site_at device k s) instr)
-  by_stays None s instr = row_stays (before instr s) instr
+  by_stays None s instr = plain_stays s instr
   by_stays (Some f) s instr = paired_stays s instr
 
   at_stays : (s : AbsState) (x : Option Instr) → FromKey k (row_at task scratch (site_at device k s) x)

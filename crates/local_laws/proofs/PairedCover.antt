@@ -26,14 +26,15 @@ use Rattle.abs_state.specs.Stands.{RegistersStand, FlagsStand, SlotsStand}
 use Rattle.pair_rules.specs.Fits.{HasRegisters}
 use Rattle.pair_rules.specs.Refined.{refined}
 use Rattle.pair_laws.specs.Laws.{registers_set, sreg_set, IsBefore, IsBehind}
+use Rattle.pair_laws.specs.CutLaws.{StandsFor, IsLeftOf}
 use Rattle.pair_laws.proofs.AllLaws.{refined_holds, refined_is_ordered}
-use Rattle.pair_cut_laws.specs.Laws.{StandsFor, IsLeftOf}
 use Rattle.node_keys.specs.declared.keys.NodeKey.{NodeKey}
 use Rattle.node_keys.specs.Keys.{offset_of}
 use Rattle.local_rules.specs.declared.local.Node.{Node}
 use Rattle.local_rules.specs.Raw.{Raw, all_of, off_table}
 use Rattle.local_rules.specs.Flow.{going_where}
-use Rattle.local_rules.specs.Local.{refined_nodes, refining, node_where}
+use Rattle.local_rules.specs.Local.{refined_nodes, refining}
+use Rattle.local_rules.specs.Settling.{node_where}
 use Rattle.local_rules.specs.Machine.{AreWords}
 use Rattle.local_rules.specs.Cover.{ArrivesAt, Follows, stays, calls, leaves}
 use Rattle.local_laws.proofs.Bare.{IsBare, InBareFrame}
@@ -126,7 +127,7 @@ module _ {may : Bool} (image : Image) (are : AreWords image) (m : State) (o : Or
     reached : Reached (registers_set image may m instr b1 b2) (sreg_set image may m instr b1 b2)
     reached =
         let none = no_stores image may m b1 b2 instr is in (
-          sym (ap (registers_after (with_registers m.registers effect.registers)) none),
+          sym (ap (registers_after m.device (with_registers m.registers effect.registers)) none),
           sym (ap (sreg_after effect.sreg) none),
         )
 
@@ -184,6 +185,7 @@ left_frame m o k s t at left stands =
       place = at.place;
       stands = stands.stands;
       facts = stands.facts;
+      banks = at.banks;
       root = at.root;
       top = at.top;
       base_word = at.base_word;

@@ -22,11 +22,10 @@ use Rattle.abs_state.specs.Formed.{IsFormed}
 use Rattle.abs_state.specs.FlagsSet.{sets_flags, sets_carry}
 use Rattle.abs_state.specs.Hulls.{IsInHulls}
 use Rattle.abs_state.proofs.AllLaws.{states_are_ordered}
+use Rattle.pair_cuts.specs.Cuts.{flag_cut, bit_cut, equal_cut}
 use Rattle.pair_rules.specs.Fits.{HasRegisters, IsPlain}
 use Rattle.pair_rules.specs.Refined.{refined}
-use Rattle.pair_laws.proofs.AllLaws.{refined_is_ordered}
-use Rattle.pair_cuts.specs.Cuts.{flag_cut, bit_cut, equal_cut}
-use Rattle.pair_cut_laws.proofs.AllLaws.{flags_are_cut, bits_are_cut, equals_are_cut}
+use Rattle.pair_laws.proofs.AllLaws.{refined_is_ordered, flags_are_cut, bits_are_cut, equals_are_cut}
 use Rattle.node_keys.specs.declared.keys.NodeKey.{NodeKey}
 use Rattle.node_keys.specs.Keys.{offset_of}
 use Rattle.local_rules.specs.declared.local.Node.{Node}
@@ -34,7 +33,8 @@ use Rattle.local_rules.specs.Raw.{Raw, nowhere, all_of, off_table, next, further
 use Rattle.local_rules.specs.Registers.{value, before}
 use Rattle.local_rules.specs.Flow.{going_where}
 use Rattle.local_rules.specs.HighBytes.{view_by}
-use Rattle.local_rules.specs.Local.{step_before, pointer_moved, plain_row, paired_row, cut_branch, cut_skip, refined_nodes, refining, node_where, storing, paired_store}
+use Rattle.local_rules.specs.Settling.{node_where, settled_state}
+use Rattle.local_rules.specs.Local.{step_before, pointer_moved, plain_row, paired_row, cut_branch, cut_skip, refined_nodes, refining, storing, refined_if, paired_store}
 use Rattle.local_rules.specs.Cover.{IsKey}
 use Rattle.local_laws.proofs.Bare.{IsBare, bare_key}
 use Rattle.local_laws.proofs.Members.{each_of}
@@ -42,7 +42,8 @@ use Rattle.local_laws.proofs.MonotoneAlu.{reg}
 use Rattle.local_laws.proofs.MonotoneFields.{InstrFits}
 use Rattle.local_laws.proofs.MonotoneRaw.{IsMetAbove, LeadsLess, nowhere_less, none_less, both_less, further_small, wrapped_small, next_key}
 use Rattle.local_laws.proofs.MonotoneReads.{pointed_constants, pointed_frames}
-use Rattle.local_laws.proofs.MonotoneRows.{row_less, moved_less, pair_less_at, pointer_small}
+use Rattle.local_laws.proofs.MonotoneRows.{moved_less, pair_less_at, pointer_small}
+use Rattle.local_laws.proofs.SettledMonotone.{plain_less, state_settled, settled_bare, settled_facts}
 use Rattle.local_laws.proofs.MonotoneValues.{IsStateLess, AreRegistersLess, node_less, less_node, less_within, forgetting_both}
 use Rattle.local_laws.proofs.MonotoneWrites.{pointer_less}
 use Rattle.local_laws.proofs.PairedCover.{in_refined, left_bare}
@@ -153,24 +154,17 @@ module _ (device : Device) (task : Task) (k : NodeKey) (s t : AbsState) (low : I
   le : IsStateLess k.inst.kind (offset_of k.sp) s t
   le = node_less k s t low high within
 
-  ended_less : (instr : Instr) → IsStateLess k.inst.kind (offset_of k.sp) (before instr s) (before instr t)
-  ended_less instr = forgetting_both k.inst.kind (offset_of k.sp) (written instr) (sets_flags instr) (sets_carry instr) s t le
-
-  plain_less : (scratch : Bool) (instr : Instr) → InstrFits instr → Less (plain_row task scratch (site_at device k s) instr) (plain_row task scratch (site_at device k t) instr)
-  plain_less scratch instr fits = row_less device task k at (before instr s) (before instr t) (ended_less instr) scratch instr fits
-
-  same_less : IsStateLess k.inst.kind (offset_of k.sp) t t
-  same_less = node_less k t t high high (states_are_ordered.same t)
+  rows_less : (scratch : Bool) (instr : Instr) → InstrFits instr → Less (plain_row task scratch (site_at device k s) instr) (plain_row task scratch (site_at device k t) instr)
+  rows_less = plain_less device task k s t low high within
 
   -- the successors of the greater are nodes too
   plain_nodes : (scratch : Bool) (instr : Instr) → InstrFits instr → Less (plain_row task scratch (site_at device k t) instr) (plain_row task scratch (site_at device k t) instr)
-  plain_nodes scratch instr fits =
-      row_less device task k at (before instr t) (before instr t) (forgetting_both k.inst.kind (offset_of k.sp) (written instr) (sets_flags instr) (sets_carry instr) t t same_less) scratch instr fits
+  plain_nodes = plain_less device task k t t high high (states_are_ordered.same t)
 
   refining_less : (scratch : Bool) (instr : Instr) → InstrFits instr → HasRegisters instr → IsRefinedInstr instr
       → Less (refining task.flash instr s (plain_row task scratch (site_at device k s) instr)) (refining task.flash instr t (plain_row task scratch (site_at device k t) instr))
   refining_less scratch instr fits has is clean =
-      let below = plain_less scratch instr fits clean in
+      let below = rows_less scratch instr fits clean in
       let above = plain_nodes scratch instr fits clean in
       record {
         faultless = below.faultless;
@@ -227,7 +221,7 @@ module _ (device : Device) (task : Task) (k : NodeKey) (s t : AbsState) (low : I
       → Less (refining task.flash instr s (plain_row task scratch (site_at device k s) instr)) (refining task.flash instr t (plain_row task scratch (site_at device k t) instr))
   stored_less scratch instr fits is =
       subst₂ Less (sym (stored_same task.flash s f instr is known (plain_row task scratch (site_at device k s) instr)))
-      (sym (stored_same task.flash t g instr is known' (plain_row task scratch (site_at device k t) instr))) (plain_less scratch instr fits)
+      (sym (stored_same task.flash t g instr is known' (plain_row task scratch (site_at device k t) instr))) (rows_less scratch instr fits)
 
   module _ (p : Pointer) (r : ℕ) where
     abbrev instr : Instr
@@ -250,8 +244,9 @@ module _ (device : Device) (task : Task) (k : NodeKey) (s t : AbsState) (low : I
     pub moved_bare : (u : AbsState) → IsBare device k u → IsBare device k (moved u)
     moved_bare u h = less_node k (moved u) (moved u) h.word h.small h.masks h.fits h.pick (moved_both u u h (node_less k u u h h (states_are_ordered.same u)))
 
-    moved_plain : (u : AbsState) → IsPlain task.flash instr u (moved u)
-    moved_plain u = record { facts = refl; value = tt }
+    -- settling keeps facts on pairs
+    settled_plain : (u v : AbsState) → settled_state (view_by device k) (moved u) ≡ Some v → IsPlain task.flash instr u v
+    settled_plain u v e = record { facts = settled_facts (view_by device k) (moved u) v e; value = tt }
 
     nowhere_below : (q : Raw) → Quiet q → Less nowhere q
     nowhere_below q quiet e = record { faultless = refl; moves = λ to j. absurd (none_in to j); calls = λ site j. absurd (none_in site j); exit = sym quiet.1 }
@@ -260,17 +255,22 @@ module _ (device : Device) (task : Task) (k : NodeKey) (s t : AbsState) (low : I
     storing_quiet None = (refl, refl)
     storing_quiet (Some u) = pointer_quiet device task t (pointer_register p) (step_before p) k.pc (next device k) u (value t r)
 
-    storing_less : (x : Option AbsState) → refined (marks task.flash) task.flash instr s (moved s) ≡ x
-        → Less (storing task (site_at device k s) p r x) (storing task (site_at device k t) p r (refined (marks task.flash) task.flash instr t (moved t)))
-    storing_less None e = nowhere_below _ (storing_quiet (refined (marks task.flash) task.flash instr t (moved t)))
-    storing_less (Some u) e =
-        let low_moved = moved_bare s low in
-        let high_moved = moved_bare t high in
+    -- what is left of the settled state with the moved pointer, refined
+    abbrev left : AbsState → Option AbsState → Option AbsState
+    left u x = refined_if task instr u x
+
+    storing_less : (v w : AbsState) → settled_state (view_by device k) (moved s) ≡ Some v → settled_state (view_by device k) (moved t) ≡ Some w → IsStateWithin v w
+        → (x : Option AbsState) → refined (marks task.flash) task.flash instr s v ≡ x
+        → Less (storing task (site_at device k s) p r x) (storing task (site_at device k t) p r (refined (marks task.flash) task.flash instr t w))
+    storing_less v w e e' under None is = nowhere_below _ (storing_quiet (refined (marks task.flash) task.flash instr t w))
+    storing_less v w e e' under (Some u) is =
+        let low_moved = settled_bare k (view_by device k) (moved s) v (moved_bare s low) e in
+        let high_moved = settled_bare k (view_by device k) (moved t) w (moved_bare t high) e' in
         let more =
-        refined_is_ordered.more (marks task.flash) task.flash instr (offset_of k.sp) (offset_of k.sp) s t (moved s) (moved t) u tt low.formed high.formed low_moved.formed high_moved.formed
-        (moved_plain s) (moved_plain t) within (less_within k.inst.kind (offset_of k.sp) (moved s) (moved t) (moved_both s t low le)) e in
-        let lower = refined_bare task.flash instr (offset_of k.sp) s k (moved s) u tt low.formed low_moved e in
-        let upper = refined_bare task.flash instr (offset_of k.sp) t k (moved t) more.0 tt high.formed high_moved more.1 in
+        refined_is_ordered.more (marks task.flash) task.flash instr (offset_of k.sp) (offset_of k.sp) s t v w u tt low.formed high.formed low_moved.formed high_moved.formed
+        (settled_plain s v e) (settled_plain t w e') within under is in
+        let lower = refined_bare task.flash instr (offset_of k.sp) s k v u tt low.formed low_moved is in
+        let upper = refined_bare task.flash instr (offset_of k.sp) t k w more.0 tt high.formed high_moved more.1 in
         subst (λ (y : Option AbsState). Less (storing task (site_at device k s) p r (Some u)) (storing task (site_at device k t) p r y)) (sym more.1)
         (pointer_less device (next device k) (next_key device k at) u more.0 (node_less k u more.0 lower upper more.2) k.pc (value s r) (value t r) (reg device k at s t le r) task s t
         (pointer_register p) (step_before p)
@@ -278,15 +278,23 @@ module _ (device : Device) (task : Task) (k : NodeKey) (s t : AbsState) (low : I
         (pair_less_at device task k at s t le (pointer_register p) (pointer_small p)))
 
     pub store_less : Less (paired_store task (site_at device k s) p r) (paired_store task (site_at device k t) p r)
-    store_less = storing_less (refined (marks task.flash) task.flash instr s (moved s)) refl
+    store_less = by (settled_state (view_by device k) (moved s)) refl
+      where
+        by : (x : Option AbsState) → settled_state (view_by device k) (moved s) ≡ x
+            → Less (storing task (site_at device k s) p r (left s x)) (storing task (site_at device k t) p r (left t (settled_state (view_by device k) (moved t))))
+        by None e = nowhere_below _ (storing_quiet (left t (settled_state (view_by device k) (moved t))))
+        by (Some v) e =
+            let above = state_settled k.inst.kind (offset_of k.sp) (view_by device k) (moved s) (moved t) v (moved_both s t low le) e in
+            subst (λ (y : Option AbsState). Less (storing task (site_at device k s) p r (left s (Some v))) (storing task (site_at device k t) p r (left t y))) (sym above.1.0)
+            (storing_less v above.0 e above.1.0 (less_within k.inst.kind (offset_of k.sp) v above.0 above.1.1) (refined (marks task.flash) task.flash instr s v) refl)
 
   -- ---- all rows
 
   pub paired_less : (scratch : Bool) (instr : Instr) → InstrFits instr → HasRegisters instr → Less (paired_row task scratch (site_at device k s) instr) (paired_row task scratch (site_at device k t) instr)
   paired_less scratch (i.Brbs n target) fits has =
-      branch_cut_less n (wrapped device (near k.pc target)) (further device k 1) (nat_lt n 7) _ _ refl (wrapped_small device (near k.pc target)) (further_small device k 1) (plain_less scratch (i.Brbs n target) fits)
+      branch_cut_less n (wrapped device (near k.pc target)) (further device k 1) (nat_lt n 7) _ _ refl (wrapped_small device (near k.pc target)) (further_small device k 1) (rows_less scratch (i.Brbs n target) fits)
   paired_less scratch (i.Brbc n target) fits has =
-      branch_cut_less n (further device k 1) (wrapped device (near k.pc target)) (nat_lt n 7) _ _ refl (further_small device k 1) (wrapped_small device (near k.pc target)) (plain_less scratch (i.Brbc n target) fits)
+      branch_cut_less n (further device k 1) (wrapped device (near k.pc target)) (nat_lt n 7) _ _ refl (further_small device k 1) (wrapped_small device (near k.pc target)) (rows_less scratch (i.Brbc n target) fits)
   paired_less scratch (i.Sbrc r b) fits has =
       skip_less (bit_cut r b false s) (bit_cut r b true s) (bit_cut r b false t) (bit_cut r b true t) (bit_left_less r b false fits.0 fits.1) (bit_left_less r b true fits.0 fits.1)
   paired_less scratch (i.Sbrs r b) fits has =

@@ -24,15 +24,15 @@ use Rattle.pair_domain.specs.declared.facts.PairFacts.{PairFacts}
 use Rattle.abs_state.specs.declared.state.AbsState.{AbsState}
 use Rattle.abs_state.specs.FlagsSet.{sets_flags, sets_carry}
 use Rattle.abs_state.specs.Formed.{IsFormed}
+use Rattle.abs_state.specs.Laws.{HoldsAt}
 use Rattle.abs_state.specs.Stands.{RegistersStand}
 use Rattle.abs_state.proofs.AllLaws.{states_are_ordered}
+use Rattle.pair_cuts.specs.Cuts.{flag_cut, bit_cut, equal_cut}
 use Rattle.pair_rules.specs.Refined.{refined, refined_known}
 use Rattle.pair_rules.specs.Tags.{tagged}
 use Rattle.pair_laws.specs.Laws.{registers_set, sreg_set, IsBehind}
-use Rattle.pair_laws.proofs.AllLaws.{operands_fit, refined_holds, refined_is_ordered}
-use Rattle.pair_cuts.specs.Cuts.{flag_cut, bit_cut, equal_cut}
-use Rattle.pair_cut_laws.specs.Laws.{StandsFor, IsLeftOf}
-use Rattle.pair_cut_laws.proofs.AllLaws.{flags_are_cut, bits_are_cut, equals_are_cut}
+use Rattle.pair_laws.specs.CutLaws.{StandsFor, IsLeftOf}
+use Rattle.pair_laws.proofs.AllLaws.{operands_fit, refined_holds, refined_is_ordered, flags_are_cut, bits_are_cut, equals_are_cut}
 use Rattle.node_keys.specs.declared.keys.NodeKey.{NodeKey}
 use Rattle.node_keys.specs.Keys.{offset_of}
 use Rattle.local_rules.specs.declared.local.Node.{Node}
@@ -41,7 +41,8 @@ use Rattle.local_rules.specs.Registers.{value, before}
 use Rattle.local_rules.specs.Flow.{going_where}
 use Rattle.local_rules.specs.Writes.{pointer_write}
 use Rattle.local_rules.specs.HighBytes.{SpView, view_by}
-use Rattle.local_rules.specs.Local.{step_before, pointer_moved, plain_row, paired_row, cut_branch, cut_skip, refined_nodes, refining, node_where, storing, paired_store}
+use Rattle.local_rules.specs.Local.{step_before, pointer_moved, plain_row, paired_row, cut_branch, cut_skip, refined_nodes, refining, storing, refined_if, paired_store}
+use Rattle.local_rules.specs.Settling.{settled_state, node_where}
 use Rattle.local_rules.specs.Machine.{AreWords}
 use Rattle.local_rules.specs.Cover.{Follows}
 use Rattle.local_laws.proofs.Bare.{IsBare, InBareFrame, bare_key}
@@ -52,7 +53,10 @@ use Rattle.local_laws.proofs.Ends.{held}
 use Rattle.local_laws.proofs.FlowRows.{goes_near, goes_further, turned}
 use Rattle.local_laws.proofs.Less.{forgetting_at, forgotten_spares}
 use Rattle.local_laws.proofs.MonotoneFields.{instruction_fits}
-use Rattle.local_laws.proofs.MonotoneRows.{moved_less, row_less}
+use Rattle.local_laws.proofs.MonotoneRows.{moved_less}
+use Rattle.local_laws.proofs.SettledCover.{frame_settled}
+use Rattle.local_laws.proofs.SettledMonotone.{settled_bare, plain_less}
+use Rattle.local_laws.proofs.SettledValues.{IsSettled, is_settled}
 use Rattle.local_laws.proofs.MonotoneValues.{AreRegistersLess, IsStateLess, node_less, less_node}
 use Rattle.local_laws.proofs.PairedCover.{is_before, refining_follows, two_ways}
 use Rattle.local_laws.proofs.PlainRows.{IsRefinedInstr}
@@ -224,16 +228,36 @@ module _ (ws : List ℕ) (A : List Entry) (m : State) (o : Origin) (k : NodeKey)
     behind : IsBehind o moved_state (registers_set task.flash (reads_masks m.device A) m instr b1 b2) (sreg_set task.flash (reads_masks m.device A) m instr b1 b2)
     behind = record { registers = subst (λ vs. RegistersStand o vs (registers_set task.flash (reads_masks m.device A) m instr b1 b2)) (same_moved (view_by m.device k) p instr s) (pointer_stands m o k ended there p); facts = held task.flash (reads_masks m.device A) m o k s b1 b2 instr are small other (sized_at task.flash m.pc instr is_there) at }
 
-    found : (u : AbsState) × (refined (marks task.flash) task.flash instr s moved_state ≡ Some u) × IsBehind o u (registers_set task.flash (reads_masks m.device A) m instr b1 b2) (sreg_set task.flash (reads_masks m.device A) m instr b1 b2)
+    -- the moved pointer's high byte is settled
+    settled : (u : AbsState) × ((settled_state (view_by m.device k) moved_state ≡ Some u) × RegistersStand o u.registers (registers_set task.flash (reads_masks m.device A) m instr b1 b2))
+    settled = frame_settled m o k s at moved_state (registers_set task.flash (reads_masks m.device A) m instr b1 b2) moved_bare.formed.count_registers behind.registers
+
+    abbrev settled_at : AbsState
+    settled_at = settled.0
+
+    parts : IsSettled (view_by m.device k) moved_state settled_at
+    parts = is_settled (view_by m.device k) moved_state settled_at settled.1.0
+
+    settled_behind : IsBehind o settled_at (registers_set task.flash (reads_masks m.device A) m instr b1 b2) (sreg_set task.flash (reads_masks m.device A) m instr b1 b2)
+    settled_behind =
+        record {
+          registers = settled.1.1;
+          facts = subst (λ f. HoldsAt f (registers_set task.flash (reads_masks m.device A) m instr b1 b2) (sreg_set task.flash (reads_masks m.device A) m instr b1 b2)) (sym parts.facts) behind.facts;
+        }
+
+    settled_formed : IsFormed settled_at (offset_of k.sp)
+    settled_formed = (settled_bare k (view_by m.device k) moved_state settled_at moved_bare settled.1.0).formed
+
+    found : (u : AbsState) × (refined (marks task.flash) task.flash instr s settled_at ≡ Some u) × IsBehind o u (registers_set task.flash (reads_masks m.device A) m instr b1 b2) (sreg_set task.flash (reads_masks m.device A) m instr b1 b2)
     found =
-        refined_holds.holds (marks task.flash) task.flash (reads_masks m.device A) o m instr b1 b2 (offset_of k.sp) (offset_of k.sp) s moved_state are tt at.node.formed moved_bare.formed
-        (is_before task.flash are m o k s at b1 b2 (not scratch) instr tt) behind
+        refined_holds.holds (marks task.flash) task.flash (reads_masks m.device A) o m instr b1 b2 (offset_of k.sp) (offset_of k.sp) s settled_at are tt at.node.formed settled_formed
+        (is_before task.flash are m o k s at b1 b2 (not scratch) instr tt) settled_behind
 
     abbrev left : AbsState
     left = found.0
 
     formed : IsFormed left (offset_of k.sp)
-    formed = refined_is_ordered.formed (marks task.flash) task.flash instr (offset_of k.sp) (offset_of k.sp) s moved_state left tt at.node.formed moved_bare.formed found.1
+    formed = refined_is_ordered.formed (marks task.flash) task.flash instr (offset_of k.sp) (offset_of k.sp) s settled_at left tt at.node.formed settled_formed found.1
 
     abbrev row_with : AbsState → Raw
     row_with u = pointer_write task s (pointer_register p) (step_before p) (write_at m.device k.pc (next m.device k) u (value s r))
@@ -245,18 +269,17 @@ module _ (ws : List ℕ) (A : List Entry) (m : State) (o : Origin) (k : NodeKey)
 
     pub store_covered : Covered instr (paired_store task (site_at m.device k s) p r)
     store_covered =
-        let like = refined_is_ordered.like (marks task.flash) task.flash instr s moved_state left found.1 in
-        subst (λ (x : Option AbsState). Covered instr (storing task (site_at m.device k s) p r x)) (sym found.1)
-        (subst (λ (u : AbsState). Covered instr (row_with u)) (sym (like_parts left ended like.flags like.slots)) left_covered)
+        let like = refined_is_ordered.like (marks task.flash) task.flash instr s settled_at left found.1 in
+        subst (λ (x : Option AbsState). Covered instr (storing task (site_at m.device k s) p r (refined_if task instr s x))) (sym settled.1.0)
+        (subst (λ (x : Option AbsState). Covered instr (storing task (site_at m.device k s) p r x)) (sym found.1)
+        (subst (λ (u : AbsState). Covered instr (row_with u)) (sym (like_parts left ended (like.flags ∙ parts.flags) (like.slots ∙ parts.slots))) left_covered))
 
   -- ---- all rows
 
   refined_covered : (instr : Instr) → instruction_at image m.pc ≡ Some instr → IsRefinedInstr instr → Covered instr (plain_row task scratch (site_at m.device k s) instr)
       → Covered instr (refining image instr s (plain_row task scratch (site_at m.device k s) instr))
   refined_covered instr e is h clean unflagged =
-      let there = forgetting_at m o k s (written instr) (sets_flags instr) (sets_carry instr) at in
-      let le = node_less k (before instr s) (before instr s) there.node there.node (states_are_ordered.same (before instr s)) in
-      let leads = row_less m.device task k (bare_key k s at.node) (before instr s) (before instr s) le scratch instr (instruction_fits image m.pc instr e) clean in
+      let leads = plain_less m.device task k s s at.node at.node (states_are_ordered.same s) scratch instr (instruction_fits image m.pc instr e) clean in
       refining_follows image are m o k s at b1 b2 (guarding scratch A k.pc instr) instr (operands_fit.fit image m.pc instr e) is (plain_row task scratch (site_at m.device k s) instr)
       (λ to member. (leads.moves to member).node) (h clean unflagged)
 

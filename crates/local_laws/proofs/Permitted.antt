@@ -78,7 +78,7 @@ module _ {may : Bool} (m : State) (o : Origin) (k : NodeKey) (s : AbsState) (at 
   byte_permitted : (r : ℕ) → may_be (value s r) (register m r) ≡ true
   byte_permitted r = may_stand o (value s r) (register m r) (register_stands m o k s at r)
 
-  bytes_permitted : (r : ℕ) → permits_bytes s r (pair m r) ≡ true
+  pub bytes_permitted : (r : ℕ) → permits_bytes s r (pair m r) ≡ true
   bytes_permitted r =
       and_from _ _ (ap (may_be (value s r)) (sym (low_is m o k s at r)) ∙ byte_permitted r)
       (ap (may_be (value s (r + 1))) (sym (high_is m o k s at r)) ∙ byte_permitted (r + 1))

@@ -34,7 +34,7 @@ use Rattle.avr_model.specs.Step.{is_guarding}
 use Rattle.local_laws.proofs.Bare.{IsBare, InBareFrame}
 use Rattle.local_laws.proofs.PairedCover.{left_bare}
 use Rattle.pair_cuts.specs.Cuts.{with_index, pick_cut}
-use Rattle.pair_cut_laws.proofs.AllLaws.{picks_are_cut}
+use Rattle.pair_laws.proofs.AllLaws.{picks_are_cut}
 use Rattle.pair_domain.specs.declared.facts.PairFacts.{PairFacts}
 use Rattle.local_laws.proofs.Bytes.{byte_in_list}
 use Rattle.local_laws.proofs.Targets.{in_filter}
@@ -106,6 +106,8 @@ module _ (device : Device) (task : Task) (scratch : Bool) (k : NodeKey) where
   adds_quiet s (i.Sbi a b) e = absurd (cc)
   adds_quiet s i.Ijmp e = absurd (cc)
   adds_quiet s i.Icall e = absurd (cc)
+  adds_quiet s i.Eijmp e = absurd (cc)
+  adds_quiet s i.Eicall e = absurd (cc)
   adds_quiet s i.Ret e = absurd (cc)
   adds_quiet s i.Reti e = absurd (cc)
   adds_quiet s (i.Jmp target) e = absurd (cc)
@@ -203,6 +205,7 @@ module _ {may : Bool} (m : State) (o : Origin) (k : NodeKey) (s : AbsState) (at 
           place = record { pc = at.place.pc; enables = at.place.enables; i = at.place.i; delay = at.place.delay; sp = at.place.sp };
           stands = found.1.1.stands;
           facts = found.1.1.facts;
+          banks = at.banks;
           root = at.root;
           top = at.top;
           base_word = at.base_word;

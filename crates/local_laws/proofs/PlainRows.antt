@@ -19,6 +19,7 @@ use Rattle.avr_model.specs.Assumptions.{is_frame, has_scratch}
 use Rattle.avr_model.specs.Masks.{reads_masks}
 use Rattle.avr_model.specs.Sites.{base_register, pointer_register}
 use Rattle.avr_model.specs.Effects.{port}
+use Rattle.avr_model.specs.State.{RAMPZ}
 use Rattle.avr_model.specs.Text.{far}
 use Rattle.avr_model.specs.Written.{moved_pair, set_by_binary, set_by_immediate, written}
 use Rattle.bit_domain.specs.declared.bits.Tri.{Tri}
@@ -43,7 +44,7 @@ use Rattle.local_rules.specs.HighBytes.{SpView, view_by}
 use Rattle.local_rules.specs.Registers.{going_by, interrupts_row, flag_row, binary_after, immediate_after, unary_after}
 use Rattle.local_rules.specs.FrameLines.{is_followed, framed_binary, framed_immediate, framed_unary}
 use Rattle.local_rules.specs.Reads.{read_at, pointed, read_pointed}
-use Rattle.local_rules.specs.Flow.{branch_by, reading_zero, targets_at, jumping, at_closed, pushing, popping, making_room, indirect_call, relative_call, is_half_written, returning, ret_exit, reti_exit}
+use Rattle.local_rules.specs.Flow.{branch_by, reading_zero, targets_at, far_targets_at, jumping, at_closed, pushing, popping, making_room, indirect_call, relative_call, is_half_written, returning, ret_exit, reti_exit}
 use Rattle.local_rules.specs.Local.{step_before, pointer_moved, loading, row_of}
 use Rattle.local_laws.proofs.Members.{each_of, each_in_map}
 use Rattle.local_laws.proofs.MonotoneValues.{set_other}
@@ -68,6 +69,11 @@ two_set : (vs : List AbsByte) (d e : ℕ) (v w : AbsByte) → KeepOthers (d ∷ 
 two_set vs d e v w r h =
     let parts = or_parts (d == r) (is_one_of (e ∷ []) r) h in
     one_set (slice_set vs d v) e w r parts.1 ∙ set_other vs d r v (apart d r parts.0)
+
+three_set : (vs : List AbsByte) (a b c : ℕ) (u v w : AbsByte) → KeepOthers (a ∷ b ∷ c ∷ []) vs (slice_set (slice_set (slice_set vs a u) b v) c w)
+three_set vs a b c u v w r h =
+    let parts = or_parts (a == r) (is_one_of (b ∷ c ∷ []) r) h in
+    two_set (slice_set vs a u) b c v w r parts.1 ∙ set_other vs a r u (apart a r parts.0)
 
 -- one more register
 more_set : (rs : List ℕ) (vs ws : List AbsByte) (d : ℕ) (v : AbsByte) → KeepOthers rs vs ws → KeepOthers (d ∷ rs) vs (slice_set ws d v)
@@ -295,7 +301,7 @@ module _ (device : Device) (task : Task) (scratch : Bool) (k : NodeKey) (s : Abs
   row_leaves (i.LpmZ d) is = leaves_set _ s device _ _ refl (one_set s.registers d _)
   row_leaves (i.ElpmZ d) is = leaves_set _ s device _ _ refl (one_set s.registers d _)
   row_leaves (i.LpmZPlus d) is = leaves_set _ s device _ _ refl (more_set (30 ∷ 31 ∷ []) s.registers _ d _ (two_set s.registers 30 31 _ _))
-  row_leaves (i.ElpmZPlus d) is = leaves_set _ s device _ _ refl (more_set (30 ∷ 31 ∷ []) s.registers _ d _ (two_set s.registers 30 31 _ _))
+  row_leaves (i.ElpmZPlus d) is = leaves_set _ s device _ _ refl (more_set (30 ∷ 31 ∷ RAMPZ ∷ []) s.registers _ d _ (three_set s.registers 30 31 RAMPZ _ _ _))
   row_leaves i.Lpm is = leaves_set _ s device _ _ refl (one_set s.registers 0 _)
   row_leaves i.Elpm is = leaves_set _ s device _ _ refl (one_set s.registers 0 _)
   row_leaves (i.Pop d) is = leaves_closed _ s k.sp k.pc _ popped
@@ -307,6 +313,8 @@ module _ (device : Device) (task : Task) (scratch : Bool) (k : NodeKey) (s : Abs
   row_leaves (i.In d a) is = leaves_set _ s device _ _ refl (one_set s.registers d _)
   row_leaves i.Ijmp is = leaves_jumping _ s (targets_at task.assumptions (site_at device k s)) k
   row_leaves i.Icall is = leaves_indirect _ s device (targets_at task.assumptions (site_at device k s)) k
+  row_leaves i.Eijmp is = leaves_jumping _ s (far_targets_at task.assumptions (site_at device k s)) k
+  row_leaves i.Eicall is = leaves_indirect _ s device (far_targets_at task.assumptions (site_at device k s)) k
   row_leaves i.Ret is = leaves_closed _ s k.sp k.pc _ (leaves_returning _ s (ret_exit k) k.pc k.inst.kind)
   row_leaves i.Reti is = leaves_closed _ s k.sp k.pc _ (leaves_returning _ s (reti_exit k) k.pc k.inst.kind)
   row_leaves (i.Jmp t) is = leaves_same _ s _

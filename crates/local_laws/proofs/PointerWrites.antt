@@ -1,5 +1,5 @@
 -- A byte stored through a pointer: the rows cover the machine's step.
-use Rattle.std.proofs.Common.{◌≡◌, refl, sym, ◌∙◌, ap, subst, ℕ, ◌+◌, ◌<◌, ◌≤◌, ltb-true, Bool, true, false, not, ◌&&◌, ◌||◌, nat_lt, if◌then◌else◌, ◌==◌, List, [], ◌∷◌, length, map, Option, Some, None, arith, eqb-true}
+use Rattle.std.proofs.Common.{◌≡◌, refl, sym, ◌∙◌, ap, subst, ℕ, ◌+◌, ◌<◌, ◌≤◌, ltb-true, Bool, true, false, not, ◌&&◌, ◌||◌, if◌then◌else◌, ◌==◌, List, [], ◌∷◌, length, map, Option, Some, None, arith, eqb-true}
 use Rattle.std.proofs.lemmas.Bool.{or_parts, and_from, and_parts}
 use Rattle.std.proofs.lemmas.List.Elements.{Contains-append_left, Contains-append_right}
 use Rattle.std.specs.List.{filter}
@@ -13,7 +13,7 @@ use Rattle.avr_model.specs.declared.device.Device.{Device}
 use Rattle.avr_model.specs.Devices.{io_end, device_of}
 use Rattle.avr_model.specs.Masks.{reads_masks, enables_barred, is_unlisted_site, admits_enables, is_flagged_write}
 use Rattle.avr_model.specs.Sreg.{flag}
-use Rattle.avr_model.specs.State.{State, pair, SPL, SREG, is_sph, low, high, plus16, minus16}
+use Rattle.avr_model.specs.State.{State, REGISTERS, register_at, pair, SPL, SREG, is_sph, low, high, plus16, minus16}
 use Rattle.avr_model.specs.Effects.{set}
 use Rattle.avr_model.specs.Step.{with_registers, flagged_write}
 use Rattle.avr_model.specs.Vectors.{has_enables, is_core, is_protected, written_enables}
@@ -50,7 +50,7 @@ use Rattle.abs_state.specs.declared.values.AbsFlags.{AbsFlags}
 -- ---- addresses of no register, nor of the stack pointer or the status register
 
 pub record IsElsewhere (device : Device) (a : ℕ) : Type 0 where
-  pub beyond : nat_lt a 0x20 ≡ false
+  pub beyond : register_at device a ≡ None
   pub not_low : (a == SPL) ≡ false
   pub not_high : is_sph device a ≡ false
   pub not_sreg : (a == SREG) ≡ false
@@ -134,8 +134,8 @@ module _ {may : Bool} (m : State) (o : Origin) (known : Option PairFacts) (k : N
 module _ {may : Bool} (m : State) (o : Origin) (k : NodeKey) (s : AbsState) (at : InBareFrame may m o k s) (guarded : Bool) (pc pc' : ℕ) (pc_is : pc ≡ pc') (writes : List Write)
     (registers : List AbsByte) (stand : RegistersStand o registers (with_registers m.registers writes))
     (less : LessHolds (with_registers m.registers writes) s.flags.carry (flag m.sreg 0)) (told : Option PairFacts) (told_fits : KnownFits told)
-    (byte : ℕ) (small : byte < 256) (v : AbsByte) (stands : ByteStands o v byte) (count_values : length registers ≡ 32)
-    (count : length (with_registers m.registers writes) ≡ 32) (members : AreSplitsWritten) where
+    (byte : ℕ) (small : byte < 256) (v : AbsByte) (stands : ByteStands o v byte) (count_values : length registers ≡ REGISTERS)
+    (count : length (with_registers m.registers writes) ≡ REGISTERS) (members : AreSplitsWritten) where
   abbrev key : NodeKey
   key = at_word k pc'
 

@@ -1,12 +1,12 @@
 -- Local parts that neither call nor return.
-use Rattle.std.proofs.Common.{◌≡◌, refl, sym, ◌∙◌, subst, ℕ, zero, suc, ◌+◌, ◌==◌, Bool, true, false, List, [], Option, Some, None, if◌then◌else◌, nat_lt, nat_le, Contains}
+use Rattle.std.proofs.Common.{◌≡◌, refl, sym, ◌∙◌, subst, ℕ, zero, suc, ◌+◌, ◌==◌, Bool, true, false, List, [], Option, Some, None, if◌then◌else◌, nat_le, Contains}
 use Rattle.std.specs.List.Sorted.{IsStrictlySortedBy}
 use Rattle.basics.specs.Items.{none_in}
 use Rattle.avr_model.specs.Devices.{Image, size_of, back_of}
 use Rattle.avr_model.specs.declared.device.Device.{Device}
 use Rattle.avr_model.specs.declared.assumption.Entry.{Entry}
 use Rattle.avr_model.specs.Assumptions.{is_fixed_site}
-use Rattle.avr_model.specs.State.{SPL, SREG, is_sph}
+use Rattle.avr_model.specs.State.{SPL, SREG, register_at, is_sph}
 use Rattle.bit_domain.specs.declared.bits.Tri.{Tri}
 use Rattle.bit_domain.specs.declared.bits.Tri.TheVariants.{Zero, One, Any}
 use Rattle.bit_domain.specs.TriByte.{tri_at}
@@ -21,7 +21,7 @@ use Rattle.local_rules.specs.declared.local.CallSite.{CallSite}
 use Rattle.local_rules.specs.Raw.{Raw, untracked_if, too_deep_if}
 use Rattle.local_rules.specs.Registers.{carry_bit, going_by, interrupts_row, flag_row}
 use Rattle.local_rules.specs.declared.computed.Computed.{Computed}
-use Rattle.local_rules.specs.Writes.{opening, closing, sreg_written, written_at, fixed_write, may_wake, waking, pointer_write, high_part, closing_offset, flags_written, put_flags}
+use Rattle.local_rules.specs.Writes.{opening, closing, sreg_written, written_behind, written_at, fixed_write, may_wake, waking, pointer_write, high_part, closing_offset, flags_written, put_flags}
 use Rattle.local_rules.specs.Flow.{branch, branch_by, where_carry, going_where, carry_branch, flag_branch, skipping, jumping, at_closed, pushing, popping, making_room}
 use Rattle.local_rules.specs.Local.{loading}
 use Rattle.local_laws.specs.Laws.{LeadsToWords, AscendByEntry}
@@ -110,11 +110,14 @@ sreg_quiet Any k s is_out = (refl, refl)
 
 pub written_quiet : (device : Device) (pc : ℕ) (k : NodeKey) (s : AbsState) (is_out : Bool) (a : ℕ) (v : AbsByte) → Quiet (written_at (write_at device pc k s v) is_out a)
 unfolding written_at
-written_quiet device pc k s is_out a v =
-    if_quiet (nat_lt a 0x20) _ _ (refl, refl)
-    (if_quiet (a == SPL) _ _ (closing_quiet device (closing_offset device k.inst.kind k.sp v) k s pc)
-    (if_quiet (is_sph device a) _ _ (opening_quiet (high_part k.inst.kind v) k s pc)
-    (if_quiet (a == SREG) _ _ (sreg_quiet (tri_at v.bits 7) k (put_flags s (flags_written v)) is_out) (refl, refl))))
+written_quiet device pc k s is_out a v = behind (register_at device a)
+  where
+    behind : (r : Option ℕ) → Quiet (written_behind (write_at device pc k s v) is_out a r)
+    behind (Some r) = (refl, refl)
+    behind None =
+        if_quiet (a == SPL) _ _ (closing_quiet device (closing_offset device k.inst.kind k.sp v) k s pc)
+        (if_quiet (is_sph device a) _ _ (opening_quiet (high_part k.inst.kind v) k s pc)
+        (if_quiet (a == SREG) _ _ (sreg_quiet (tri_at v.bits 7) k (put_flags s (flags_written v)) is_out) (refl, refl)))
 
 fixed_quiet : (device : Device) (a : Option ℕ) (pc : ℕ) (k : NodeKey) (s : AbsState) (v : AbsByte) → Quiet (fixed_write a (write_at device pc k s v))
 fixed_quiet device None pc k s v = (refl, refl)

@@ -7,13 +7,13 @@ use Rattle.std.proofs.lemmas.List.{get_or_past}
 use Rattle.std.proofs.lemmas.List.Elements.{All-get_or}
 use Rattle.std.specs.Int.{bit_at, from_bool}
 use Rattle.abs_alu.proofs.AllLaws.{any_has}
-use Rattle.local_laws.proofs.Machine.{sp_small, high_small, io_value, io_small, free_bit, free_small}
+use Rattle.local_laws.proofs.Machine.{read_small as machine_reads, sp_small, io_value, io_small, free_bit, free_small}
 use Rattle.avr_model.proofs.AllLaws.{devices_are_alike}
 use Rattle.avr_model.specs.Devices.{io_end, ramend, has_sph}
 use Rattle.avr_model.specs.declared.device.Device.{Device}
 use Rattle.avr_model.specs.Sreg.{flag}
 use Rattle.avr_model.specs.Vectors.{enable_of, held_of, has_enables, is_ivsel, io_bit, io_byte, kept_byte}
-use Rattle.avr_model.specs.State.{State, register, read, sram_at, byte_in, is_live, is_sram, SPL, SREG, is_sph, low, high, minus16}
+use Rattle.avr_model.specs.State.{State, register_at, read_behind as machine_behind, read, sram_at, byte_in, is_live, is_sram, SPL, SREG, is_sph, low, high, minus16}
 use Rattle.vector_table.proofs.AllLaws.{enables_are_vectors, numbers_are_their_bits}
 use Rattle.bit_domain.specs.declared.bits.Tri.{Tri}
 use Rattle.bit_domain.specs.declared.bits.Tri.TheVariants.{Zero}
@@ -37,11 +37,10 @@ use Rattle.node_keys.specs.declared.keys.SpForm.{SpForm}
 use Rattle.node_keys.specs.declared.keys.SpForm.TheVariants.{Closed, Open}
 use Rattle.node_keys.specs.Place.{EnablesAre, SpIs}
 use Rattle.local_rules.specs.Registers.{with_bits}
-use Rattle.local_rules.specs.Reads.{sp_low, sp_high, flags_tag, sreg_value, enable_read, io_tri, free_tri, io_bits, kept_bits, value_of, slot_read, read_at}
+use Rattle.local_rules.specs.Reads.{sp_low, sp_high, flags_tag, sreg_value, enable_read, io_tri, free_tri, io_bits, kept_bits, value_of, slot_read, read_behind, read_at}
 use Rattle.local_laws.proofs.Bare.{InBareFrame}
-use Rattle.local_laws.proofs.Enables.{bit_permits, vector_small}
+use Rattle.local_laws.proofs.Enables.{bit_permits, vector_small, none_behind}
 use Rattle.local_laws.proofs.Frame.{register_stands}
-use Rattle.local_laws.proofs.Alu.{register_byte}
 use Rattle.local_laws.proofs.Memory.{inside_if_live}
 
 -- ---- bits that are known
@@ -175,14 +174,7 @@ module _ {may : Bool} (m : State) (o : Origin) (k : NodeKey) (s : AbsState) (at 
       (cases_lt (a - (m.memory.below + 1)) (length m.memory.bytes))
 
   pub read_small : (a input : ℕ) → input < 256 → read may m a input < 256
-  unfolding read
-  read_small a input lt =
-      small_by_test _ (register m a) _ (register_byte m o k s at a)
-      (small_by_test _ (low m.sp) _ (omega arith)
-      (small_by_test _ (high m.sp) _ (high_small (has_sph m.device) m.sp at.machine.sp_fits)
-      (small_by_test _ m.sreg _ at.machine.sreg_byte
-      (small_by_test _ (io_byte m.device may m.enables a input) _ (io_small m.device may m.enables a input)
-      (small_by_test _ (sram_at m a) input (byte_small a) lt)))))
+  read_small a input lt = machine_reads m may a input at.machine lt
 
   sreg_stands : ByteStands o (sreg_value k s) m.sreg
   sreg_stands =
@@ -200,7 +192,9 @@ module _ {may : Bool} (m : State) (o : Origin) (k : NodeKey) (s : AbsState) (at 
   unfolding read
   live_read a input live =
       let inside : is_sram m.device a ≡ true = inside_if_live m.device m.memory.below m.memory.live a at.machine.below at.machine.count_live live in
-      grind (arith, nat_tests, devices_are_alike.least_io m.device)
+      let behind : io_end m.device < a = (inside_numbers m.device a inside).0 in
+      let rest : machine_behind may m a input None ≡ sram_at m a = grind (arith, nat_tests, devices_are_alike.least_io m.device) in
+      ap (machine_behind may m a input) (none_behind m.device a behind) ∙ rest
 
   slot_stands : (a x : ℕ) (slot : Slot AbsByte) → x < 256 → (is_live m.memory a ≡ true → x ≡ sram_at m a) → SlotStands o m.memory a slot → ByteStands o (value_of slot) x
   slot_stands a x Free small is h = any_stands o x small
@@ -237,9 +231,12 @@ module _ {may : Bool} (m : State) (o : Origin) (k : NodeKey) (s : AbsState) (at 
   -- the value of a known address
   pub read_stands : (a input : ℕ) → input < 256 → ByteStands o (read_at m.device may k s a) (read may m a input)
   unfolding read read_at
-  read_stands a input lt =
-      by_test o _ _ _ _ _ (register_stands m o k s at a)
-      (by_test o (a == SPL) _ _ _ _ (low_stands m.device o at.base_word m.is_open m.sp (sp_small (has_sph m.device) m.sp at.machine.sp_fits) k.inst.kind k.sp at.root at.place.sp)
-      (by_test o (is_sph m.device a) _ _ _ _ (high_stands m.device o at.base_word m.is_open m.sp (sp_small (has_sph m.device) m.sp at.machine.sp_fits) k.inst.kind k.sp at.root at.place.sp)
-      (by_test o (a == SREG) _ _ _ _ sreg_stands
-      (by_test o (nat_le a (io_end m.device)) _ _ _ _ (io_stands a input) (kind_slot k.inst.kind a input lt at.root)))))
+  read_stands a input lt = by (register_at m.device a)
+    where
+      by : (r : Option ℕ) → ByteStands o (read_behind m.device may k s a r) (machine_behind may m a input r)
+      by (Some r) = register_stands m o k s at r
+      by None =
+          by_test o (a == SPL) _ _ _ _ (low_stands m.device o at.base_word m.is_open m.sp (sp_small (has_sph m.device) m.sp at.machine.sp_fits) k.inst.kind k.sp at.root at.place.sp)
+          (by_test o (is_sph m.device a) _ _ _ _ (high_stands m.device o at.base_word m.is_open m.sp (sp_small (has_sph m.device) m.sp at.machine.sp_fits) k.inst.kind k.sp at.root at.place.sp)
+          (by_test o (a == SREG) _ _ _ _ sreg_stands
+          (by_test o (nat_le a (io_end m.device)) _ _ _ _ (io_stands a input) (kind_slot k.inst.kind a input lt at.root))))

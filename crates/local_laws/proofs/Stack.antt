@@ -1,5 +1,5 @@
 -- Pushed and popped bytes, and calls of a compiler's small frame.
-use Rattle.std.proofs.Common.{◌≡◌, refl, sym, ap, ◌∙◌, subst, ℕ, zero, suc, ◌+◌, ◌-◌, ◌<◌, ◌≤◌, ◌==◌, ◌&&◌, Bool, true, false, not, nat_lt, nat_le, if◌then◌else◌, ◌%◌, List, [], ◌∷◌, ◌++◌, take, length, replicate, arith, length-take, ap₂}
+use Rattle.std.proofs.Common.{◌≡◌, refl, sym, ap, ◌∙◌, subst, ℕ, zero, suc, ◌+◌, ◌-◌, ◌<◌, ◌≤◌, ◌==◌, ◌&&◌, Bool, true, false, not, nat_le, if◌then◌else◌, ◌%◌, List, [], ◌∷◌, ◌++◌, take, length, replicate, arith, length-take, ap₂}
 use Rattle.std.proofs.lemmas.Bool.Decides.{nat_tests}
 use Rattle.std.proofs.lemmas.List.{append_assoc, append-nil}
 use Rattle.basics.specs.Items.{first_in}
@@ -8,7 +8,7 @@ use Rattle.avr_model.specs.Devices.{io_end, size_of, ramend, back_of, has_sph, s
 use Rattle.avr_model.specs.declared.device.Device.{Device}
 use Rattle.avr_model.specs.declared.effect.Effect.{Effect}
 use Rattle.avr_model.specs.Sreg.{flag}
-use Rattle.avr_model.specs.State.{State, Memory, register, sram_at, is_sram, is_live, plus_sp, minus_sp, low, high, read, SPL, SREG, is_sph}
+use Rattle.avr_model.specs.State.{State, Memory, register, sram_at, is_sram, is_live, plus_sp, minus_sp, low, high, read, read_behind, SPL, SREG, is_sph}
 use Rattle.avr_model.specs.Effects.{further, calling, back_bytes, pushed_from, push_effect, pop_effect}
 use Rattle.avr_model.specs.Step.{after, memory_after, all_inside}
 use Rattle.sp_domain.specs.declared.slots.Slot.{Slot}
@@ -31,10 +31,11 @@ use Rattle.local_rules.specs.Reads.{value_of}
 use Rattle.local_rules.specs.Flow.{if_room, pushed_slot, pushing, popping, making_room, at_closed, relative_call}
 use Rattle.local_laws.proofs.Bare.{InBareFrame}
 use Rattle.local_laws.proofs.Landing.{FollowsWhere}
+use Rattle.local_laws.proofs.Enables.{none_behind}
 use Rattle.local_laws.proofs.Frame.{only, register_stands, set_one, next_is}
 use Rattle.local_laws.proofs.Memory.{inside_if_live, pushed_byte, pushed_live}
 use Rattle.local_laws.proofs.Less.{Spares, less_set}
-use Rattle.local_laws.proofs.ReadValues.{read_small}
+use Rattle.local_laws.proofs.ReadValues.{inside_numbers, read_small}
 use Rattle.local_laws.proofs.FlowRows.{closed, call_covered, further_is}
 use Rattle.local_rules.specs.Site.{site_at}
 
@@ -83,13 +84,15 @@ freed o memory (suc n) slots h =
     subst (SlotsStand o memory) (append_assoc slots (Free ∷ []) (replicate n Free)) (freed o memory n (slots ++ Free ∷ []) (slots_follow.pushed o memory slots Free h tt))
 
 -- the byte of an address in SRAM
-in_sram : (device : Device) (a r l h f i b x : ℕ) → is_sram device a ≡ true
-    → (if nat_lt a 0x20 then r else (if a == SPL then l else (if is_sph device a then h else (if a == SREG then f else (if nat_le a (io_end device) then i else (if is_sram device a then b else x)))))) ≡ b
-in_sram device a r l h f i b x inside = grind (arith, nat_tests, devices_are_alike.least_io device)
+in_sram : (device : Device) (a l h f i b x : ℕ) → is_sram device a ≡ true
+    → (if a == SPL then l else (if is_sph device a then h else (if a == SREG then f else (if nat_le a (io_end device) then i else (if is_sram device a then b else x))))) ≡ b
+in_sram device a l h f i b x inside = grind (arith, nat_tests, devices_are_alike.least_io device)
 
 live_read : (still : Bool) (m : State) (a input : ℕ) → m.memory.below ≡ io_end m.device → length m.memory.live ≡ size_of m.device → is_live m.memory a ≡ true → read still m a input ≡ sram_at m a
 unfolding read
-live_read still m a input is count live = in_sram m.device a _ _ _ _ _ (sram_at m a) input (inside_if_live m.device m.memory.below m.memory.live a is count live)
+live_read still m a input is count live =
+    let inside = inside_if_live m.device m.memory.below m.memory.live a is count live in
+    ap (read_behind still m a input) (none_behind m.device a (inside_numbers m.device a inside).0) ∙ in_sram m.device a _ _ _ _ (sram_at m a) input inside
 
 -- the value of a slot holds of its byte
 slot_read : (still : Bool) (m : State) (o : Origin) (a input : ℕ) (slot : Slot AbsByte) → m.memory.below ≡ io_end m.device → length m.memory.live ≡ size_of m.device → read still m a input < 256 → SlotStands o m.memory a slot

@@ -1,21 +1,20 @@
 -- A byte written to a known address: the rows cover the machine's step.
-use Rattle.std.proofs.Common.{◌≡◌, refl, sym, ◌∙◌, ap, ap₂, subst, ℕ, ◌+◌, ◌-◌, ◌*◌, ◌^◌, ◌<◌, ◌≤◌, Bool, true, false, not, ◌&&◌, nat_lt, nat_le, if◌then◌else◌, ◌==◌, List, [], ◌∷◌, length, Option, Some, None, slice_set, slice_index, arith, Contains, eqb-true, eq-eqb, ltb-true, ne_eqb, ◌≢◌, subst₂}
+use Rattle.std.proofs.Common.{◌≡◌, refl, sym, ◌∙◌, ap, ap₂, subst, ℕ, ◌+◌, ◌-◌, ◌*◌, ◌^◌, ◌<◌, ◌≤◌, Bool, true, false, not, ◌&&◌, ◌||◌, nat_le, if◌then◌else◌, ◌==◌, List, [], ◌∷◌, length, Option, Some, None, slice_set, slice_index, arith, Contains, eqb-true, eq-eqb, ◌≢◌, subst₂}
 use Rattle.std.proofs.lemmas.Bool.{and_parts, or_parts}
 use Rattle.std.proofs.lemmas.Grind.{elements}
-use Rattle.std.proofs.lemmas.Bool.Decides.{nat_tests}
 use Rattle.std.proofs.lemmas.Nat.Bits.{bit_at-lt, same_from_bits_below}
 use Rattle.std.specs.Int.{bit_at}
 use Rattle.basics.specs.Items.{first_in}
 use Rattle.avr_model.specs.declared.device.Device.{Device}
-use Rattle.avr_model.specs.Devices.{size_of, has_sph}
+use Rattle.avr_model.specs.Devices.{size_of, has_sph, has_elpm, has_eijmp}
 use Rattle.avr_model.specs.declared.effect.Write.{Write}
 use Rattle.avr_model.specs.declared.effect.Effect.{Effect}
 use Rattle.avr_model.specs.Bits.{number_of}
 use Rattle.avr_model.specs.Sreg.{flag}
-use Rattle.avr_model.specs.Vectors.{enable_count, is_core_by, has_enables, enable_place_at, written_enable, written_enables}
-use Rattle.avr_model.specs.State.{State, SPL, SPH, SREG, is_sph, low, high, i_flag}
+use Rattle.avr_model.specs.Vectors.{enable_count, has_enables, enable_place_at, written_enable, written_enables}
+use Rattle.avr_model.specs.State.{State, REGISTERS, SPL, SPH, SREG, register_at, kept_of, is_sph, low, high, i_flag}
 use Rattle.avr_model.specs.Effects.{set, delay_of_out}
-use Rattle.avr_model.specs.Step.{after, with_registers, registers_after, sreg_after}
+use Rattle.avr_model.specs.Step.{after, with_registers, register_stored, registers_after, sreg_after}
 use Rattle.vector_table.specs.Laws.{AreBits}
 use Rattle.vector_table.proofs.AllLaws.{numbers_are_their_bits, enables_are_vectors}
 use Rattle.bit_domain.specs.declared.bits.Tri.{Tri}
@@ -37,7 +36,7 @@ use Rattle.pair_domain.proofs.AllLaws.{known_is_ordered}
 use Rattle.abs_state.specs.Laws.{Keeps, HoldsAt}
 use Rattle.abs_state.specs.Ended.{is_one_of, ended, written_hull}
 use Rattle.abs_state.specs.Stands.{ByteStands, EntryHolds, FlagsStand, RegistersStand}
-use Rattle.abs_state.proofs.AllLaws.{bits_make_values, values_say_less, slots_follow, writes_end_facts}
+use Rattle.abs_state.proofs.AllLaws.{values_say_less, slots_follow, writes_end_facts}
 use Rattle.node_keys.specs.declared.keys.NodeKey.{NodeKey}
 use Rattle.node_keys.specs.declared.keys.High.{High}
 use Rattle.node_keys.specs.declared.keys.SpForm.TheVariants.{Closed, Open}
@@ -47,13 +46,16 @@ use Rattle.node_keys.specs.Splits.{splits}
 use Rattle.local_rules.specs.declared.local.Node.{Node}
 use Rattle.local_rules.specs.declared.local.NodeFault.TheVariants.{TooDeep}
 use Rattle.local_rules.specs.Raw.{Raw, at_word, one, fails}
-use Rattle.local_rules.specs.Writes.{high_part, opening, closing_offset, closing, is_entry_flags, flags_written, with_i, sreg_written, masks_written, register_written as node_written, put_flags, written_at}
+use Rattle.local_rules.specs.Writes.{high_part, opening, closing_offset, closing, is_entry_flags, flags_written, with_i, sreg_written, masks_written, register_written as node_written, put_flags, written_behind, written_at}
 use Rattle.local_rules.specs.Machine.{floor_of}
 use Rattle.local_laws.proofs.Bare.{InBareFrame}
 use Rattle.local_laws.proofs.Landing.{ArrivesWhere}
 use Rattle.local_laws.proofs.Enables.{IsIo, io_written, same_enables, written_both}
 use Rattle.local_laws.proofs.Frame.{second, set_stands, slot_kept, above_floor, frame_kept}
-use Rattle.local_rules.specs.Registers.{with_bits, forgotten}
+use Rattle.local_rules.specs.Registers.{forgotten}
+use Rattle.local_rules.specs.Banks.{stored_value}
+use Rattle.local_laws.proofs.BankSizes.{IsPlace, place_of, place_apart, place_core}
+use Rattle.local_laws.proofs.BankValues.{stored_stands}
 use Rattle.local_laws.proofs.Less.{less_set, forgotten_less, forgotten_spares}
 use Rattle.local_laws.proofs.Targets.{in_map}
 use Rattle.local_laws.proofs.SpWrites.{opened, closes}
@@ -97,14 +99,14 @@ enables_kept device enables a byte small h =
     by_bits (enable_count device) enables (λ k. written_enable (enable_place_at device (k + 2) a) byte (bit_at enables k)) small
     (λ j lt. sym (ap (λ p. written_enable p byte (bit_at enables j)) (enables_are_vectors.none device (j + 2) a h)))
 
-above_registers : (device : Device) (a : ℕ) → a < 0x20 → has_enables device a ≡ false
-above_registers device a lt = enables_are_vectors.core device a (grind (arith, nat_tests))
+place_holds_none : (device : Device) (a r : ℕ) → IsPlace device a r → has_enables device a ≡ false
+place_holds_none device a r place = enables_are_vectors.core device a (place_core device a r place)
 
 spl_holds_none : (device : Device) → has_enables device SPL ≡ false
 spl_holds_none device = enables_are_vectors.core device SPL refl
 
 sph_holds_none : (device : Device) → has_sph device ≡ true → has_enables device SPH ≡ false
-sph_holds_none device told = enables_are_vectors.core device SPH (ap (λ (b : Bool). is_core_by b SPH) told)
+sph_holds_none device told = enables_are_vectors.core device SPH (ap (λ (b : Bool). (b && true) || ((has_elpm device && false) || (has_eijmp device && false))) told)
 
 sreg_holds_none : (device : Device) → has_enables device SREG ≡ false
 sreg_holds_none device = enables_are_vectors.core device SREG refl
@@ -155,8 +157,12 @@ set_other registers a byte r e =
     let apart : a ≢ r = λ same. (let hit : (a == r) ≡ true = eq-eqb a r same in absurd (let no = sym hit ∙ other in cc)) in
     grind (arith, elements)
 
-not_same : (a b : ℕ) → nat_lt a 0x20 ≡ true → 0x1F < b → (a == b) ≡ false
-not_same a b here above = ne_eqb a b (λ same. let lt : a < 0x20 = ltb-true a 0x20 here in omega arith)
+-- the registers after a byte is stored
+after_none : (device : Device) (registers : List ℕ) (a byte : ℕ) → register_at device a ≡ None → registers_after device registers (set a byte) ≡ registers
+after_none device registers a byte e = ap (register_stored device registers byte) e
+
+after_some : (device : Device) (registers : List ℕ) (a byte r : ℕ) → register_at device a ≡ Some r → registers_after device registers (set a byte) ≡ slice_set registers r (kept_of device r byte)
+after_some device registers a byte r e = ap (register_stored device registers byte) e
 
 module _ {may : Bool} (m : State) (o : Origin) (k : NodeKey) (s : AbsState) (at : InBareFrame may m o k s) (guarded : Bool) (pc pc' : ℕ) (pc_is : pc ≡ pc') (writes : List Write)
     (registers : List AbsByte) (stand : RegistersStand o registers (with_registers m.registers writes))
@@ -178,9 +184,9 @@ module _ {may : Bool} (m : State) (o : Origin) (k : NodeKey) (s : AbsState) (at 
   -- an address outside the stack pointer and the status register
   pub elsewhere : (a byte masks : ℕ) (values : List AbsByte) (c : CarryTag) (x : Option PairFacts) → IsCarryWithin s.flags.carry c → (a == SPL) ≡ false → is_sph m.device a ≡ false → (a == SREG) ≡ false
       → EnablesAre may (written_enables m.device m.enables a byte) masks
-      → RegistersStand o values (registers_after (with_registers m.registers writes) (set a byte))
-      → LessHolds (registers_after (with_registers m.registers writes) (set a byte)) c (flag m.sreg 0)
-      → (HoldsAt told (with_registers m.registers writes) m.sreg → HoldsAt x (registers_after (with_registers m.registers writes) (set a byte)) (sreg_after m.sreg (set a byte)))
+      → RegistersStand o values (registers_after m.device (with_registers m.registers writes) (set a byte))
+      → LessHolds (registers_after m.device (with_registers m.registers writes) (set a byte)) c (flag m.sreg 0)
+      → (HoldsAt told (with_registers m.registers writes) m.sreg → HoldsAt x (registers_after m.device (with_registers m.registers writes) (set a byte)) (sreg_after m.sreg (set a byte)))
       → ArrivesWhere may m o told guarded (stored m pc writes is_out a byte)
       (record { key = record key { masks = masks }; state = record s { registers = values; flags = record s.flags { carry = c }; facts = x } })
   elsewhere a byte masks values c x over not_low not_high not_sreg enables values_stand still known =
@@ -192,25 +198,23 @@ module _ {may : Bool} (m : State) (o : Origin) (k : NodeKey) (s : AbsState) (at 
       (neither (a == SPL) (is_sph m.device a) false true m.is_open not_low not_high)
       pc_is enables (ap (λ x. flag x 7) sreg ∙ at.place.i) (no_delay is_out (a == SREG) (flag byte 7) (not (i_flag m)) not_sreg)
       values_stand (subst (FlagsStand o (record s.flags { carry = c })) (sym sreg) flags)
-      (subst (λ (x : ℕ). LessHolds (registers_after (with_registers m.registers writes) (set a byte)) c (flag x 0)) (sym sreg) still) known
+      (subst (λ (x : ℕ). LessHolds (registers_after m.device (with_registers m.registers writes) (set a byte)) c (flag x 0)) (sym sreg) still) known
 
   -- an address outside the registers as well
-  pub changes_none : (a byte : ℕ) → nat_lt a 0x20 ≡ false → RegistersStand o registers (registers_after (with_registers m.registers writes) (set a byte))
-  changes_none a byte beyond = subst (RegistersStand o registers) (sym (not_chosen (nat_lt a 0x20) (slice_set (with_registers m.registers writes) a byte) (with_registers m.registers writes) beyond)) stand
+  pub changes_none : (a byte : ℕ) → register_at m.device a ≡ None → RegistersStand o registers (registers_after m.device (with_registers m.registers writes) (set a byte))
+  changes_none a byte beyond = subst (RegistersStand o registers) (sym (after_none m.device (with_registers m.registers writes) a byte beyond)) stand
 
-  pub less_still : (a byte : ℕ) → nat_lt a 0x20 ≡ false → LessHolds (registers_after (with_registers m.registers writes) (set a byte)) s.flags.carry (flag m.sreg 0)
+  pub less_still : (a byte : ℕ) → register_at m.device a ≡ None → LessHolds (registers_after m.device (with_registers m.registers writes) (set a byte)) s.flags.carry (flag m.sreg 0)
   less_still a byte beyond =
-      subst (λ (xs : List ℕ). LessHolds xs s.flags.carry (flag m.sreg 0))
-      (sym (not_chosen (nat_lt a 0x20) (slice_set (with_registers m.registers writes) a byte) (with_registers m.registers writes) beyond)) less
+      subst (λ (xs : List ℕ). LessHolds xs s.flags.carry (flag m.sreg 0)) (sym (after_none m.device (with_registers m.registers writes) a byte beyond)) less
 
-  pub facts_still : (a byte : ℕ) → nat_lt a 0x20 ≡ false → (a == SREG) ≡ false → HoldsAt told (with_registers m.registers writes) m.sreg
-      → HoldsAt told (registers_after (with_registers m.registers writes) (set a byte)) (sreg_after m.sreg (set a byte))
+  pub facts_still : (a byte : ℕ) → register_at m.device a ≡ None → (a == SREG) ≡ false → HoldsAt told (with_registers m.registers writes) m.sreg
+      → HoldsAt told (registers_after m.device (with_registers m.registers writes) (set a byte)) (sreg_after m.sreg (set a byte))
   facts_still a byte beyond not_sreg held =
-      subst₂ (HoldsAt told) (sym (not_chosen (nat_lt a 0x20) (slice_set (with_registers m.registers writes) a byte) (with_registers m.registers writes) beyond))
-      (sym (not_chosen (a == SREG) byte m.sreg not_sreg)) held
+      subst₂ (HoldsAt told) (sym (after_none m.device (with_registers m.registers writes) a byte beyond)) (sym (not_chosen (a == SREG) byte m.sreg not_sreg)) held
 
   -- one of the splits, for these enable bits
-  split_lands : (a byte left : ℕ) (v : AbsByte) → nat_lt a 0x20 ≡ false → (a == SPL) ≡ false → is_sph m.device a ≡ false → (a == SREG) ≡ false
+  split_lands : (a byte left : ℕ) (v : AbsByte) → register_at m.device a ≡ None → (a == SPL) ≡ false → is_sph m.device a ≡ false → (a == SREG) ≡ false
       → Contains (splits m.device k.masks a v.bits) left → EnablesAre may (written_enables m.device m.enables a byte) left
       → ReachesNode may m o told k guarded (stored m pc writes is_out a byte) (masks_written m.device key state a v)
   split_lands a byte left v beyond not_low not_high not_sreg present enables =
@@ -229,35 +233,38 @@ module _ {may : Bool} (m : State) (o : Origin) (k : NodeKey) (s : AbsState) (at 
       subst (ReachesNode may m o told k guarded (stored m pc writes is_out a byte)) (sym (io_written m.device k.pc key state is_out a v io))
       (split_lands a byte left v io.0 io.1.0 io.1.1.0 io.1.1.1.0 present enables)
 
-  module _ (byte : ℕ) (small : byte < 256) (v : AbsByte) (stands : ByteStands o v byte) (count_values : length registers ≡ 32)
-      (count : length (with_registers m.registers writes) ≡ 32) where
+  module _ (byte : ℕ) (small : byte < 256) (v : AbsByte) (stands : ByteStands o v byte) (count_values : length registers ≡ REGISTERS)
+      (count : length (with_registers m.registers writes) ≡ REGISTERS) where
     -- a write of an address without enable bits
     pub enables_stay : (a : ℕ) → has_enables m.device a ≡ false → EnablesAre may (written_enables m.device m.enables a byte) k.masks
     enables_stay a none = same_enables may (written_enables m.device m.enables a byte) m.enables k.masks (enables_kept m.device m.enables a byte at.machine.enable_bits none) at.place.enables
 
-    register_written : (a : ℕ) → nat_lt a 0x20 ≡ true → (a == SPL) ≡ false → is_sph m.device a ≡ false → (a == SREG) ≡ false
-        → ArrivesWhere may m o told guarded (stored m pc writes is_out a byte) (record { key = key; state = node_written state a v })
-    register_written a here not_low not_high not_sreg =
-        let lt : a < 0x20 = ltb-true a 0x20 here in
-        let w : AbsByte = with_bits v.tag v.bits in
-        let c : CarryTag = forgotten (a ∷ []) s.flags.carry in
+    register_written : (a r : ℕ) → register_at m.device a ≡ Some r
+        → ArrivesWhere may m o told guarded (stored m pc writes is_out a byte) (record { key = key; state = node_written m.device state r v })
+    register_written a r here =
+        let place = place_of m.device a r here in
+        let w : AbsByte = stored_value m.device r v in
+        let x : ℕ = kept_of m.device r byte in
+        let c : CarryTag = forgotten (r ∷ []) s.flags.carry in
         let old : List ℕ = with_registers m.registers writes in
-        let new : List ℕ = slice_set old a byte in
-        let new_stand : RegistersStand o (slice_set registers a w) new = set_stands o registers old a w byte count_values count (bits_make_values.stands o v.tag v.bits byte small stands.tag stands.bits) stand in
-        let left : Option PairFacts = ended (is_one_of (a ∷ [])) false false told in
-        let known : HoldsAt told old m.sreg → HoldsAt (written_hull (slice_set registers a w) a left) (registers_after old (set a byte)) (sreg_after m.sreg (set a byte)) = λ held.
-        subst₂ (HoldsAt (written_hull (slice_set registers a w) a left)) (sym (is_chosen (nat_lt a 0x20) new old here)) (sym (not_chosen (a == SREG) byte m.sreg not_sreg))
-        (writes_end_facts.hull_holds o (slice_set registers a w) new a left m.sreg (known_is_ordered.count left (writes_end_facts.fits (is_one_of (a ∷ [])) false false told told_fits)) new_stand
-        (writes_end_facts.holds (is_one_of (a ∷ [])) false false told old new m.sreg m.sreg
-        (record { kept = λ r other. set_other old a byte r other; bytes = λ r inside. (new_stand r inside).small })
+        let new : List ℕ = slice_set old r x in
+        let is : registers_after m.device old (set a byte) ≡ new = after_some m.device old a byte r here in
+        let not_sreg : (a == SREG) ≡ false = place_apart m.device a r SREG (omega arith) place in
+        let new_stand : RegistersStand o (slice_set registers r w) new = set_stands o registers old r w x count_values count (stored_stands m.device o a r v byte at.banks place stands) stand in
+        let left : Option PairFacts = ended (is_one_of (r ∷ [])) false false told in
+        let known : HoldsAt told old m.sreg → HoldsAt (written_hull (slice_set registers r w) r left) (registers_after m.device old (set a byte)) (sreg_after m.sreg (set a byte)) = λ held.
+        subst₂ (HoldsAt (written_hull (slice_set registers r w) r left)) (sym is) (sym (not_chosen (a == SREG) byte m.sreg not_sreg))
+        (writes_end_facts.hull_holds o (slice_set registers r w) new r left m.sreg (known_is_ordered.count left (writes_end_facts.fits (is_one_of (r ∷ [])) false false told told_fits)) new_stand
+        (writes_end_facts.holds (is_one_of (r ∷ [])) false false told old new m.sreg m.sreg
+        (record { kept = λ n other. set_other old r x n other; bytes = λ n inside. (new_stand n (omega (arith, inside))).small })
         (record { carry_kept = λ e. refl; others_kept = λ e. (refl, refl, refl) }) held)) in
-        elsewhere a byte k.masks (slice_set registers a w) c (written_hull (slice_set registers a w) a left) (forgotten_less (a ∷ []) s.flags.carry) not_low not_high not_sreg
-        (enables_stay a (above_registers m.device a lt))
-        (subst (λ t. RegistersStand o (slice_set registers a w) (if t then slice_set (with_registers m.registers writes) a byte else with_registers m.registers writes)) (sym here)
-        new_stand)
-        (subst (λ t. LessHolds (if t then slice_set (with_registers m.registers writes) a byte else with_registers m.registers writes) c (flag m.sreg 0)) (sym here)
-        (less_set (with_registers m.registers writes) c (flag m.sreg 0) a byte (forgotten_spares (a ∷ []) s.flags.carry).0
-        (tags_say_less.less (with_registers m.registers writes) s.flags.carry c (flag m.sreg 0) (forgotten_less (a ∷ []) s.flags.carry) less))) known
+        elsewhere a byte k.masks (slice_set registers r w) c (written_hull (slice_set registers r w) r left) (forgotten_less (r ∷ []) s.flags.carry)
+        (place_apart m.device a r SPL (omega arith) place) (ap (λ (b : Bool). b && has_sph m.device) (place_apart m.device a r SPH (omega arith) place)) not_sreg
+        (enables_stay a (place_holds_none m.device a r place))
+        (subst (RegistersStand o (slice_set registers r w)) (sym is) new_stand)
+        (subst (λ (xs : List ℕ). LessHolds xs c (flag m.sreg 0)) (sym is)
+        (less_set old c (flag m.sreg 0) r x (forgotten_spares (r ∷ []) s.flags.carry).0
+        (tags_say_less.less old s.flags.carry c (flag m.sreg 0) (forgotten_less (r ∷ []) s.flags.carry) less))) known
 
     -- ---- SPL
 
@@ -345,7 +352,7 @@ module _ {may : Bool} (m : State) (o : Origin) (k : NodeKey) (s : AbsState) (at 
         (enables_stay SREG (sreg_holds_none m.device)) is
         (delay_is is_out (flag byte 7) (i_flag m) on k.i is at.place.i) stand (flags_stand o v byte stands) tt
         (λ held. writes_end_facts.holds (λ r. false) true true told (with_registers m.registers writes) (with_registers m.registers writes) m.sreg byte
-        (record { kept = λ r other. refl; bytes = λ r inside. (stand r inside).small }) (record { carry_kept = λ e. absurd (let no = e in cc); others_kept = λ e. absurd (let no = e in cc) }) held)
+        (record { kept = λ r other. refl; bytes = λ r inside. (stand r (omega (arith, inside))).small }) (record { carry_kept = λ e. absurd (let no = e in cc); others_kept = λ e. absurd (let no = e in cc) }) held)
 
     flag_zero : bit_at byte 7 ≡ 0 → flag byte 7 ≡ false
     flag_zero e = ap (λ x. x == 1) e
@@ -376,7 +383,7 @@ module _ {may : Bool} (m : State) (o : Origin) (k : NodeKey) (s : AbsState) (at 
 
     -- ---- enable bits, and all other addresses
 
-    masks_lands : AreSplitsWritten → (a : ℕ) → nat_lt a 0x20 ≡ false → (a == SPL) ≡ false → is_sph m.device a ≡ false → (a == SREG) ≡ false
+    masks_lands : AreSplitsWritten → (a : ℕ) → register_at m.device a ≡ None → (a == SPL) ≡ false → is_sph m.device a ≡ false → (a == SREG) ≡ false
         → ReachesNode may m o told k guarded (stored m pc writes is_out a byte) (masks_written m.device key state a v)
     masks_lands members a beyond not_low not_high not_sreg =
         let left : ℕ = written_enables m.device k.masks a byte in
@@ -391,15 +398,16 @@ module _ {may : Bool} (m : State) (o : Origin) (k : NodeKey) (s : AbsState) (at 
     pub written : AreSplitsWritten → (a : ℕ) → (written_at (write_at m.device k.pc key state v) is_out a).faults ≡ []
         → ReachesNode may m o told k guarded (stored m pc writes is_out a byte) (written_at (write_at m.device k.pc key state v) is_out a)
     unfolding written_at
-    written members a clean =
-        let e = stored m pc writes is_out a byte in
-        chosen e (nat_lt a 0x20) (one key (node_written state a v)) _
-        (λ here rest. only e _ refl (register_written a here (not_same a SPL here (omega arith)) (ap (λ (b : Bool). b && has_sph m.device) (not_same a SPH here (omega arith))) (not_same a SREG here (omega arith))))
-        (λ beyond.
-        chosen e (a == SPL) (closing m.device (closing_offset m.device k.inst.kind k.sp v) key state k.pc) _ (λ here rest.
-        at_address a SPL _ here (closed_written (closing_offset m.device k.inst.kind k.sp v) refl rest)) (λ not_low.
-        chosen e (is_sph m.device a) (opening (high_part k.inst.kind v) key state k.pc) _ (λ here rest.
-        let parts = and_parts (a == SPH) (has_sph m.device) here in
-        at_address a SPH _ parts.0 (opened_written parts.1 (high_part k.inst.kind v) refl rest)) (λ not_high.
-        chosen e (a == SREG) (sreg_written (tri_at v.bits 7) key flagged is_out) _ (λ here rest.
-        at_address a SREG _ here (sreg_by (tri_at v.bits 7) (stands.bits 7 (omega arith)))) (λ not_sreg rest. masks_lands members a beyond not_low not_high not_sreg)))) clean
+    written members a clean = by (register_at m.device a) refl clean
+      where
+        by : (place : Option ℕ) → register_at m.device a ≡ place → (written_behind (write_at m.device k.pc key state v) is_out a place).faults ≡ []
+            → ReachesNode may m o told k guarded (stored m pc writes is_out a byte) (written_behind (write_at m.device k.pc key state v) is_out a place)
+        by (Some r) here rest = only (stored m pc writes is_out a byte) _ refl (register_written a r here)
+        by None beyond rest =
+            chosen (stored m pc writes is_out a byte) (a == SPL) (closing m.device (closing_offset m.device k.inst.kind k.sp v) key state k.pc) _ (λ here rest.
+            at_address a SPL _ here (closed_written (closing_offset m.device k.inst.kind k.sp v) refl rest)) (λ not_low.
+            chosen (stored m pc writes is_out a byte) (is_sph m.device a) (opening (high_part k.inst.kind v) key state k.pc) _ (λ here rest.
+            let parts = and_parts (a == SPH) (has_sph m.device) here in
+            at_address a SPH _ parts.0 (opened_written parts.1 (high_part k.inst.kind v) refl rest)) (λ not_high.
+            chosen (stored m pc writes is_out a byte) (a == SREG) (sreg_written (tri_at v.bits 7) key flagged is_out) _ (λ here rest.
+            at_address a SREG _ here (sreg_by (tri_at v.bits 7) (stands.bits 7 (omega arith)))) (λ not_sreg rest. masks_lands members a beyond not_low not_high not_sreg))) rest

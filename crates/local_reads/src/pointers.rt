@@ -106,12 +106,12 @@ pub fn read_pointed(
 
 /// The byte of flash at a known address.
 #[tactic(auto, using(avr_model::proofs::AllLaws::devices_are_alike))]
-pub fn flash_value(flash: &Flash, z: Option<u16>) -> AbsByte
+pub fn flash_value(flash: &Flash, z: Option<u32>) -> AbsByte
     ensures { result ≡ flash_value flash.now z }
 {
     let end = 2 * flash.device().words();
     match z {
-        Some(z) if u32::from(z) < end => AbsByte::known(flash.byte(z)),
+        Some(z) if z < end => AbsByte::known(flash.byte(z)),
         _ => AbsByte::unknown(),
     }
 }

@@ -8,11 +8,10 @@ ghost use Rattle.local_rules.specs.Reads.{enable_read, io_tri, free_tri, io_bits
 
 use crate::stack_pointer::sp_bytes;
 use abs_state::{AbsByte, AbsState};
-use avr_model::device::{Device, REGISTERS_END, SPH, SPL, SREG};
-use avr_model::instruction::Register;
+use avr_model::device::{Device, SPH, SPL, SREG};
 use bit_domain::{Tri, TriByte};
 use local_rows::bits::tri_of;
-use local_rows::registers::value;
+use local_rows::registers::value_at;
 use local_rows::status::sreg_value;
 use node_keys::{Kind, NodeKey};
 use sp_domain::Slot;
@@ -103,8 +102,10 @@ fn slot_read(device: Device, kind: Kind, state: &AbsState, address: u16) -> AbsB
 pub fn read_at(device: Device, may: bool, key: &NodeKey, state: &AbsState, address: u16) -> AbsByte
     ensures { result ≡ read_at device may key.now state.now address }
 {
+    if let Some(r) = device.register_at(address) {
+        return value_at(&state.registers, r);
+    }
     match address {
-        0..REGISTERS_END => value(state, Register::new(address)),
         SPL => sp_bytes(device, key.inst.kind, key.sp).0,
         SPH if device.has_sph() => sp_bytes(device, key.inst.kind, key.sp).1,
         SREG => sreg_value(key, state),

@@ -16,6 +16,7 @@ use Rattle.abs_state.specs.Stands.{RegistersStand, FlagsStand, SlotsStand, Stand
 use Rattle.abs_state.specs.Laws.{Keeps, HoldsAt}
 use Rattle.abs_state.specs.Hulls.{IsInHulls}
 use Rattle.abs_state.specs.Formed.{IsFormed, IsUntagged}
+use Rattle.abs_state.specs.Banks.{IsStateOf}
 pub use Rattle.abs_state.specs.Formed.{TagFits, SlotFits, TagsFit}
 use Rattle.node_keys.specs.declared.keys.NodeKey.{NodeKey}
 use Rattle.node_keys.specs.declared.keys.Kind.{Kind}
@@ -24,14 +25,14 @@ use Rattle.node_keys.specs.declared.keys.High.{High}
 use Rattle.node_keys.specs.declared.keys.High.TheVariants.{Known, Tag}
 use Rattle.node_keys.specs.declared.keys.SpForm.{SpForm}
 use Rattle.node_keys.specs.declared.keys.SpForm.TheVariants.{Closed, Open}
-use Rattle.node_keys.specs.Keys.{offset_of, PickFits}
+use Rattle.node_keys.specs.Keys.{offset_of, is_root, PickFits}
 use Rattle.node_keys.specs.Place.{EnablesAre, AtNode}
 use Rattle.local_rules.specs.Site.{Task, masks_by}
 use Rattle.local_rules.specs.declared.local.Node.{Node}
 use Rattle.local_rules.specs.declared.local.Local.{Local}
 use Rattle.local_rules.specs.declared.local.CallSite.{CallSite}
 use Rattle.local_rules.specs.declared.local.Exit.{Exit}
-use Rattle.local_rules.specs.Machine.{IsMachine, floor_of}
+use Rattle.local_rules.specs.Machine.{IsMachine, AreBanks, floor_of}
 use Rattle.local_rules.specs.Raw.{Raw}
 
 -- ---- nodes that the analysis works with
@@ -62,7 +63,8 @@ pub record IsKey (device : Device) (k : NodeKey) : Type 0 where
   pub pick : PickFits k.pick
 
 -- A node of the analysis of a device: its key is in range, its state is formed for the key's offset, numbers in tags are in range, and in
--- the root no byte is tagged. It follows pairs or doesn't, as `followed` says, and each interval lies in the hull of its registers.
+-- the root no byte is tagged. Tags, RAMPZ and EIND are those of the device. It follows pairs or doesn't, as `followed` says, and each
+-- interval lies in the hull of its registers.
 pub record IsNodeIn (device : Device) (followed : Bool) (k : NodeKey) (s : AbsState) : Type 0 where
   pub word : k.pc < limit_of device
   pub small : offset_of k.sp ≤ depth_of device
@@ -73,6 +75,7 @@ pub record IsNodeIn (device : Device) (followed : Bool) (k : NodeKey) (s : AbsSt
   pub tags : TagsFit s
   pub carry_bytes : HasByteNumbers s.flags.carry
   pub untagged : k.inst.kind ≡ Root → IsUntagged s
+  pub registers_of : IsStateOf device (is_root k.inst.kind) s
   pub mode : is_followed s.facts ≡ followed
   pub hulls : IsInHulls s
 
@@ -83,13 +86,15 @@ IsNode device k s = IsNodeIn device false k s
 -- ---- where the machine is
 
 -- The machine is at the node in a frame with this origin, and the state and its facts on pairs hold. The base of the root's frame is the
--- top of the device's SRAM, and no base is above it. If `may`, the frame's slots lie in SRAM or above it, so none is an enable bit.
+-- top of the device's SRAM, and no base is above it. If `may`, the frame's slots lie in SRAM or above it, so none is an enable bit. The
+-- origin's RAMPZ and EIND hold no more than they can, so their entry tags survive the cut of a write.
 pub record InFrameIn (followed may : Bool) (m : State) (o : Origin) (k : NodeKey) (s : AbsState) : Type 0 where
   pub machine : IsMachine m
   pub node : IsNodeIn m.device followed k s
   pub place : AtNode may o.base m k
   pub stands : Stands o s m
   pub facts : HoldsAt s.facts m.registers m.sreg
+  pub banks : AreBanks m.device o.registers
   pub root : k.inst.kind ≡ Root → o.base ≡ ramend m.device
   pub top : o.base ≤ ramend m.device
   pub room : may ≡ true → offset_of k.sp + io_end m.device ≤ o.base

@@ -6,6 +6,7 @@ use Rattle.avr_model.specs.Devices.{Image, size_of, width, limit_width, back_of}
 use Rattle.avr_model.specs.Image.{word_at}
 use Rattle.avr_model.specs.Table.{length_of}
 use Rattle.avr_model.specs.Assumptions.{jump_line, lists}
+use Rattle.avr_model.specs.State.{EIND}
 use Rattle.avr_model.specs.Vectors.{held_of}
 use Rattle.bit_domain.specs.declared.bits.Tri.{Tri}
 use Rattle.bit_domain.specs.declared.bits.Tri.TheVariants.{Zero, One, Any}
@@ -126,12 +127,19 @@ z_with s bank = record { low = bits s 30; high = bits s 31; bank = bank }
 abbrev pub targets_at : List Entry → Site → Option (List ℕ)
 targets_at A at = targets_by at.device (jump_line A at.key.pc) (z_with at.state (byte_known 0))
 
+-- `eijmp` and `eicall` go to words of the bank that EIND chooses
+abbrev pub far_targets_at : List Entry → Site → Option (List ℕ)
+far_targets_at A at = targets_by at.device (jump_line A at.key.pc) (z_with at.state (bits at.state EIND))
+
 abbrev pub jumping : Option (List ℕ) → NodeKey → AbsState → Raw
 jumping None k s = fails (UnresolvedJump k.pc)
 jumping (Some targets) k s = moves_to (map (λ t. record { key = off_table k t; state = s }) targets)
 
 abbrev pub ijmp_row : List Entry → Site → Raw
 ijmp_row A at = jumping (targets_at A at) at.key at.state
+
+abbrev pub eijmp_row : List Entry → Site → Raw
+eijmp_row A at = jumping (far_targets_at A at) at.key at.state
 
 -- ---- the stack
 
@@ -192,6 +200,9 @@ indirect_call device (Some targets) k = calling k (further device k 1) targets
 
 abbrev pub icall_row : List Entry → Site → Raw
 icall_row A at = indirect_call at.device (targets_at A at) at.key
+
+abbrev pub eicall_row : List Entry → Site → Raw
+eicall_row A at = indirect_call at.device (far_targets_at A at) at.key
 
 abbrev pub relative_call : Bool → Site → ℕ → Raw
 relative_call true at target = room_row at target

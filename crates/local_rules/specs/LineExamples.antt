@@ -31,6 +31,7 @@ use Rattle.local_rules.specs.declared.local.NodeFault.{NodeFault}
 use Rattle.local_rules.specs.declared.local.NodeFault.TheVariants.{UntrackedSp, UnknownPointer}
 use Rattle.local_rules.specs.Raw.{Raw}
 use Rattle.local_rules.specs.Registers.{with_bits}
+use Rattle.local_rules.specs.Settling.{settled_state, settled_values}
 use Rattle.local_rules.specs.Writes.{may_wake}
 use Rattle.local_rules.specs.Site.{task_with}
 use Rattle.local_rules.specs.Local.{raw, may_come}
@@ -67,85 +68,85 @@ large = state_of (tag.SpLo 34) (tag.SpHi 290) 32 carry.None
 
 -- `add r28, r24`
 gives_low : says 28 (lined 0x0FC8 large) ≡ (tag.SpLo 2, carry.Sum 34 32) ∷ []
-unfolding raw table_site ijmp_from is_scratch any_below all_below decoded device_row packed is_frame
+unfolding raw table_site ijmp_from is_scratch any_below all_below decoded device_row packed is_frame settled_state settled_values
 gives_low = refl
 
 -- `add r28, r24` without the line
 gives_nothing : says 28 (plain 0x0FC8 large) ≡ (tag.None, carry.None) ∷ []
-unfolding raw table_site ijmp_from is_scratch any_below all_below decoded device_row packed is_frame
+unfolding raw table_site ijmp_from is_scratch any_below all_below decoded device_row packed is_frame settled_state settled_values
 gives_nothing = refl
 
 -- `add r24, r28` follows r28
 gives_second : says 24 (lined 0x0F8C large) ≡ (tag.SpLo 2, carry.Sum 34 32) ∷ []
-unfolding raw table_site ijmp_from is_scratch any_below all_below decoded device_row packed is_frame
+unfolding raw table_site ijmp_from is_scratch any_below all_below decoded device_row packed is_frame settled_state settled_values
 gives_second = refl
 
 -- `add r28, r28`
 gives_twice : says 28 (lined 0x0FCC large) ≡ (tag.None, carry.None) ∷ []
-unfolding raw table_site ijmp_from is_scratch any_below all_below decoded device_row packed is_frame
+unfolding raw table_site ijmp_from is_scratch any_below all_below decoded device_row packed is_frame settled_state settled_values
 gives_twice = refl
 
 -- `add r28, r25` of an unknown byte
 gives_unknown : says 28 (lined 0x0FC9 large) ≡ (tag.None, carry.None) ∷ []
-unfolding raw table_site ijmp_from is_scratch any_below all_below decoded device_row packed is_frame
+unfolding raw table_site ijmp_from is_scratch any_below all_below decoded device_row packed is_frame settled_state settled_values
 gives_unknown = refl
 
 -- `add r24, r1` follows r24, which does not belong to the frame pointer
 follows_one : says 24 (lined 0x0D81 (record large { registers = slice_set large.registers 24 (with_bits (tag.SpLo 9) byte_any) })) ≡ (tag.SpLo 9, carry.Sum 9 0) ∷ []
-unfolding raw table_site ijmp_from is_scratch any_below all_below decoded device_row packed is_frame
+unfolding raw table_site ijmp_from is_scratch any_below all_below decoded device_row packed is_frame settled_state settled_values
 follows_one = refl
 
 -- then `adc r29, r1`, and `adc r29, r24` from base - 290 and one page more
 gives_high : says 29 (lined 0x1DD1 (state_of (tag.SpLo 2) (tag.SpHi 290) 1 (carry.Sum 34 32))) ≡ (tag.SpHi 258, carry.None) ∷ []
-unfolding raw table_site ijmp_from is_scratch any_below all_below decoded device_row packed is_frame
+unfolding raw table_site ijmp_from is_scratch any_below all_below decoded device_row packed is_frame settled_state settled_values
 gives_high = refl
 
 gives_page : says 29 (lined 0x1FD8 (state_of (tag.SpLo 2) (tag.SpHi 290) 1 (carry.Sum 34 32))) ≡ (tag.SpHi 2, carry.None) ∷ []
-unfolding raw table_site ijmp_from is_scratch any_below all_below decoded device_row packed is_frame
+unfolding raw table_site ijmp_from is_scratch any_below all_below decoded device_row packed is_frame settled_state settled_values
 gives_page = refl
 
 -- after the carry of another byte, and after a borrow
 gives_no_high : says 29 (lined 0x1DD1 (state_of (tag.SpLo 2) (tag.SpHi 290) 1 (carry.Sum 35 32))) ≡ (tag.None, carry.None) ∷ []
-unfolding raw table_site ijmp_from is_scratch any_below all_below decoded device_row packed is_frame
+unfolding raw table_site ijmp_from is_scratch any_below all_below decoded device_row packed is_frame settled_state settled_values
 gives_no_high = refl
 
 gives_no_borrow : says 29 (lined 0x1DD1 (state_of (tag.SpLo 2) (tag.SpHi 290) 1 (carry.Borrow 34 32))) ≡ (tag.None, carry.None) ∷ []
-unfolding raw table_site ijmp_from is_scratch any_below all_below decoded device_row packed is_frame
+unfolding raw table_site ijmp_from is_scratch any_below all_below decoded device_row packed is_frame settled_state settled_values
 gives_no_borrow = refl
 
 -- `add r29, r24` with 255 subtracts a page, so does `sub r29, r24` with 1; `subi r29, 0xFF` adds one
 moves_page : says 29 (lined 0x0FD8 (state_of (tag.SpLo 2) (tag.SpHi 258) 255 carry.None)) ≡ (tag.SpHi 514, carry.None) ∷ []
-unfolding raw table_site ijmp_from is_scratch any_below all_below decoded device_row packed is_frame
+unfolding raw table_site ijmp_from is_scratch any_below all_below decoded device_row packed is_frame settled_state settled_values
 moves_page = refl
 
 takes_page : says 29 (lined 0x1BD8 (state_of (tag.SpLo 2) (tag.SpHi 2) 1 carry.None)) ≡ (tag.SpHi 258, carry.None) ∷ []
-unfolding raw table_site ijmp_from is_scratch any_below all_below decoded device_row packed is_frame
+unfolding raw table_site ijmp_from is_scratch any_below all_below decoded device_row packed is_frame settled_state settled_values
 takes_page = refl
 
 less_page : says 29 (lined 0x5FDF (state_of (tag.SpLo 2) (tag.SpHi 258) 1 carry.None)) ≡ (tag.SpHi 2, carry.None) ∷ []
-unfolding raw table_site ijmp_from is_scratch any_below all_below decoded device_row packed is_frame
+unfolding raw table_site ijmp_from is_scratch any_below all_below decoded device_row packed is_frame settled_state settled_values
 less_page = refl
 
 less_plain : says 29 (plain 0x5FDF (state_of (tag.SpLo 2) (tag.SpHi 258) 1 carry.None)) ≡ (tag.None, carry.None) ∷ []
-unfolding raw table_site ijmp_from is_scratch any_below all_below decoded device_row packed is_frame
+unfolding raw table_site ijmp_from is_scratch any_below all_below decoded device_row packed is_frame settled_state settled_values
 less_plain = refl
 
 -- `subi r28, 32` is the same with and without the line
 less_low : says 28 (lined 0x52C0 (state_of (tag.SpLo 2) (tag.SpHi 2) 1 carry.None)) ≡ (tag.SpLo 34, carry.Borrow 2 32) ∷ []
-unfolding raw table_site ijmp_from is_scratch any_below all_below decoded device_row packed is_frame
+unfolding raw table_site ijmp_from is_scratch any_below all_below decoded device_row packed is_frame settled_state settled_values
 less_low = refl
 
 -- `inc r29` and `dec r29` keep C and its tag; `inc r28` carries nothing into the high byte
 steps_up : says 29 (lined 0x95D3 (state_of (tag.SpLo 2) (tag.SpHi 258) 1 (carry.Sum 1 1))) ≡ (tag.SpHi 2, carry.Sum 1 1) ∷ []
-unfolding raw table_site ijmp_from is_scratch any_below all_below decoded device_row packed is_frame
+unfolding raw table_site ijmp_from is_scratch any_below all_below decoded device_row packed is_frame settled_state settled_values
 steps_up = refl
 
 steps_down : says 29 (lined 0x95DA (state_of (tag.SpLo 2) (tag.SpHi 2) 1 (carry.Sum 1 1))) ≡ (tag.SpHi 258, carry.Sum 1 1) ∷ []
-unfolding raw table_site ijmp_from is_scratch any_below all_below decoded device_row packed is_frame
+unfolding raw table_site ijmp_from is_scratch any_below all_below decoded device_row packed is_frame settled_state settled_values
 steps_down = refl
 
 steps_low : says 28 (lined 0x95C3 (state_of (tag.SpLo 2) (tag.SpHi 2) 1 carry.None)) ≡ (tag.None, carry.None) ∷ []
-unfolding raw table_site ijmp_from is_scratch any_below all_below decoded device_row packed is_frame
+unfolding raw table_site ijmp_from is_scratch any_below all_below decoded device_row packed is_frame settled_state settled_values
 steps_low = refl
 
 -- ---- `free` lines: `ldi r26, 0`, `ldi r27, 1` and `st X, r0`, at the store, where X isn't known
@@ -157,20 +158,20 @@ abbrev leads : Raw → List ℕ × List NodeFault
 leads r = (map (λ n. n.key.pc) r.moves, r.faults)
 
 is_fixed_by_words : leads (storing []) ≡ ([], UnknownPointer 2 ∷ [])
-unfolding raw table_site ijmp_from is_scratch is_fixed path_behind is_loaded_behind is_proved is_freed is_fixed_site store_line any_below all_below decoded length_of device_row packed
+unfolding raw table_site ijmp_from is_scratch is_fixed path_behind is_loaded_behind is_proved is_freed is_fixed_site store_line any_below all_below decoded length_of device_row packed settled_state settled_values
 is_fixed_by_words = refl
 
 is_freed_there : leads (storing (Free 2 ∷ [])) ≡ (3 ∷ [], [])
-unfolding raw table_site ijmp_from is_scratch is_fixed path_behind is_loaded_behind is_proved is_freed is_fixed_site store_line any_below all_below decoded length_of device_row packed may_wake admits_enables reads_masks has_masks
+unfolding raw table_site ijmp_from is_scratch is_fixed path_behind is_loaded_behind is_proved is_freed is_fixed_site store_line any_below all_below decoded length_of device_row packed may_wake admits_enables reads_masks has_masks settled_state settled_values
 is_freed_there = refl
 
 is_freed_elsewhere : leads (storing (Free 1 ∷ [])) ≡ ([], UnknownPointer 2 ∷ [])
-unfolding raw table_site ijmp_from is_scratch is_fixed path_behind is_loaded_behind is_proved is_freed is_fixed_site store_line any_below all_below decoded length_of device_row packed
+unfolding raw table_site ijmp_from is_scratch is_fixed path_behind is_loaded_behind is_proved is_freed is_fixed_site store_line any_below all_below decoded length_of device_row packed settled_state settled_values
 is_freed_elsewhere = refl
 
 -- a `prove` line fixes the site nevertheless
 is_proved_too : leads (storing (Prove 2 ∷ Free 2 ∷ [])) ≡ ([], UnknownPointer 2 ∷ [])
-unfolding raw table_site ijmp_from is_scratch is_fixed path_behind is_loaded_behind is_proved is_freed is_fixed_site store_line any_below all_below decoded length_of device_row packed
+unfolding raw table_site ijmp_from is_scratch is_fixed path_behind is_loaded_behind is_proved is_freed is_fixed_site store_line any_below all_below decoded length_of device_row packed settled_state settled_values
 is_proved_too = refl
 
 -- ---- `never` lines: while the pair is open, with TIMER0 COMPA's and OVF's vectors enabled at words 28 and 32
@@ -179,20 +180,20 @@ abbrev waiting : List Entry → List NodeFault
 waiting A = (raw (task_with (image_of M328 (0x0000 ∷ replicate 16383 0xFFFF)) A) (record (in_call (Open 0 (Tagged 2))) { i = true; masks = 40960 }) root).faults
 
 may_be_entered : waiting [] ≡ UntrackedSp 0 ∷ []
-unfolding raw table_site ijmp_from is_scratch may_come is_enabled has_enable_place enable_places is_never any_below all_below decoded device_row
+unfolding raw table_site ijmp_from is_scratch may_come is_enabled has_enable_place enable_places is_never any_below all_below decoded device_row settled_state settled_values
 may_be_entered = refl
 
 one_may_be_entered : waiting (Never 28 ∷ []) ≡ UntrackedSp 0 ∷ []
-unfolding raw table_site ijmp_from is_scratch may_come is_enabled has_enable_place enable_places is_never any_below all_below decoded device_row
+unfolding raw table_site ijmp_from is_scratch may_come is_enabled has_enable_place enable_places is_never any_below all_below decoded device_row settled_state settled_values
 one_may_be_entered = refl
 
 none_may_be_entered : waiting (Never 28 ∷ Never 32 ∷ []) ≡ []
-unfolding raw table_site ijmp_from is_scratch may_come is_enabled has_enable_place enable_places is_never any_below all_below decoded device_row
+unfolding raw table_site ijmp_from is_scratch may_come is_enabled has_enable_place enable_places is_never any_below all_below decoded device_row settled_state settled_values
 none_may_be_entered = refl
 
 -- these are numbers of vectors, not their words
 others_are_never_entered : waiting (Never 15 ∷ Never 17 ∷ []) ≡ UntrackedSp 0 ∷ []
-unfolding raw table_site ijmp_from is_scratch may_come is_enabled has_enable_place enable_places is_never any_below all_below decoded device_row
+unfolding raw table_site ijmp_from is_scratch may_come is_enabled has_enable_place enable_places is_never any_below all_below decoded device_row settled_state settled_values
 others_are_never_entered = refl
 
 -- ---- `scratch` lines
@@ -206,10 +207,10 @@ abbrev pushes : List Entry → AbsState → Raw
 pushes A s = raw (task_with (image_of M328 (0x920F ∷ replicate 16383 0xFFFF)) A) (in_call (Closed 2)) s
 
 keeps_nothing : pushed (pushes (Scratch 0 ∷ []) large) ≡ Unguarded ∷ []
-unfolding raw table_site ijmp_from is_scratch any_below all_below decoded device_row has_scratch
+unfolding raw table_site ijmp_from is_scratch any_below all_below decoded device_row has_scratch settled_state settled_values
 keeps_nothing = refl
 
 -- without the line at this site
 keeps_byte : pushed (pushes (Scratch 1 ∷ []) large) ≡ Guarded (value_at large.registers 0) ∷ []
-unfolding raw table_site ijmp_from is_scratch any_below all_below decoded device_row has_scratch
+unfolding raw table_site ijmp_from is_scratch any_below all_below decoded device_row has_scratch settled_state settled_values
 keeps_byte = refl

@@ -22,6 +22,7 @@ use Rattle.avr_model.specs.Bits.{any_below}
 use Rattle.avr_model.specs.Vectors.{is_enabled, last_vector, vector_word}
 use Rattle.avr_model.specs.Sites.{instruction_at, is_scratch, table_site, base_register, pointer_register}
 use Rattle.avr_model.specs.Effects.{port}
+use Rattle.avr_model.specs.State.{RAMPZ}
 use Rattle.bit_domain.specs.declared.bits.Tri.TheVariants.{Zero, One}
 use Rattle.bit_domain.specs.Tri.{tri_not}
 use Rattle.bit_domain.specs.TriByte.{tri_at, byte_with}
@@ -29,7 +30,7 @@ use Rattle.bit_domain.specs.Logic.{byte_equal}
 use Rattle.abs_state.specs.declared.values.AbsByte.{AbsByte}
 use Rattle.abs_state.specs.declared.state.AbsState.{AbsState}
 use Rattle.pair_domain.specs.declared.facts.PairFacts.{PairFacts}
-use Rattle.abs_state.specs.Values.{untagged, unknown}
+use Rattle.abs_state.specs.Values.{untagged}
 use Rattle.abs_state.specs.Order.{state_join}
 use Rattle.node_keys.specs.declared.keys.NodeKey.{NodeKey}
 use Rattle.node_keys.specs.declared.keys.SpForm.{SpForm}
@@ -49,9 +50,11 @@ use Rattle.local_rules.specs.HighBytes.{SpView, view_of}
 use Rattle.local_rules.specs.Registers.{value, bits, set, going_with, going_by, before, pair_copied, bit_loaded, bit_stored, product_row, wide_row, pair_moved, flag_row}
 use Rattle.local_rules.specs.FrameLines.{binary_at, immediate_at, unary_at}
 use Rattle.local_rules.specs.Permitted.{may_be}
+use Rattle.local_rules.specs.Banks.{extended_constant, stepped_bank}
+use Rattle.local_rules.specs.Settling.{settled_state, settling, node_where}
 use Rattle.local_rules.specs.Reads.{read_at, kept_bits, pointed, pair_constant, read_pointed, flash_value}
 use Rattle.local_rules.specs.Writes.{ByteWrite, write_at, written_at, pointer_write}
-use Rattle.local_rules.specs.Flow.{past, skipping, skip_if, reading_zero, flag_turn, going_where, ijmp_row, icall_row, push_row, pop_row, relative_call, calling, return_row, ret_exit, reti_exit}
+use Rattle.local_rules.specs.Flow.{past, skipping, skip_if, reading_zero, flag_turn, going_where, ijmp_row, icall_row, eijmp_row, eicall_row, push_row, pop_row, relative_call, calling, return_row, ret_exit, reti_exit}
 use Rattle.local_rules.specs.declared.pointers.Pointed.{Pointed}
 
 -- ---- registers
@@ -111,6 +114,14 @@ read_row A at n d a = going_to at.key (record at.state { registers = set at.stat
 abbrev pub lpm_row : Image → Site → List AbsByte → ℕ → Raw
 lpm_row image at registers d = loading at registers d (Some (flash_value image (pair_constant at.state 30)))
 
+-- `elpm` with the registers as given
+abbrev pub elpm_row : Image → Site → List AbsByte → ℕ → Raw
+elpm_row image at registers d = loading at registers d (Some (flash_value image (extended_constant at.state)))
+
+-- the registers with Z, and with it RAMPZ, as behind Z+
+abbrev pub extended_moved : Site → List AbsByte
+extended_moved at = slice_set (pair_moved (view_of at) at.state 30 true 1) RAMPZ (stepped_bank at.device at.state)
+
 -- loads from the address of a pointer; other registers are as given
 abbrev pub pointer_load : List Entry → Site → List AbsByte → ℕ → Pointed → Raw
 pointer_load A at registers d p = loading at registers d (read_pointed at.device (reads_masks at.device A) at.key at.state p)
@@ -151,6 +162,8 @@ node_of at = record { key = at.key; state = at.state }
 abbrev pub flow_row : Task → Bool → Site → Instr → Raw
 flow_row task scratch at i.Ijmp = ijmp_row task.assumptions at
 flow_row task scratch at i.Icall = icall_row task.assumptions at
+flow_row task scratch at i.Eijmp = eijmp_row task.assumptions at
+flow_row task scratch at i.Eicall = eicall_row task.assumptions at
 flow_row task scratch at i.Ret = return_row at (ret_exit at.key)
 flow_row task scratch at i.Reti = return_row at (reti_exit at.key)
 flow_row task scratch at (i.Jmp t) = going_to at.key at.state (wrapped at.device t)
@@ -177,10 +190,9 @@ memory_row task scratch at (i.St p r) = store_row task at p r
 memory_row task scratch at (i.LpmZ d) = lpm_row task.flash at at.state.registers d
 memory_row task scratch at (i.LpmZPlus d) = lpm_row task.flash at (pair_moved (view_of at) at.state 30 true 1) d
 memory_row task scratch at i.Lpm = lpm_row task.flash at at.state.registers 0
--- `elpm` gives any byte
-memory_row task scratch at (i.ElpmZ d) = setting at (set at.state d unknown) at.state.flags
-memory_row task scratch at (i.ElpmZPlus d) = setting at (slice_set (pair_moved (view_of at) at.state 30 true 1) d unknown) at.state.flags
-memory_row task scratch at i.Elpm = setting at (set at.state 0 unknown) at.state.flags
+memory_row task scratch at (i.ElpmZ d) = elpm_row task.flash at at.state.registers d
+memory_row task scratch at (i.ElpmZPlus d) = elpm_row task.flash at (extended_moved at) d
+memory_row task scratch at i.Elpm = elpm_row task.flash at at.state.registers 0
 memory_row task scratch at (i.Pop d) = pop_row at d
 memory_row task scratch at (i.Push r) = push_row (scratch || has_scratch task.assumptions at.key.pc) at r
 memory_row task scratch at (i.In d a) = read_row task.assumptions at 1 d (port a)
@@ -209,9 +221,9 @@ row_of task scratch at (i.Bst d b) = going_with at (bit_stored at.state d b)
 row_of task scratch at instr = memory_row task scratch at instr
 
 -- Only a branch on C and `cpc` read the carry tag of a register, and they set no register. So the tag ends before the row, if the
--- instruction sets that register; so do facts on pairs.
+-- instruction sets that register; so do facts on pairs. Behind it high bytes are settled.
 abbrev pub plain_row : Task → Bool → Site → Instr → Raw
-plain_row task scratch at instr = row_of task scratch (record at { state = before instr at.state }) instr
+plain_row task scratch at instr = settling (view_of at) (row_of task scratch (record at { state = before instr at.state }) instr)
 
 -- ---- where pairs are followed
 
@@ -222,10 +234,6 @@ cut_branch n k s set clear = all_of (going_where k (flag_cut n false s) clear �
 -- past the next instruction with one state, and to it with the other
 abbrev pub cut_skip : Image → Site → Option AbsState → Option AbsState → Raw
 cut_skip image at skips stays = all_of (going_where at.key stays (further at.device at.key 1) ∷ going_where at.key skips (past image at) ∷ [])
-
-abbrev pub node_where : NodeKey → Option AbsState → List Node
-node_where k None = []
-node_where k (Some s) = record { key = k; state = s } ∷ []
 
 -- the successors by the plain rules, refined by the transfer function of pairs; none if nothing is left
 abbrev pub refined_nodes : Image → Instr → AbsState → List Node → List Node
@@ -239,10 +247,15 @@ abbrev pub storing : Task → Site → Pointer → ℕ → Option AbsState → R
 storing task at p r None = nowhere
 storing task at p r (Some moved) = pointer_write task at.state (pointer_register p) (step_before p) (register_write at moved r)
 
+abbrev pub refined_if : Task → Instr → AbsState → Option AbsState → Option AbsState
+refined_if task instr s None = None
+refined_if task instr s (Some moved) = refined (marks task.flash) task.flash instr s moved
+
 abbrev pub paired_store : Task → Site → Pointer → ℕ → Raw
 paired_store task at p r =
     storing task at p r
-    (refined (marks task.flash) task.flash (i.St p r) at.state (record (before (i.St p r) at.state) { registers = pointer_moved (view_of at) p at.state }))
+    (refined_if task (i.St p r) at.state
+    (settled_state (view_of at) (record (before (i.St p r) at.state) { registers = pointer_moved (view_of at) p at.state })))
 
 -- branches on flags 0 to 6
 abbrev pub paired_branch : ℕ → Node → ℕ → ℕ → Raw → Raw

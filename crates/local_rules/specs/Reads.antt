@@ -5,7 +5,7 @@ use Rattle.avr_model.specs.declared.device.Device.{Device}
 use Rattle.avr_model.specs.Devices.{Image, words_of, io_end, ramend, device_of}
 use Rattle.avr_model.specs.Image.{byte_at}
 use Rattle.avr_model.specs.Vectors.{enable_of, held_of, is_ivsel}
-use Rattle.avr_model.specs.State.{SPL, SREG, is_sph, low, high, plus16, minus16}
+use Rattle.avr_model.specs.State.{SPL, SREG, register_at, is_sph, low, high, plus16, minus16}
 use Rattle.bit_domain.specs.declared.bits.Tri.{Tri}
 use Rattle.bit_domain.specs.declared.bits.Tri.TheVariants.{Zero, One, Any}
 use Rattle.bit_domain.specs.declared.bytes.TriByte.{TriByte}
@@ -103,14 +103,17 @@ slot_read device Call s a = unknown
 slot_read device (Vector v) s a = unknown
 
 -- the value of a known address; `may` says whether the key has what may be enabled
-unfoldable pub read_at : Device → Bool → NodeKey → AbsState → ℕ → AbsByte
-read_at device may k s a =
-    if nat_lt a 0x20 then value s a
-    else (if a == SPL then sp_low device k.inst.kind k.sp
+abbrev pub read_behind : Device → Bool → NodeKey → AbsState → ℕ → Option ℕ → AbsByte
+read_behind device may k s a (Some r) = value s r
+read_behind device may k s a None =
+    if a == SPL then sp_low device k.inst.kind k.sp
     else (if is_sph device a then sp_high device k.inst.kind k.sp
     else (if a == SREG then sreg_value k s
     else (if nat_le a (io_end device) then untagged (io_bits device may k.masks a)
-    else slot_read device k.inst.kind s a))))
+    else slot_read device k.inst.kind s a)))
+
+unfoldable pub read_at : Device → Bool → NodeKey → AbsState → ℕ → AbsByte
+read_at device may k s a = read_behind device may k s a (register_at device a)
 
 -- ---- through a pointer
 

@@ -10,7 +10,8 @@ use Rattle.avr_model.specs.Table.{decoded}
 use Rattle.avr_model.specs.Vectors.{enable_places, held_of, enable_of, enable_place_at, is_ivsel}
 use Rattle.bit_domain.specs.Packed.{packed}
 use Rattle.bit_domain.specs.Numbers.{numbers_of}
-use Rattle.bit_domain.specs.TriByte.{byte_any}
+use Rattle.bit_domain.specs.Sums.{carry_into, borrow_into}
+use Rattle.bit_domain.specs.TriByte.{byte_any, byte_known, permits_below}
 use Rattle.sp_domain.specs.declared.tags.Tag.{Tag}
 use Rattle.sp_domain.specs.declared.tags.Tag.TheVariants as tag
 use Rattle.sp_domain.specs.declared.tags.CarryTag.TheVariants as carry
@@ -28,6 +29,7 @@ use Rattle.local_rules.specs.declared.local.NodeFault.{NodeFault}
 use Rattle.local_rules.specs.declared.local.NodeFault.TheVariants.{UntrackedSp}
 use Rattle.local_rules.specs.Raw.{Raw}
 use Rattle.local_rules.specs.Registers.{with_bits}
+use Rattle.local_rules.specs.Settling.{settled_state, settled_values}
 use Rattle.local_rules.specs.Reads.{read_at}
 use Rattle.local_rules.specs.Writes.{written_at}
 use Rattle.local_rules.specs.Site.{task_with}
@@ -68,47 +70,57 @@ faults r = r.faults
 
 -- `ldd r16, Y+0x05` from base - 6: beside its low byte, 0 is its high byte
 reads_slot : values 16 (raw (task_with (firmware 0x810D 0xFFFF) []) (in_call 6) (with_frame 6 6 (known 0))) ≡ known 7 ∷ []
-unfolding raw table_site ijmp_from is_scratch any_below all_below decoded device_row read_at packed reads_masks
+unfolding raw table_site ijmp_from is_scratch any_below all_below decoded device_row read_at packed reads_masks settled_state settled_values
 reads_slot = refl
 
 -- below the stack pointer, and beside another byte, nothing is known
 reads_below : values 16 (raw (task_with (firmware 0x810D 0xFFFF) []) (in_call 5) (with_frame 5 6 (known 0))) ≡ unknown ∷ []
-unfolding raw table_site ijmp_from is_scratch any_below all_below decoded device_row read_at packed reads_masks
+unfolding raw table_site ijmp_from is_scratch any_below all_below decoded device_row read_at packed reads_masks settled_state settled_values
 reads_below = refl
 
 reads_beside_one : values 16 (raw (task_with (firmware 0x810D 0xFFFF) []) (in_call 6) (with_frame 6 6 (known 1))) ≡ unknown ∷ []
-unfolding raw table_site ijmp_from is_scratch any_below all_below decoded device_row read_at packed reads_masks
+unfolding raw table_site ijmp_from is_scratch any_below all_below decoded device_row read_at packed reads_masks settled_state settled_values
 reads_beside_one = refl
 
 -- the tag of another address does not count
 reads_beside_another : values 16 (raw (task_with (firmware 0x810D 0xFFFF) []) (in_call 6) (with_frame 6 6 (with_bits (tag.SpHi 262) byte_any))) ≡ unknown ∷ []
-unfolding raw table_site ijmp_from is_scratch any_below all_below decoded device_row read_at packed reads_masks
+unfolding raw table_site ijmp_from is_scratch any_below all_below decoded device_row read_at packed reads_masks settled_state settled_values
 reads_beside_another = refl
 
--- `sbiw r28, 5` moves both bytes
+-- `sbiw r28, 5` moves the low byte; the high byte of an address below the stack pointer is unknown
 moves_low : tags 28 (raw (task_with (firmware 0x9725 0xFFFF) []) (in_call 6) (with_frame 6 6 (known 0))) ≡ tag.SpLo 11 ∷ []
-unfolding raw table_site ijmp_from is_scratch any_below all_below decoded device_row packed reads_masks
+unfolding raw table_site ijmp_from is_scratch any_below all_below decoded device_row packed reads_masks settled_state settled_values
 moves_low = refl
 
-moves_high : tags 29 (raw (task_with (firmware 0x9725 0xFFFF) []) (in_call 6) (with_frame 6 6 (known 0))) ≡ tag.SpHi 11 ∷ []
-unfolding raw table_site ijmp_from is_scratch any_below all_below decoded device_row packed reads_masks
+moves_high : tags 29 (raw (task_with (firmware 0x9725 0xFFFF) []) (in_call 6) (with_frame 6 6 (known 0))) ≡ tag.None ∷ []
+unfolding raw table_site ijmp_from is_scratch any_below all_below decoded device_row packed reads_masks settled_state settled_values
 moves_high = refl
 
--- `sbci r29, 0` after the low byte of base - 6 less 4
-abbrev borrowed : AbsState
-borrowed = record (with_frame 6 10 (known 0)) { flags = record root.flags { carry = carry.Borrow 6 4 } }
+-- `adiw r28, 2`, to base - 4, which is above the stack pointer, so that its high byte is 0
+moves_up : values 29 (raw (task_with (firmware 0x9622 0xFFFF) []) (in_call 6) (with_frame 6 6 (known 0))) ≡ known 0 ∷ []
+unfolding raw table_site ijmp_from is_scratch any_below all_below decoded device_row packed reads_masks settled_state settled_values permits_below carry_into borrow_into
+moves_up = refl
 
-borrows_high : tags 29 (raw (task_with (firmware 0x40D0 0xFFFF) []) (in_call 6) borrowed) ≡ tag.SpHi 10 ∷ []
-unfolding raw table_site ijmp_from is_scratch any_below all_below decoded device_row packed reads_masks is_frame
+-- `sbci r29, 0` after the low byte of base - 6 less 4, where the stack pointer is base - 12
+abbrev borrowed : AbsState
+borrowed = record (with_frame 12 10 (known 0)) { flags = record root.flags { carry = carry.Borrow 6 4 } }
+
+borrows_high : values 29 (raw (task_with (firmware 0x40D0 0xFFFF) []) (in_call 12) borrowed) ≡ known 0 ∷ []
+unfolding raw table_site ijmp_from is_scratch any_below all_below decoded device_row packed reads_masks is_frame settled_state settled_values permits_below carry_into borrow_into
 borrows_high = refl
+
+-- `nop`: a byte that can't be 0 is no high byte of a base
+ends_impossible : ways (raw (task_with (firmware 0x0000 0xFFFF) []) (in_call 6) (with_frame 6 6 (with_bits (tag.SpHi 3) (byte_known 1)))) ≡ []
+unfolding raw table_site ijmp_from is_scratch any_below all_below decoded device_row packed reads_masks settled_state settled_values permits_below carry_into borrow_into
+ends_impossible = refl
 
 -- `out 0x3d, r28` sets the whole stack pointer; a number from 0x80 on would be above the base
 sets_all : ways (raw (task_with (firmware 0xBFCD 0xFFFF) []) (in_call 6) (with_frame 6 127 (known 0))) ≡ (1, Closed 127) ∷ []
-unfolding raw table_site ijmp_from is_scratch any_below all_below decoded device_row written_at reads_masks
+unfolding raw table_site ijmp_from is_scratch any_below all_below decoded device_row written_at reads_masks settled_state settled_values
 sets_all = refl
 
 sets_above : faults (raw (task_with (firmware 0xBFCD 0xFFFF) []) (in_call 6) (with_frame 6 128 (known 0))) ≡ UntrackedSp 0 ∷ []
-unfolding raw table_site ijmp_from is_scratch any_below all_below decoded device_row written_at reads_masks
+unfolding raw table_site ijmp_from is_scratch any_below all_below decoded device_row written_at reads_masks settled_state settled_values
 sets_above = refl
 
 -- in the root, to 0xBF: 32 bytes below the end of SRAM
@@ -116,19 +128,19 @@ abbrev at_bf : AbsState
 at_bf = record root { registers = slice_set root.registers 28 (known 0xBF) }
 
 sets_root : ways (raw (task_with (firmware 0xBFCD 0xFFFF) []) (in_root 0) at_bf) ≡ (1, Closed 32) ∷ []
-unfolding raw table_site ijmp_from is_scratch any_below all_below decoded device_row written_at packed reads_masks
+unfolding raw table_site ijmp_from is_scratch any_below all_below decoded device_row written_at packed reads_masks settled_state settled_values
 sets_root = refl
 
 -- `out 0x3e, r29` writes no stack pointer, and `in r29, 0x3e` reads none
 writes_other : ways (raw (task_with (firmware 0xBFDE 0xFFFF) []) (in_call 6) (with_frame 6 6 (known 0))) ≡ (1, Closed 6) ∷ []
-unfolding raw table_site ijmp_from is_scratch any_below all_below decoded device_row written_at enable_places enable_place_at enable_of numbers_of enable_tri common_tri packed reads_masks
+unfolding raw table_site ijmp_from is_scratch any_below all_below decoded device_row written_at enable_places enable_place_at enable_of numbers_of enable_tri common_tri packed reads_masks settled_state settled_values
 writes_other = refl
 
 reads_other : values 29 (raw (task_with (firmware 0xB7DE 0xFFFF) []) (in_call 6) (with_frame 6 6 (known 0))) ≡ unknown ∷ []
-unfolding raw table_site ijmp_from is_scratch any_below all_below decoded device_row read_at enable_places held_of is_ivsel packed reads_masks
+unfolding raw table_site ijmp_from is_scratch any_below all_below decoded device_row read_at enable_places held_of is_ivsel packed reads_masks settled_state settled_values
 reads_other = refl
 
 -- `rcall .+0` before `in r28, 0x3d` makes room for a return address of two bytes
 makes_room : ways (raw (task_with (firmware 0xD000 0xB7CD) []) (in_call 6) (with_frame 6 6 (known 0))) ≡ (1, Closed 8) ∷ []
-unfolding raw table_site ijmp_from is_scratch any_below all_below decoded device_row reads_masks
+unfolding raw table_site ijmp_from is_scratch any_below all_below decoded device_row reads_masks settled_state settled_values
 makes_room = refl

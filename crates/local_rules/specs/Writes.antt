@@ -5,7 +5,7 @@ use Rattle.avr_model.specs.declared.assumption.Entry.{Entry}
 use Rattle.avr_model.specs.Devices.{size_of, ramend, has_sph}
 use Rattle.avr_model.specs.Assumptions.{store_line, is_fixed_site}
 use Rattle.avr_model.specs.Masks.{admits_enables}
-use Rattle.avr_model.specs.State.{SPL, SREG, is_sph, low, high, minus16}
+use Rattle.avr_model.specs.State.{SPL, SREG, register_at, is_sph, low, high, minus16}
 use Rattle.bit_domain.specs.declared.bits.Tri.{Tri}
 use Rattle.bit_domain.specs.declared.bits.Tri.TheVariants.{Zero, One, Any}
 use Rattle.bit_domain.specs.TriByte.{tri_at, has, byte_with, byte_constant}
@@ -32,7 +32,8 @@ use Rattle.local_rules.specs.declared.local.NodeFault.TheVariants.{UntrackedSp, 
 use Rattle.local_rules.specs.Raw.{Raw, moves_to, one, two, fails, all_of}
 use Rattle.abs_state.specs.Ended.{ended, written_hull}
 use Rattle.local_rules.specs.HighBytes.{view_by}
-use Rattle.local_rules.specs.Registers.{bits, with_bits, forgetting}
+use Rattle.local_rules.specs.Registers.{bits, forgetting}
+use Rattle.local_rules.specs.Banks.{stored_value}
 use Rattle.local_rules.specs.Site.{Task}
 use Rattle.local_rules.specs.Reads.{pointed}
 
@@ -126,9 +127,13 @@ masks_written device k s a v = moves_to (map (λ m. record { key = record k { ma
 abbrev pub hulled : ℕ → AbsState → AbsState
 hulled a s = record s { facts = written_hull s.registers a s.facts }
 
--- a register written by its address gets the byte's bits and tag, which ends facts on its pair and its carry tag
-abbrev pub register_written : AbsState → ℕ → AbsByte → AbsState
-register_written s a v = hulled a (forgetting (a ∷ []) false false (record s { registers = slice_set s.registers a (with_bits v.tag v.bits) }))
+-- a register with a value, which ends facts on its pair and its carry tag
+abbrev pub put_register : AbsState → ℕ → AbsByte → AbsState
+put_register s r v = hulled r (forgetting (r ∷ []) false false (record s { registers = slice_set s.registers r v }))
+
+-- a register written by its address
+abbrev pub register_written : Device → AbsState → ℕ → AbsByte → AbsState
+register_written device s r v = put_register s r (stored_value device r v)
 
 -- sets the flags, which ends facts that name flags
 abbrev pub put_flags : AbsState → AbsFlags → AbsState
@@ -146,13 +151,16 @@ abbrev pub write_at : Device → ℕ → NodeKey → AbsState → AbsByte → By
 write_at device pc k s v = record { device = device; pc = pc; key = k; state = s; value = v }
 
 -- the effect of the write at a known address
-unfoldable pub written_at : ByteWrite → Bool → ℕ → Raw
-written_at w is_out a =
-    if nat_lt a 0x20 then one w.key (register_written w.state a w.value)
-    else (if a == SPL then closing w.device (closing_offset w.device w.key.inst.kind w.key.sp w.value) w.key w.state w.pc
+abbrev pub written_behind : ByteWrite → Bool → ℕ → Option ℕ → Raw
+written_behind w is_out a (Some r) = one w.key (register_written w.device w.state r w.value)
+written_behind w is_out a None =
+    if a == SPL then closing w.device (closing_offset w.device w.key.inst.kind w.key.sp w.value) w.key w.state w.pc
     else (if is_sph w.device a then opening (high_part w.key.inst.kind w.value) w.key w.state w.pc
     else (if a == SREG then sreg_written (tri_at w.value.bits 7) w.key (put_flags w.state (flags_written w.value)) is_out
-    else masks_written w.device w.key w.state a w.value)))
+    else masks_written w.device w.key w.state a w.value))
+
+unfoldable pub written_at : ByteWrite → Bool → ℕ → Raw
+written_at w is_out a = written_behind w is_out a (register_at w.device a)
 
 -- ---- through a pointer
 

@@ -1,6 +1,6 @@
 -- What keys feed to a hasher.
 use Rattle.std.proofs.Common.{◌≡◌, ◌∙◌, refl, sym, ap, ℕ, Bool, true, false, List, ◌++◌}
-use Rattle.std.specs.Prelude.{◌+◌, ◌*◌, get_or, IsTrue, ◌&&◌, Option, Some, None}
+use Rattle.std.specs.Prelude.{◌+◌, ◌*◌, ◌/◌, ◌%◌, ◌^◌, get_or, IsTrue, ◌&&◌, Option, Some, None}
 use Rattle.std.specs.Int.{from_bool}
 use Rattle.std.specs.Cmp.{Equal-is}
 use Rattle.std.specs.Hash as fed
@@ -40,13 +40,22 @@ entered_number k = from_bool k.i + 2 * kind_number k.kind
 abbrev pub form_number : NodeKey → ℕ
 form_number k = from_bool k.i + 2 * from_bool k.delay + 4 * pick_number k.pick + 2048 * (offset_of k.sp + 65536 * high_number k.sp)
 
+-- The parts are fed as numbers of 64 bits alone: a hasher takes those fastest, and more so if it takes no others.
+
+-- the first 64 enable bits, and a word with a number and the bits behind these
+abbrev pub first_bits : ℕ → ℕ
+first_bits masks = masks % 2 ^ 64
+
+abbrev pub word_number : ℕ → ℕ → ℕ → ℕ
+word_number word n masks = word + 2 ^ 32 * ((n + 1024 * (masks / 2 ^ 64)) % 2 ^ 32)
+
 -- all parts of an instance
 abbrev pub inst_hash : InstKey → List (List ℕ)
-inst_hash k = fed.u32 k.entry ++ fed.u128 k.masks ++ fed.u16 (entered_number k)
+inst_hash k = fed.u64 (first_bits k.masks) ++ fed.u64 (word_number k.entry (entered_number k) k.masks)
 
 -- all parts of a node
 abbrev pub node_hash : NodeKey → List (List ℕ)
-node_hash k = inst_hash k.inst ++ fed.u32 k.pc ++ fed.u128 k.masks ++ fed.u64 (form_number k)
+node_hash k = inst_hash k.inst ++ fed.u64 (first_bits k.masks) ++ fed.u64 (word_number k.pc 0 k.masks) ++ fed.u64 (form_number k)
 
 -- ---- equal keys feed a hasher alike, since the numbers of a key give what it feeds
 
@@ -54,11 +63,11 @@ at : List ℕ → ℕ → ℕ
 at ns i = get_or ns i 0
 
 inst_fed : List ℕ → List (List ℕ)
-inst_fed ns = fed.u32 (at ns 2) ++ fed.u128 (at ns 3) ++ fed.u16 (at ns 4 + 2 * (at ns 0 + at ns 1))
+inst_fed ns = fed.u64 (first_bits (at ns 3)) ++ fed.u64 (word_number (at ns 2) (at ns 4 + 2 * (at ns 0 + at ns 1)) (at ns 3))
 
 node_fed : List ℕ → List (List ℕ)
 node_fed ns =
-    inst_fed ns ++ fed.u32 (at ns 5) ++ fed.u128 (at ns 6)
+    inst_fed ns ++ fed.u64 (first_bits (at ns 6)) ++ fed.u64 (word_number (at ns 5) 0 (at ns 6))
     ++ fed.u64 (at ns 7 + 2 * at ns 8 + 4 * (at ns 13 + at ns 14) + 2048 * (at ns 10 + 65536 * (at ns 9 + 256 * at ns 11 + at ns 12)))
 
 inst_by_numbers : (k : InstKey) → inst_hash k ≡ inst_fed (inst_numbers k)

@@ -1,5 +1,5 @@
 -- Keys of instances and nodes, and the numbers that identify them.
-use Rattle.std.specs.Prelude.{ℕ, ◌<◌, ⊤, false, List, [], ◌∷◌, ◌++◌, Option, Some, None}
+use Rattle.std.specs.Prelude.{ℕ, ◌<◌, ⊤, Bool, true, false, List, [], ◌∷◌, ◌++◌, Option, Some, None}
 use Rattle.std.specs.Int.{from_bool}
 use Rattle.avr_model.specs.declared.assumption.Entry.{Entry}
 use Rattle.avr_model.specs.Assumptions.{recur_line}
@@ -21,6 +21,11 @@ offset_of (Open offset high) = offset
 abbrev pub PickFits : Option ℕ → Type 0
 PickFits None = ⊤
 PickFits (Some byte) = byte < 256
+
+abbrev pub is_root : Kind → Bool
+is_root Root = true
+is_root Call = false
+is_root (Vector v) = false
 
 -- the instance that begins at reset
 abbrev pub root_inst : InstKey

@@ -4,7 +4,7 @@ ghost use Rattle.std.specs.Prelude.{◌≡◌, ◌↔◌, ◌<◌, IsTrue, refl}
 ghost use Rattle.std.specs.Ordering.{as_partial_cmp};
 ghost use Rattle.node_keys.specs.Order.{inst_cmp, node_cmp, same_inst, same_node};
 ghost use Rattle.node_keys.specs.Total.{inst_total, inst_equivalence, inst_partial, inst_equal, node_total, node_equivalence, node_partial, node_equal};
-ghost use Rattle.node_keys.specs.Hashes.{kind_number, high_number, pick_number, entered_number, form_number, inst_hash, insts_alike, node_hash, nodes_alike};
+ghost use Rattle.node_keys.specs.Hashes.{kind_number, high_number, pick_number, entered_number, form_number, first_bits, word_number, inst_hash, insts_alike, node_hash, nodes_alike};
 
 use std::cmp::Ordering;
 use std::hash::{Hash, Hasher};
@@ -211,9 +211,9 @@ impl Hash for InstKey {
     ghost respects_eq = { insts_alike };
 
     fn hash<H: Hasher>(&self, state: &mut H) {
-        self.entry.hash(state);
-        self.masks.bits().hash(state);
-        entered_number(self).hash(state);
+        let masks = self.masks.bits();
+        first_bits(masks).hash(state);
+        word_number(self.entry, entered_number(self), masks).hash(state);
     }
 }
 
@@ -279,9 +279,10 @@ impl Hash for NodeKey {
     ghost respects_eq = { nodes_alike };
 
     fn hash<H: Hasher>(&self, state: &mut H) {
+        let masks = self.masks.bits();
         self.inst.hash(state);
-        self.pc.hash(state);
-        self.masks.bits().hash(state);
+        first_bits(masks).hash(state);
+        word_number(self.pc, 0, masks).hash(state);
         form_number(self).hash(state);
     }
 }
@@ -304,6 +305,21 @@ fn entered_number(key: &InstKey) -> u16
     ensures { result ≡ entered_number key.now }
 {
     u16::from(key.i) + 2 * kind_number(key.kind)
+}
+
+// The first 64 enable bits.
+fn first_bits(masks: u128) -> u64
+    ensures { result ≡ first_bits masks }
+{
+    (masks % 18_446_744_073_709_551_616) as u64
+}
+
+// A word with a number and the enable bits behind the first 64.
+fn word_number(word: u32, n: u16, masks: u128) -> u64
+    ensures { result ≡ word_number word n masks }
+{
+    let behind = u128::from(n) + 1024 * (masks / 18_446_744_073_709_551_616);
+    u64::from(word) + 4_294_967_296 * ((behind % 4_294_967_296) as u64)
 }
 
 fn high_number(sp: SpForm) -> u64

@@ -111,10 +111,13 @@ fn carry(text: &str) -> Option<CarryTag> {
 }
 
 impl Row {
-    // A node at word 0 of the ATmega328P with this many free slots and nothing else known.
+    // A node at word 0 of the ATmega328P with this many free slots, RAMPZ and EIND 0, and nothing else known.
     fn new(alloc: Global, words: [u16; 4], kind: Kind, sp: SpForm) -> Result<Row, AllocError> {
         let mut slots = Slots::new(alloc);
         slots.resize(sp.offset())?;
+        let mut registers = [AbsByte::unknown(); 34];
+        registers[32] = AbsByte::known(0);
+        registers[33] = AbsByte::known(0);
         let inst = InstKey {
             kind,
             entry: 0,
@@ -129,7 +132,7 @@ impl Row {
                 ..NodeKey::entry(&inst)
             },
             state: AbsState {
-                registers: [AbsByte::unknown(); 32],
+                registers,
                 flags: AbsFlags {
                     entry: false,
                     bits: TriByte::any(),

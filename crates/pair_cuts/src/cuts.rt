@@ -11,7 +11,7 @@ ghost use Rattle.pair_cuts.specs.Cuts.{same_cut, below_part, less_cut, zero_cut,
 
 use crate::outcomes::{Outcome, off};
 use crate::places::{CutPlace, bytes_at, facts_of, narrow_at, narrow_to, put, range_at, value_at};
-use abs_state::{AbsByte, AbsState, PairBytes};
+use abs_state::{AbsByte, AbsState, PairBytes, Registers};
 use bit_domain::{Tri, TriByte, equal};
 use pair_domain::{CompareTag, Interval, Side, ZeroTag};
 use sp_domain::CarryTag;
@@ -92,7 +92,7 @@ fn side_place(side: Side) -> CutPlace
 }
 
 // The least and the greatest byte of a value.
-fn side_range(registers: &[AbsByte; 32], side: Side) -> (u8, u8)
+fn side_range(registers: &Registers, side: Side) -> (u8, u8)
     ensures { ranged result.0 result.1 ≡ side_range registers.now side }
 {
     match side {

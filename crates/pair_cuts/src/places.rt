@@ -7,7 +7,7 @@ ghost use Rattle.pair_cuts.specs.Places.{known_or_nothing, range_at, narrow_at, 
 ghost use Rattle.abs_state.specs.PairBytes.{left_in};
 ghost use Rattle.pair_cuts.specs.Bytes.{bytes_at, set_pair, put, byte_left};
 
-use abs_state::{AbsByte, AbsState, PairBytes};
+use abs_state::{AbsByte, AbsState, PairBytes, Registers};
 use pair_domain::facts::interval_at;
 use pair_domain::{Interval, PairFacts};
 
@@ -33,11 +33,11 @@ pub(crate) fn facts_of(state: &AbsState) -> PairFacts
 }
 
 // The value of register `r`; any byte if there is no such register.
-pub(crate) fn value_at(registers: &[AbsByte; 32], r: u8) -> AbsByte
+pub(crate) fn value_at(registers: &Registers, r: u8) -> AbsByte
     ensures { result ≡ abs_values.value_at registers.now r }
 {
     let at = usize::from(r);
-    if at < 32 {
+    if at < 34 {
         registers[at]
     } else {
         AbsByte::unknown()
@@ -77,15 +77,17 @@ pub(crate) fn bytes_at(state: &AbsState, n: u8) -> PairBytes
     }
 }
 
-// Writes both registers and the interval of pair `2 * n`; does nothing if there is no such pair.
-fn set_pair(registers: &mut [AbsByte; 32], intervals: &mut [Interval; 16], n: u8, pair: PairBytes)
+// Writes both registers and the interval of pair `2 * n`, as far as there are such.
+fn set_pair(registers: &mut Registers, intervals: &mut [Interval; 16], n: u8, pair: PairBytes)
     ensures registers { registers.new ≡ set_pair registers.old n pair }
     ensures intervals { intervals.new ≡ slice_set intervals.old n pair.interval }
 {
     let at = usize::from(n);
-    if at < 16 {
+    if at < 17 {
         registers[2 * at] = pair.low;
         registers[2 * at + 1] = pair.high;
+    }
+    if at < 16 {
         intervals[at] = pair.interval;
     }
 }

@@ -3,6 +3,10 @@ use Rattle.pair_laws.specs.Laws.{OperandsFit, ValuesAreCovered}
 use Rattle.pair_laws.proofs.Operands.{registers_there}
 use Rattle.pair_laws.proofs.Doubled.{doubled_is_covered}
 use Rattle.pair_laws.proofs.FlashJoin.{constant_covers, unknown_covers, pair_permits_it}
+pub use Rattle.pair_laws.proofs.Flags.{flags_are_cut}
+pub use Rattle.pair_laws.proofs.Registers.{bits_are_cut}
+pub use Rattle.pair_laws.proofs.Equals.{equals_are_cut}
+pub use Rattle.pair_laws.proofs.Picks.{picks_are_cut}
 pub use Rattle.pair_laws.proofs.Refined.{refined_holds, refined_is_ordered}
 
 pub operands_fit : OperandsFit

@@ -1,11 +1,14 @@
 -- The interval of a transfer function cuts a state.
-use Rattle.std.proofs.Common.{◌≡◌, refl, sym, ◌∙◌, ap, subst, ℕ, ◌+◌, ◌*◌, ◌<◌, ◌≤◌, ◌⊎◌, inl, inr, ⊎_elim, List, length, Option, Some, None, slice_set, length-set, arith}
+use Rattle.std.proofs.Common.{◌≡◌, refl, sym, ◌∙◌, ap, subst, ℕ, ◌+◌, ◌*◌, ◌<◌, ◌≤◌, ◌⊎◌, inl, inr, ⊎_elim, Bool, List, length, Option, Some, None, slice_set, length-set, arith}
 use Rattle.std.proofs.lemmas.Bool.{cases_eq, cases_lt}
 use Rattle.std.proofs.lemmas.List.{get_or_past}
 use Rattle.std.proofs.lemmas.Grind.{elements}
 use Rattle.std.proofs.lemmas.Option.{same_Some}
 use Rattle.bit_domain.specs.Ranges.{ByteSet, IsSetWithin}
+use Rattle.avr_model.specs.declared.device.Device.{Device}
+use Rattle.sp_domain.specs.declared.tags.Tag.{Tag}
 use Rattle.sp_domain.specs.Tags.{Origin}
+use Rattle.abs_state.specs.Banks.{IsStateWith}
 use Rattle.pair_domain.specs.declared.intervals.Interval.{Interval}
 use Rattle.pair_domain.specs.declared.facts.PairFacts.{PairFacts}
 use Rattle.pair_domain.specs.Intervals.{InInterval, IsIntervalWithin, interval_meet}
@@ -100,6 +103,12 @@ cut_formed marks (told.Kept n j) s u offset fits formed e =
     states_are_cut.formed (λ p. meet_pair p j) s u n offset fits (λ p m fit is. (meet_cuts j).fits p m fit is) formed e
 cut_formed marks (told.Computed n j) s u offset fits formed e =
     states_are_cut.formed (λ p. narrow_pair p (outward marks j)) s u n offset fits.0 (λ p m fit is. (pairs_are_cut.pair (outward marks j)).fits p m fit is) formed e
+
+pub cut_of : (marks : List ℕ) (t : Told) (good : Tag → Bool) (device : Device) (is_root : Bool) (s u : AbsState) → ToldFits t → IsWhole s → IsStateWith good device is_root s
+    → cut_told marks t s ≡ Some u → IsStateWith good device is_root u
+cut_of marks told.Nothing good device is_root s u fits whole h e = subst (IsStateWith good device is_root) (same_Some s u e) h
+cut_of marks (told.Kept n j) good device is_root s u fits whole h e = states_are_cut.of (λ p. meet_pair p j) good device is_root s u n whole fits h e
+cut_of marks (told.Computed n j) good device is_root s u fits whole h e = states_are_cut.of (λ p. narrow_pair p (outward marks j)) good device is_root s u n whole fits.0 h e
 
 pub cut_more : (marks : List ℕ) (t t' : Told) (s s' u : AbsState) → ToldFits t → ToldFits t' → IsToldLess t t' → IsWhole s → IsWhole s' → IsStateWithin s s'
     → cut_told marks t s ≡ Some u → (u' : AbsState) × (cut_told marks t' s' ≡ Some u') × IsStateWithin u u'

@@ -115,28 +115,28 @@ count_more (suc n) permits permits' more = by (count_more n permits permits' (λ
     by rest false true e e' = omega (arith, rest)
     by rest false false e e' = rest
 
-in_flash_less : (image : Image) (permits permits' : ℕ → Bool) (z : ℕ) → (permits z ≡ true → permits' z ≡ true) → (not (permits' z) || is_flash image z) ≡ true
-    → (not (permits z) || is_flash image z) ≡ true
-in_flash_less image permits permits' z more e = by (permits z) (permits' z) (is_flash image z) refl refl e
+in_flash_less : (image : Image) (from : ℕ) (permits permits' : ℕ → Bool) (z : ℕ) → (permits z ≡ true → permits' z ≡ true) → (not (permits' z) || is_flash image (from + z)) ≡ true
+    → (not (permits z) || is_flash image (from + z)) ≡ true
+in_flash_less image from permits permits' z more e = by (permits z) (permits' z) (is_flash image (from + z)) refl refl e
   where
     by : (b b' flash : Bool) → permits z ≡ b → permits' z ≡ b' → (not b' || flash) ≡ true → (not b || flash) ≡ true
     by false b' flash eb eb' h = refl
     by true false flash eb eb' h = absurd (false≢true (sym eb' ∙ more eb))
     by true true flash eb eb' h = h
 
-pub few_less : (image : Image) (permits permits' : ℕ → Bool) → IsMore permits permits' → few_in_flash image permits' ≡ true → few_in_flash image permits ≡ true
-few_less image permits permits' more e =
-    let parts = and_parts (nat_le (count_below permits' 65536) 64) (all_below 65536 (λ z. not (permits' z) || is_flash image z)) e in
+pub few_less : (image : Image) (from : ℕ) (permits permits' : ℕ → Bool) → IsMore permits permits' → few_in_flash image from permits' ≡ true → few_in_flash image from permits ≡ true
+few_less image from permits permits' more e =
+    let parts = and_parts (nat_le (count_below permits' 65536) 64) (all_below 65536 (λ z. not (permits' z) || is_flash image (from + z))) e in
     let most = was_le (count_below permits' 65536) 64 parts.0 in
-    and_both (nat_le (count_below permits 65536) 64) (all_below 65536 (λ z. not (permits z) || is_flash image z))
+    and_both (nat_le (count_below permits 65536) 64) (all_below 65536 (λ z. not (permits z) || is_flash image (from + z)))
     (is_le (count_below permits 65536) 64 (omega (arith, count_more 65536 permits permits' more)))
-    (all_if 65536 (λ z. not (permits z) || is_flash image z)
-    (λ z lt. in_flash_less image permits permits' z (more z lt) (each_of 65536 z (λ k. not (permits' k) || is_flash image k) parts.1 lt)))
+    (all_if 65536 (λ z. not (permits z) || is_flash image (from + z))
+    (λ z lt. in_flash_less image from permits permits' z (more z lt) (each_of 65536 z (λ k. not (permits' k) || is_flash image (from + k)) parts.1 lt)))
 
-pub is_in_flash : (image : Image) (permits : ℕ → Bool) (z : ℕ) → few_in_flash image permits ≡ true → z < 65536 → permits z ≡ true → is_flash image z ≡ true
-is_in_flash image permits z e lt may =
-    let parts = and_parts (nat_le (count_below permits 65536) 64) (all_below 65536 (λ k. not (permits k) || is_flash image k)) e in
-    by (permits z) (is_flash image z) may (each_of 65536 z (λ k. not (permits k) || is_flash image k) parts.1 lt)
+pub is_in_flash : (image : Image) (from : ℕ) (permits : ℕ → Bool) (z : ℕ) → few_in_flash image from permits ≡ true → z < 65536 → permits z ≡ true → is_flash image (from + z) ≡ true
+is_in_flash image from permits z e lt may =
+    let parts = and_parts (nat_le (count_below permits 65536) 64) (all_below 65536 (λ k. not (permits k) || is_flash image (from + k))) e in
+    by (permits z) (is_flash image (from + z)) may (each_of 65536 z (λ k. not (permits k) || is_flash image (from + k)) parts.1 lt)
   where
     by : (b flash : Bool) → b ≡ true → (not b || flash) ≡ true → flash ≡ true
     by true flash eb h = h
@@ -249,27 +249,27 @@ pub known_stands : (o : Origin) (b : ℕ) → b < 256 → ByteStands o (known b)
 known_stands o b small = bits_make_values.stands o tag.None (byte_known b) b small tt ((bytes_are_sets.known b b small small).1 refl)
 
 -- the byte at the number that the pair holds
-pub joined_stands : (o : Origin) (image : Image) (permits : ℕ → Bool) (z : ℕ) → z < 65536 → permits z ≡ true → byte_at image.words z < 256
-    → (v : AbsByte) × ((flash_joined image permits ≡ Some v) × ByteStands o v (byte_at image.words z))
-joined_stands o image permits z lt may small =
-    let h = joined_has permits (flash_known image) 65536 z lt may in
-    (h.0, (h.1.0, values_say_less.byte o (flash_known image z) h.0 (byte_at image.words z) h.1.1 (known_stands o (byte_at image.words z) small)))
+pub joined_stands : (o : Origin) (image : Image) (from : ℕ) (permits : ℕ → Bool) (z : ℕ) → z < 65536 → permits z ≡ true → byte_at image.words (from + z) < 256
+    → (v : AbsByte) × ((flash_joined image from permits ≡ Some v) × ByteStands o v (byte_at image.words (from + z)))
+joined_stands o image from permits z lt may small =
+    let h = joined_has permits (λ k. flash_known image (from + k)) 65536 z lt may in
+    (h.0, (h.1.0, values_say_less.byte o (flash_known image (from + z)) h.0 (byte_at image.words (from + z)) h.1.1 (known_stands o (byte_at image.words (from + z)) small)))
 
-pub flash_fits : (image : Image) (permits : ℕ → Bool) (v : AbsByte) → flash_joined image permits ≡ Some v → ByteFits v
-flash_fits image permits v e =
-    joined_is ByteFits permits (flash_known image) 65536 (λ z. bits_make_values.fits tag.None (byte_known (byte_at image.words z))) bits_make_values.joins_fit v e
+pub flash_fits : (image : Image) (from : ℕ) (permits : ℕ → Bool) (v : AbsByte) → flash_joined image from permits ≡ Some v → ByteFits v
+flash_fits image from permits v e =
+    joined_is ByteFits permits (λ k. flash_known image (from + k)) 65536 (λ z. bits_make_values.fits tag.None (byte_known (byte_at image.words (from + z)))) bits_make_values.joins_fit v e
 
-pub flash_untagged : (image : Image) (permits : ℕ → Bool) (v : AbsByte) → flash_joined image permits ≡ Some v → v.tag ≡ tag.None
-flash_untagged image permits v e =
-    joined_is (λ w. w.tag ≡ tag.None) permits (flash_known image) 65536 (λ z. refl) (λ v w a b. ap₂ tag_join a b) v e
+pub flash_untagged : (image : Image) (from : ℕ) (permits : ℕ → Bool) (v : AbsByte) → flash_joined image from permits ≡ Some v → v.tag ≡ tag.None
+flash_untagged image from permits v e =
+    joined_is (λ w. w.tag ≡ tag.None) permits (λ k. flash_known image (from + k)) 65536 (λ z. refl) (λ v w a b. ap₂ tag_join a b) v e
 
 -- the join is below each value that is above all permitted bytes
-pub flash_covered : (image : Image) (p : PairSet) (w : AbsByte) → CoversFlash image p w → few_in_flash image (pair_permits p) ≡ true
-    → (v : AbsByte) → flash_joined image (pair_permits p) ≡ Some v → IsByteWithin v w
-flash_covered image p w covers few v e =
-    joined_under (pair_permits p) (flash_known image) w 65536 (λ z lt may.
-    let inside = is_in_flash image (pair_permits p) z few lt may in
-    let at : flash_at image z ≡ flash_known image z = ap (λ (b : Bool). if b then flash_known image z else unknown) inside in
+pub flash_covered : (image : Image) (from : ℕ) (p : PairSet) (w : AbsByte) → CoversFlash image from p w → few_in_flash image from (pair_permits p) ≡ true
+    → (v : AbsByte) → flash_joined image from (pair_permits p) ≡ Some v → IsByteWithin v w
+flash_covered image from p w covers few v e =
+    joined_under (pair_permits p) (λ k. flash_known image (from + k)) w 65536 (λ z lt may.
+    let inside = is_in_flash image from (pair_permits p) z few lt may in
+    let at : flash_at image (from + z) ≡ flash_known image (from + z) = ap (λ (b : Bool). if b then flash_known image (from + z) else unknown) inside in
     subst (λ (u : AbsByte). IsByteWithin u w) at (covers z lt may)) v e
 
 -- ---- values that are above what is read
@@ -281,14 +281,14 @@ any_above image z = by (is_flash image z)
     by true = bits_make_values.within tag.None tag.None (byte_known (byte_at image.words z)) byte_any tt (λ x small h. any_has x)
     by false = values_are_ordered.same unknown
 
-pub unknown_covers : (image : Image) (p : PairSet) → CoversFlash image p unknown
-unknown_covers image p z lt may = any_above image z
+pub unknown_covers : (image : Image) (from : ℕ) (p : PairSet) → CoversFlash image from p unknown
+unknown_covers image from p z lt may = any_above image (from + z)
 
-pub constant_covers : (image : Image) (p : PairSet) (x y : ℕ) → byte_constant p.low.bits ≡ Some x → byte_constant p.high.bits ≡ Some y
-    → CoversFlash image p (flash_at image (x + 256 * y))
-constant_covers image p x y ex ey z lt may =
+pub constant_covers : (image : Image) (from : ℕ) (p : PairSet) (x y : ℕ) → byte_constant p.low.bits ≡ Some x → byte_constant p.high.bits ≡ Some y
+    → CoversFlash image from p (flash_at image (from + (x + 256 * y)))
+constant_covers image from p x y ex ey z lt may =
     let h = pair_permitted p z lt may in
     let low = constant_member p.low.bits x (z % 256) (omega arith) ex h.low.bits in
     let high = constant_member p.high.bits y (z / 256) (omega arith) ey h.high.bits in
     let same : z ≡ x + 256 * y = omega arith in
-    subst (λ (k : ℕ). IsByteWithin (flash_at image z) (flash_at image k)) same (values_are_ordered.same (flash_at image z))
+    subst (λ (k : ℕ). IsByteWithin (flash_at image (from + z)) (flash_at image (from + k))) same (values_are_ordered.same (flash_at image (from + z)))

@@ -37,7 +37,10 @@ use Rattle.pair_rules.specs.Hulls.{all_hulled}
 
 abbrev pub AreBytesBelow : List ℕ → Type 0
 AreBytesBelow [] = ⊤
-AreBytesBelow (r ∷ rs) = (r < 32) × AreBytesBelow rs
+AreBytesBelow (r ∷ rs) = (r < 34) × AreBytesBelow rs
+
+below : {d : ℕ} → d < 32 → d < 34
+below lt = omega (arith, lt)
 
 moved_below : (p : Pointer) → AreBytesBelow (moved_pair p)
 moved_below pointer.ZPlus = (omega arith, (omega arith, tt))
@@ -50,25 +53,25 @@ moved_below pointer.MinusX = (omega arith, (omega arith, tt))
 
 binary_below : (op : BinaryOp) (d : ℕ) → d < 32 → AreBytesBelow (set_by_binary op d)
 binary_below binary.Cpc d lt = tt
-binary_below binary.Sbc d lt = (lt, tt)
-binary_below binary.Add d lt = (lt, tt)
+binary_below binary.Sbc d lt = (below lt, tt)
+binary_below binary.Add d lt = (below lt, tt)
 binary_below binary.Cpse d lt = tt
 binary_below binary.Cp d lt = tt
-binary_below binary.Sub d lt = (lt, tt)
-binary_below binary.Adc d lt = (lt, tt)
-binary_below binary.And d lt = (lt, tt)
-binary_below binary.Eor d lt = (lt, tt)
-binary_below binary.Or d lt = (lt, tt)
-binary_below binary.Mov d lt = (lt, tt)
+binary_below binary.Sub d lt = (below lt, tt)
+binary_below binary.Adc d lt = (below lt, tt)
+binary_below binary.And d lt = (below lt, tt)
+binary_below binary.Eor d lt = (below lt, tt)
+binary_below binary.Or d lt = (below lt, tt)
+binary_below binary.Mov d lt = (below lt, tt)
 binary_below binary.Mul d lt = (omega arith, (omega arith, tt))
 
 immediate_below : (op : ImmediateOp) (d : ℕ) → d < 32 → AreBytesBelow (set_by_immediate op d)
 immediate_below immediate.Cpi d lt = tt
-immediate_below immediate.Sbci d lt = (lt, tt)
-immediate_below immediate.Subi d lt = (lt, tt)
-immediate_below immediate.Ori d lt = (lt, tt)
-immediate_below immediate.Andi d lt = (lt, tt)
-immediate_below immediate.Ldi d lt = (lt, tt)
+immediate_below immediate.Sbci d lt = (below lt, tt)
+immediate_below immediate.Subi d lt = (below lt, tt)
+immediate_below immediate.Ori d lt = (below lt, tt)
+immediate_below immediate.Andi d lt = (below lt, tt)
+immediate_below immediate.Ldi d lt = (below lt, tt)
 
 pair_below : (d : ℕ) → d < 16 → AreBytesBelow (2 * d ∷ (2 * d + 1) ∷ [])
 pair_below d lt = (omega (arith, lt), (omega (arith, lt), tt))
@@ -85,31 +88,31 @@ written_below (i.Fmuls d r) fit = product_below
 written_below (i.Fmulsu d r) fit = product_below
 written_below (i.Binary op d r) fit = binary_below op d fit.0
 written_below (i.Immediate op d k) fit = immediate_below op d fit.0
-written_below (i.Ldd d b q) fit = (fit, tt)
-written_below (i.Lds d a) fit = (fit, tt)
-written_below (i.Ld d p) fit = (fit, moved_below p)
-written_below (i.LpmZ d) fit = (fit, tt)
-written_below (i.ElpmZ d) fit = (fit, tt)
-written_below (i.LpmZPlus d) fit = (fit, (omega arith, (omega arith, tt)))
-written_below (i.ElpmZPlus d) fit = (fit, (omega arith, (omega arith, tt)))
-written_below (i.Pop d) fit = (fit, tt)
+written_below (i.Ldd d b q) fit = (below fit, tt)
+written_below (i.Lds d a) fit = (below fit, tt)
+written_below (i.Ld d p) fit = (below fit, moved_below p)
+written_below (i.LpmZ d) fit = (below fit, tt)
+written_below (i.ElpmZ d) fit = (below fit, tt)
+written_below (i.LpmZPlus d) fit = (below fit, (omega arith, (omega arith, tt)))
+written_below (i.ElpmZPlus d) fit = (below fit, (omega arith, (omega arith, (omega arith, tt))))
+written_below (i.Pop d) fit = (below fit, tt)
 written_below (i.St p r) fit = moved_below p
-written_below (i.Unary op d) fit = (fit, tt)
+written_below (i.Unary op d) fit = (below fit, tt)
 written_below i.Lpm fit = (omega arith, tt)
 written_below i.Elpm fit = (omega arith, tt)
 written_below (i.Adiw d k) fit = pair_below d fit.0
 written_below (i.Sbiw d k) fit = pair_below d fit.0
-written_below (i.In d a) fit = (fit, tt)
-written_below (i.Bld d b) fit = (fit, tt)
+written_below (i.In d a) fit = (below fit, tt)
+written_below (i.Bld d b) fit = (below fit, tt)
 written_below _ fit = tt
 
 -- ---- all of them
 
 abbrev pub AreWithin : List AbsByte → List AbsByte → Type 0
-AreWithin values values' = (r : ℕ) → r < 32 → IsByteWithin (value_at values r) (value_at values' r)
+AreWithin values values' = (r : ℕ) → r < 34 → IsByteWithin (value_at values r) (value_at values' r)
 
 abbrev pub AreValuesFit : List AbsByte → Type 0
-AreValuesFit values = (r : ℕ) → r < 32 → ByteFits (value_at values r)
+AreValuesFit values = (r : ℕ) → r < 34 → ByteFits (value_at values r)
 
 pub all_hold : (o : Origin) (values : List AbsByte) (registers : List ℕ) (sreg : ℕ) (rs : List ℕ) (x : Option PairFacts) → HasSixteen x → RegistersStand o values registers
     → HoldsAt x registers sreg → HoldsAt (all_hulled values rs x) registers sreg
@@ -123,11 +126,11 @@ pub all_more : (values values' : List AbsByte) (rs : List ℕ) (x y : Option Pai
 all_more values values' [] x y a b within le = le
 all_more values values' (r ∷ rs) x y a b within le =
     all_more values values' rs (written_hull values r x) (written_hull values' r y) (writes_end_facts.hull_count values r x a) (writes_end_facts.hull_count values' r y b) within
-    (writes_end_facts.hull_more values values' r x y a b within le)
+    (writes_end_facts.hull_more values values' r x y a b (λ k lt. within k (below lt)) le)
 
 pub all_fit : (values : List AbsByte) (rs : List ℕ) (x : Option PairFacts) → AreValuesFit values → KnownFits x → KnownFits (all_hulled values rs x)
 all_fit values [] x fit fits = fits
-all_fit values (r ∷ rs) x fit fits = all_fit values rs (written_hull values r x) fit (writes_end_facts.hull_fits values r x fit fits)
+all_fit values (r ∷ rs) x fit fits = all_fit values rs (written_hull values r x) fit (writes_end_facts.hull_fits values r x (λ k lt. fit k (below lt)) fits)
 
 -- ---- where the intervals were ended before
 
@@ -207,7 +210,7 @@ in_its_pair written r e = by (cases_eq (2 * (r / 2)) r)
         ap (λ (b : Bool). written (2 * (r / 2)) || b) hit ∙ or_with_true (written (2 * (r / 2)))
 
 module _ (values : List AbsByte) (fit : AreValuesFit values) (f : PairFacts) (flags carry : Bool) (written : ℕ → Bool) where
-  written_above : (r : ℕ) → r < 32 → written r ≡ true → IsAboveHull values (r / 2) (ended written flags carry (Some f))
+  written_above : (r : ℕ) → r < 34 → written r ≡ true → IsAboveHull values (r / 2) (ended written flags carry (Some f))
   written_above r lt e =
       let whole_there : interval_at (intervals_ended written 0 f.intervals) (r / 2) ≡ whole =
       ended_at written f.intervals (r / 2) ∙ ap (λ (b : Bool). if b then whole else interval_at f.intervals (r / 2)) (in_its_pair written r e) in

@@ -9,6 +9,7 @@ use Rattle.avr_model.specs.declared.instruction.BinaryOp.{BinaryOp}
 use Rattle.avr_model.specs.declared.instruction.BinaryOp.TheVariants as binary
 use Rattle.avr_model.specs.Written.{set_by_binary, written}
 use Rattle.avr_model.specs.Devices.{Image}
+use Rattle.avr_model.specs.State.{RAMPZ}
 use Rattle.pair_domain.specs.declared.intervals.Interval.{Interval}
 use Rattle.pair_domain.specs.declared.facts.PairFacts.{PairFacts}
 use Rattle.pair_domain.specs.Intervals.{whole, IsIntervalWithin, interval_meet, hull}
@@ -24,15 +25,15 @@ use Rattle.abs_state.specs.Cuts.{pair_of, pair_set, cut_known}
 use Rattle.abs_state.specs.Ended.{is_one_of, in_pair, intervals_ended, hull_at, written_hull}
 use Rattle.abs_state.specs.Hulls.{AreInHulls, IsInHulls}
 use Rattle.abs_state.proofs.AllLaws.{writes_end_facts, ended_at, joins_are_formed}
-use Rattle.pair_cut_laws.proofs.Steps.{value_other, interval_there, interval_other, low_there, high_there, rest_there, with_was, pair_state, others_in, state_hulls}
-use Rattle.pair_cut_laws.proofs.Bytes.{pair_ends}
 use Rattle.pair_rules.specs.declared.told.Told.{Told}
 use Rattle.pair_rules.specs.declared.told.Told.TheVariants as told
 use Rattle.pair_rules.specs.Hulls.{ended_by, all_hulled}
 use Rattle.pair_rules.specs.Flash.{few_in_flash, flash_joined}
 use Rattle.pair_rules.specs.Tags.{tagged}
-use Rattle.pair_rules.specs.Values.{with_value, doubled_by, with_joined, flash_read, retold}
+use Rattle.pair_rules.specs.Values.{with_value, doubled_by, with_joined, flash_read, rampz_of, extended_read, retold}
 use Rattle.pair_rules.specs.Refined.{meet_pair, cut_told}
+use Rattle.pair_laws.proofs.Bytes.{pair_ends}
+use Rattle.pair_laws.proofs.Steps.{value_other, interval_there, interval_other, low_there, high_there, rest_there, with_was, pair_state, others_in, state_hulls}
 use Rattle.pair_laws.proofs.CutTold.{meet_was}
 use Rattle.pair_laws.proofs.Tellings.{ToldFits}
 
@@ -107,18 +108,25 @@ module _ (s t a : AbsState) (r : ℕ) where
   joined_kept d rs None kept e = absurd (cc)
   joined_kept d rs (Some v) kept e = subst IsKept (same_Some (with_value t d v) a e) (set_kept t d v rs r kept)
 
-  flash_kept : (image : Image) (d : ℕ) (permits : ℕ → Bool) (rs : List ℕ) → is_one_of (d ∷ rs) r ≡ false → flash_read image t d permits ≡ Some a → IsKept a
-  flash_kept image d permits rs kept e = by (few_in_flash image permits) e
+  flash_kept : (image : Image) (from d : ℕ) (permits : ℕ → Bool) (rs : List ℕ) → is_one_of (d ∷ rs) r ≡ false → flash_read image from t d permits ≡ Some a → IsKept a
+  flash_kept image from d permits rs kept e = by (few_in_flash image from permits) e
     where
-      by : (few : Bool) → (if few then with_joined t d (flash_joined image permits) else Some t) ≡ Some a → IsKept a
-      by true is = joined_kept d rs (flash_joined image permits) kept is
+      by : (few : Bool) → (if few then with_joined t d (flash_joined image from permits) else Some t) ≡ Some a → IsKept a
+      by true is = joined_kept d rs (flash_joined image from permits) kept is
       by false is = subst IsKept (same_Some t a is) refl
+
+  extended_kept : (image : Image) (bank : Option ℕ) (d : ℕ) (permits : ℕ → Bool) (rs : List ℕ) → is_one_of (d ∷ rs) r ≡ false → extended_read image bank t d permits ≡ Some a → IsKept a
+  extended_kept image None d permits rs kept e = subst IsKept (same_Some t a e) refl
+  extended_kept image (Some b) d permits rs kept e = flash_kept image (65536 * b) d permits rs kept e
 
   pub retold_kept : (image : Image) (f : PairFacts) (instr : Instr) → retold image s f instr t ≡ Some a → is_one_of (written instr) r ≡ false → IsKept a
   retold_kept image f (i.Binary op d q) e kept = binary_kept op d q kept e
-  retold_kept image f (i.LpmZ d) e kept = flash_kept image d _ [] kept e
-  retold_kept image f (i.LpmZPlus d) e kept = flash_kept image d _ (30 ∷ 31 ∷ []) kept e
-  retold_kept image f i.Lpm e kept = flash_kept image 0 _ [] kept e
+  retold_kept image f (i.LpmZ d) e kept = flash_kept image 0 d _ [] kept e
+  retold_kept image f (i.LpmZPlus d) e kept = flash_kept image 0 d _ (30 ∷ 31 ∷ []) kept e
+  retold_kept image f i.Lpm e kept = flash_kept image 0 0 _ [] kept e
+  retold_kept image f (i.ElpmZ d) e kept = extended_kept image (rampz_of s) d _ [] kept e
+  retold_kept image f (i.ElpmZPlus d) e kept = extended_kept image (rampz_of s) d _ (30 ∷ 31 ∷ RAMPZ ∷ []) kept e
+  retold_kept image f i.Elpm e kept = extended_kept image (rampz_of s) 0 _ [] kept e
   retold_kept image f _ e kept = subst IsKept (same_Some t a e) refl
 
 -- ---- pairs that have their hulls

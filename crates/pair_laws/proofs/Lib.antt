@@ -1,3 +1,12 @@
+pub mod Steps
+pub mod Bytes
+pub mod Places
+pub mod Outcomes
+pub mod Compared
+pub mod Flags
+pub mod Registers
+pub mod Equals
+pub mod Picks
 pub mod Operands
 pub mod Doubled
 pub mod FlashJoin
@@ -11,5 +20,6 @@ pub mod CutTold
 pub mod Hulls
 pub mod Retold
 pub mod InHulls
+pub mod Banks
 pub mod Refined
 pub mod AllLaws

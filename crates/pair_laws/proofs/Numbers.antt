@@ -26,7 +26,7 @@ set_same rs d e x is = by (cases_eq e d)
     by (inl same) = subst (λ (j : ℕ). slice_index (slice_set rs d x) j ≡ slice_index rs j) (sym same) (⊎_elim (λ set. set ∙ is) (λ past. past) there)
     by (inr ne) = set_other rs d e x ne
 
-module _ (rs : List ℕ) (count : length rs ≡ 32) where
+module _ (rs : List ℕ) (count : length rs ≡ 34) where
   pub set_high : (k x : ℕ) → k < 16 → pair_number (slice_set rs (2 * k + 1) x) (2 * k) ≡ slice_index rs (2 * k) + 256 * x
   set_high k x lt =
       ap₂ (λ (a b : ℕ). a + 256 * b) (set_other rs (2 * k + 1) (2 * k) x (λ e. omega arith)) (set_there rs (2 * k + 1) x (omega (arith, lt, count)))
@@ -48,6 +48,15 @@ module _ (rs : List ℕ) (count : length rs ≡ 32) where
       (set_other (slice_set (slice_set rs (2 * k) (w % 256)) (2 * k + 1) (w / 256)) d (2 * k) x (λ e. away (omega arith)))
       (set_other (slice_set (slice_set rs (2 * k) (w % 256)) (2 * k + 1) (w / 256)) d (2 * k + 1) x (λ e. away (omega arith)))
       ∙ set_word k w lt
+
+  -- and two later writes
+  pub word_kept_twice : (k e d w y x : ℕ) → k < 16 → (e / 2 ≡ k → ⊥) → (d / 2 ≡ k → ⊥)
+      → pair_number (slice_set (slice_set (slice_set (slice_set rs (2 * k) (w % 256)) (2 * k + 1) (w / 256)) e y) d x) (2 * k) ≡ w
+  word_kept_twice k e d w y x lt first away =
+      ap₂ (λ (a b : ℕ). a + 256 * b)
+      (set_other (slice_set (slice_set (slice_set rs (2 * k) (w % 256)) (2 * k + 1) (w / 256)) e y) d (2 * k) x (λ is. away (omega arith)))
+      (set_other (slice_set (slice_set (slice_set rs (2 * k) (w % 256)) (2 * k + 1) (w / 256)) e y) d (2 * k + 1) x (λ is. away (omega arith)))
+      ∙ word_kept k e w y lt first
 
   -- a register of a pair becomes a function of its old value
   pub high_is : (k d : ℕ) (g : ℕ → ℕ) → k < 16 → 2 * k + 1 ≡ d

@@ -200,23 +200,23 @@ all_there = (
                                                                                                                                               (
                                                                                                                                                 (λ w next. tt),
                                                                                                                                                 (
-                                                                                                                                                  (λ w next. (twelve_more (small 100 "1001 0110 KKdd KKKK" w), six_bits (small 75 "1001 0110 KKdd KKKK" w))),
+                                                                                                                                                  (λ w next. tt),
                                                                                                                                                   (
-                                                                                                                                                    (λ w next. (twelve_more (small 100 "1001 0111 KKdd KKKK" w), six_bits (small 75 "1001 0111 KKdd KKKK" w))),
+                                                                                                                                                    (λ w next. tt),
                                                                                                                                                     (
-                                                                                                                                                      (λ w next. tt),
+                                                                                                                                                      (λ w next. (twelve_more (small 100 "1001 0110 KKdd KKKK" w), six_bits (small 75 "1001 0110 KKdd KKKK" w))),
                                                                                                                                                       (
-                                                                                                                                                        (λ w next. tt),
+                                                                                                                                                        (λ w next. (twelve_more (small 100 "1001 0111 KKdd KKKK" w), six_bits (small 75 "1001 0111 KKdd KKKK" w))),
                                                                                                                                                         (
                                                                                                                                                           (λ w next. tt),
                                                                                                                                                           (
                                                                                                                                                             (λ w next. tt),
                                                                                                                                                             (
-                                                                                                                                                              (λ w next. small 100 "1011 0AAd dddd AAAA" w),
+                                                                                                                                                              (λ w next. tt),
                                                                                                                                                               (
                                                                                                                                                                 (λ w next. tt),
                                                                                                                                                                 (
-                                                                                                                                                                  (λ w next. tt),
+                                                                                                                                                                  (λ w next. small 100 "1011 0AAd dddd AAAA" w),
                                                                                                                                                                   (
                                                                                                                                                                     (λ w next. tt),
                                                                                                                                                                     (
@@ -224,14 +224,20 @@ all_there = (
                                                                                                                                                                       (
                                                                                                                                                                         (λ w next. tt),
                                                                                                                                                                         (
-                                                                                                                                                                          (λ w next. small 100 "1111 100d dddd 0bbb" w),
+                                                                                                                                                                          (λ w next. tt),
                                                                                                                                                                           (
                                                                                                                                                                             (λ w next. tt),
                                                                                                                                                                             (
-                                                                                                                                                                              (λ w next. tt),
+                                                                                                                                                                              (λ w next. small 100 "1111 100d dddd 0bbb" w),
                                                                                                                                                                               (
                                                                                                                                                                                 (λ w next. tt),
-                                                                                                                                                                                tt,
+                                                                                                                                                                                (
+                                                                                                                                                                                  (λ w next. tt),
+                                                                                                                                                                                  (
+                                                                                                                                                                                    (λ w next. tt),
+                                                                                                                                                                                    tt,
+                                                                                                                                                                                  ),
+                                                                                                                                                                                ),
                                                                                                                                                                               ),
                                                                                                                                                                             ),
                                                                                                                                                                           ),

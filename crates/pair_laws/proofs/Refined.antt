@@ -2,6 +2,7 @@
 use Rattle.std.proofs.Common.{◌≡◌, refl, sym, ◌∙◌, ap, subst, ℕ, ◌+◌, ◌*◌, ◌<◌, ◌⊎◌, inl, inr, Bool, true, false, List, length, Option, Some, None, length-set, arith}
 use Rattle.std.specs.List.{All}
 use Rattle.std.proofs.lemmas.Option.{same_Some}
+use Rattle.avr_model.specs.declared.device.Device.{Device}
 use Rattle.avr_model.specs.declared.instruction.Instr.{Instr}
 use Rattle.avr_model.specs.State.{State}
 use Rattle.avr_model.specs.Written.{written}
@@ -25,6 +26,7 @@ use Rattle.abs_state.specs.Laws.{HoldsAt}
 use Rattle.abs_state.proofs.AllLaws.{states_are_ordered, joins_are_formed}
 use Rattle.abs_state.specs.Ended.{is_one_of, in_pair}
 use Rattle.abs_state.specs.Hulls.{AreInHulls, IsInHulls}
+use Rattle.abs_state.specs.Banks.{IsStateWith}
 use Rattle.abs_state.specs.FlagsSet.{sets_flags, sets_carry}
 use Rattle.pair_rules.specs.Hulls.{all_hulled, ended_by}
 use Rattle.pair_rules.specs.Told.{told_by}
@@ -36,7 +38,8 @@ use Rattle.pair_laws.proofs.ToldTrue.{told_true, told_fits}
 use Rattle.pair_laws.proofs.ToldLess.{told_less}
 use Rattle.pair_laws.proofs.TagsTrue.{tags_true}
 use Rattle.pair_laws.proofs.TagsOrder.{tags_more, tags_fit, tags_under}
-use Rattle.pair_laws.proofs.CutTold.{cut_keeps, cut_under, cut_formed, cut_more, cut_like}
+use Rattle.pair_laws.proofs.CutTold.{cut_keeps, cut_under, cut_formed, cut_of, cut_more, cut_like}
+use Rattle.pair_laws.proofs.Banks.{retold_of}
 use Rattle.pair_laws.proofs.Hulls.{written_below, all_hold, all_more, all_fit, hulls_less}
 use Rattle.pair_laws.proofs.InHulls.{PairIn, all_of_pairs, pair_same, neither, pair_ended, retold_kept, pair_hulled, cut_hulls, tags_in_hulls}
 use Rattle.pair_laws.proofs.Retold.{IsRetold, same, sets, retold_was, retold_under, retold_more, retold_stands, value_set}
@@ -111,10 +114,10 @@ retold_facts t u (same is) = ap (λ (v : AbsState). v.facts) is
 retold_facts t u (sets d v is fits untagged) = ap (λ (w : AbsState). w.facts) is
 
 -- a property of tags, and of none, is preserved
-retold_tags : (C : Tag → Type 0) (t u : AbsState) → C tag.None → IsRetold t u → ((r : ℕ) → r < 32 → C (value_at t.registers r).tag) → (r : ℕ) → r < 32 → C (value_at u.registers r).tag
-retold_tags C t u none (same is) old = subst (λ (v : AbsState). (r : ℕ) → r < 32 → C (value_at v.registers r).tag) (sym is) old
+retold_tags : (C : Tag → Type 0) (t u : AbsState) → C tag.None → IsRetold t u → ((r : ℕ) → r < 34 → C (value_at t.registers r).tag) → (r : ℕ) → r < 34 → C (value_at u.registers r).tag
+retold_tags C t u none (same is) old = subst (λ (v : AbsState). (r : ℕ) → r < 34 → C (value_at v.registers r).tag) (sym is) old
 retold_tags C t u none (sets d v is fits untagged) old =
-    subst (λ (w : AbsState). (r : ℕ) → r < 32 → C (value_at w.registers r).tag) (sym is)
+    subst (λ (w : AbsState). (r : ℕ) → r < 34 → C (value_at w.registers r).tag) (sym is)
     (value_set (λ r w. C w.tag) t.registers d v (subst C (sym untagged) none) old)
 
 -- ---- a state that is refined
@@ -145,14 +148,28 @@ module _ (marks : List ℕ) (image : Image) (instr : Instr) (n k : ℕ) (s t : A
       })
 
   -- a property of the tags of t, and of none, holds of those of u
-  tags_known : (C : Tag → Type 0) (x : Option PairFacts) (u : AbsState) → C tag.None → ((r : ℕ) → r < 32 → C (value_at t.registers r).tag) → refined_known marks image instr s t x ≡ Some u
-      → (r : ℕ) → r < 32 → C (value_at u.registers r).tag
-  tags_known C None u none old e = subst (λ (v : AbsState). (r : ℕ) → r < 32 → C (value_at v.registers r).tag) (same_Some t u e) old
+  tags_known : (C : Tag → Type 0) (x : Option PairFacts) (u : AbsState) → C tag.None → ((r : ℕ) → r < 34 → C (value_at t.registers r).tag) → refined_known marks image instr s t x ≡ Some u
+      → (r : ℕ) → r < 34 → C (value_at u.registers r).tag
+  tags_known C None u none old e = subst (λ (v : AbsState). (r : ℕ) → r < 34 → C (value_at v.registers r).tag) (same_Some t u e) old
   tags_known C (Some f) u none old e =
       let was = refined_was marks image instr s t u f e in
       let values = retold_tags C t was.values none (retold_was image s f instr t was.values was.retold_is) old in
       let like = cut_like marks (told_by s.registers f instr) (with_hulls (written instr) was.values) was.cut was.cut_is in
-      subst (λ (v : AbsState). (r : ℕ) → r < 32 → C (value_at v.registers r).tag) was.tagged_is (λ r lt. subst C (sym (like.1 r)) (values r lt))
+      subst (λ (v : AbsState). (r : ℕ) → r < 34 → C (value_at v.registers r).tag) was.tagged_is (λ r lt. subst C (sym (like.1 r)) (values r lt))
+
+  -- what the device says
+  of_known : (good : Tag → Bool) → good tag.None ≡ true → (device : Device) (is_root : Bool) → IsStateWith good device is_root t → (x : Option PairFacts) (u : AbsState)
+      → refined_known marks image instr s t x ≡ Some u → IsStateWith good device is_root u
+  of_known good none device is_root of None u e = subst (IsStateWith good device is_root) (same_Some t u e) of
+  of_known good none device is_root of (Some f) u e =
+      let was = refined_was marks image instr s t u f e in
+      let retold_is = retold_was image s f instr t was.values was.retold_is in
+      let values = retold_of good none device is_root t of s was.values image f instr fit was.retold_is retold_is (retold_like t was.values retold_is).slots in
+      let hulled : IsStateWith good device is_root (with_hulls (written instr) was.values) =
+      record { registers = values.registers; slots = values.slots; rampz = values.rampz; eind = values.eind } in
+      let whole = joins_are_formed.whole (with_hulls (written instr) was.values) k (hulled_formed f was.values was.retold_is) in
+      let cut = cut_of marks (told_by s.registers f instr) good device is_root (with_hulls (written instr) was.values) was.cut (told_fits s n before f instr fit) whole hulled was.cut_is in
+      subst (IsStateWith good device is_root) was.tagged_is (record { registers = cut.registers; slots = cut.slots; rampz = cut.rampz; eind = cut.eind })
 
   under_known : (x : Option PairFacts) (u : AbsState) → t.facts ≡ ended_by instr x → CoversTold image s instr t → refined_known marks image instr s t x ≡ Some u → IsStateWithin u t
   under_known None u plain covers e = subst (λ (v : AbsState). IsStateWithin v t) (same_Some t u e) (states_are_ordered.same t)
@@ -241,7 +258,7 @@ module _ (marks : List ℕ) (image : Image) (instr : Instr) (n k : ℕ) (s s' t 
     more_known (Some f) (Some f') fits fits' plain facts e =
         let was = refined_was marks image instr s t u f e in
         let count = behind.count_registers ∙ sym behind'.count_registers in
-        let values = retold_more s s' t t' count within le image f f' instr was.values fit facts covers' was.retold_is in
+        let values = retold_more s s' t t' count within le image f f' instr was.values fit facts covers covers' was.retold_is in
         let formed = retold_formed t was.values k (retold_was image s f instr t was.values was.retold_is) behind in
         let formed' = retold_formed t' values.0 k (retold_was image s' f' instr t' values.0 values.1) behind' in
         let hulled = hulled_formed marks image instr n k s t fit before behind f was.values was.retold_is in
@@ -320,5 +337,6 @@ refined_is_ordered = record {
         carry = subst (λ (f : AbsFlags). CarryIsUntagged f.carry) (sym like.flags) old.carry;
         slots = subst (λ (slots : List (Slot AbsByte)). (d : ℕ) → d < length slots → SlotIsUntagged (slot_at slots d)) (sym like.slots) old.slots;
       };
+  of = λ good device is_root marks image instr n k s t u none fit before behind old e. of_known marks image instr n k s t fit before behind good none device is_root old s.facts u e;
   hulls = λ marks image instr n k s t u fit before behind plain kept old e. in_hulls_known marks image instr n k s t fit before behind s.facts u plain kept old e;
 }

@@ -1,5 +1,5 @@
 -- Refined values.
-use Rattle.std.proofs.Common.{◌≡◌, refl, sym, ◌∙◌, ap, subst, subst₂, ℕ, ◌/◌, ◌%◌, ◌<◌, ◌==◌, if◌then◌else◌, ◌⊎◌, inl, inr, ⊎_elim, zero, suc, ◌≤◌, Bool, true, false, List, length, Option, Some, None, slice_index, slice_set, arith, length-set}
+use Rattle.std.proofs.Common.{◌≡◌, refl, sym, ◌∙◌, ap, subst, subst₂, ℕ, ◌+◌, ◌*◌, ◌/◌, ◌%◌, ◌<◌, ◌==◌, if◌then◌else◌, ◌⊎◌, inl, inr, ⊎_elim, zero, suc, ◌≤◌, Bool, true, false, List, length, Option, Some, None, slice_index, slice_set, arith, length-set}
 use Rattle.std.specs.Int.{from_bool}
 use Rattle.std.specs.List.{All}
 use Rattle.std.proofs.lemmas.Bool.{cases_eq, eqb-true, false≢true}
@@ -15,8 +15,8 @@ use Rattle.avr_model.specs.declared.instruction.BinaryOp.TheVariants as binary
 use Rattle.avr_model.specs.Image.{byte_at}
 use Rattle.avr_model.specs.Sreg.{flag}
 use Rattle.avr_model.specs.Sums.{sum_of}
-use Rattle.avr_model.specs.State.{State, pair}
-use Rattle.avr_model.specs.Effects.{flash_read as byte_read, binary_effect}
+use Rattle.avr_model.specs.State.{State, RAMPZ, register, pair}
+use Rattle.avr_model.specs.Effects.{flash_read as byte_read, extended_byte, binary_effect}
 use Rattle.avr_model.specs.Step.{with_registers}
 use Rattle.avr_model.specs.Devices.{Image}
 use Rattle.bit_domain.specs.declared.bits.Tri.{Tri}
@@ -32,6 +32,7 @@ use Rattle.sp_domain.specs.declared.tags.Tag.TheVariants as tag
 use Rattle.pair_domain.specs.declared.facts.PairFacts.{PairFacts}
 use Rattle.pair_domain.specs.PairSets.{PairSet, PairStands, IsPairWithin}
 use Rattle.pair_domain.specs.Facts.{AreFactsWithin}
+use Rattle.abs_alu.proofs.ProductCover.{constant_member, constant_within}
 use Rattle.abs_state.specs.declared.values.AbsByte.{AbsByte}
 use Rattle.abs_state.specs.declared.state.AbsState.{AbsState}
 use Rattle.abs_state.specs.Values.{value_at, unknown}
@@ -41,7 +42,7 @@ use Rattle.abs_state.specs.Formed.{ByteFits}
 use Rattle.abs_state.specs.Laws.{HoldsAt}
 use Rattle.abs_state.proofs.AllLaws.{bits_make_values, states_are_ordered}
 use Rattle.pair_rules.specs.Flash.{pair_permits, few_in_flash, flash_joined}
-use Rattle.pair_rules.specs.Values.{with_value, doubled, doubled_value, doubled_by, with_joined, flash_read, z_of, retold}
+use Rattle.pair_rules.specs.Values.{with_value, doubled, doubled_value, doubled_by, with_joined, flash_read, rampz_of, extended_read, z_of, retold}
 use Rattle.pair_rules.specs.Fits.{HasRegisters, CoversFlash, CoversDoubled, CoversTold}
 use Rattle.pair_laws.specs.Laws.{IsBefore, registers_set}
 use Rattle.pair_laws.proofs.Doubled.{has_doubled, doubled_more}
@@ -58,8 +59,8 @@ value_past : (vs : List AbsByte) (d : ℕ) (v : AbsByte) → length vs ≤ d →
 value_past vs d v past = get_or_past (slice_set vs d v) d unknown (omega (arith, past, length-set vs d v)) ∙ sym (get_or_past vs d unknown past)
 
 -- a property of the new value and of all old ones holds of all
-pub value_set : (Q : ℕ → AbsByte → Type 0) (values : List AbsByte) (d : ℕ) (v : AbsByte) → Q d v → ((r : ℕ) → r < 32 → Q r (value_at values r))
-    → (r : ℕ) → r < 32 → Q r (value_at (slice_set values d v) r)
+pub value_set : (Q : ℕ → AbsByte → Type 0) (values : List AbsByte) (d : ℕ) (v : AbsByte) → Q d v → ((r : ℕ) → r < 34 → Q r (value_at values r))
+    → (r : ℕ) → r < 34 → Q r (value_at (slice_set values d v) r)
 value_set Q values d v new old r lt = by (cases_eq r d)
   where
     there : (value_at (slice_set values d v) d ≡ v) ⊎ (value_at (slice_set values d v) d ≡ value_at values d)
@@ -73,8 +74,8 @@ value_set Q values d v new old r lt = by (cases_eq r d)
     by (inr ne) = let other : value_at (slice_set values d v) r ≡ value_at values r = grind (arith, elements) in subst (Q r) (sym other) (old r lt)
 
 -- a relation of two lists of equal length holds after both are set
-pub both_set : (vs ws : List AbsByte) (d : ℕ) (v w : AbsByte) → length vs ≡ length ws → IsByteWithin v w → ((r : ℕ) → r < 32 → IsByteWithin (value_at vs r) (value_at ws r))
-    → (r : ℕ) → r < 32 → IsByteWithin (value_at (slice_set vs d v) r) (value_at (slice_set ws d w) r)
+pub both_set : (vs ws : List AbsByte) (d : ℕ) (v w : AbsByte) → length vs ≡ length ws → IsByteWithin v w → ((r : ℕ) → r < 34 → IsByteWithin (value_at vs r) (value_at ws r))
+    → (r : ℕ) → r < 34 → IsByteWithin (value_at (slice_set vs d v) r) (value_at (slice_set ws d w) r)
 both_set vs ws d v w count new old r lt = by (cases_eq r d)
   where
     there : ((value_at (slice_set vs d v) d ≡ v) × (value_at (slice_set ws d w) d ≡ w))
@@ -124,17 +125,21 @@ pub data IsRetold (t u : AbsState) : Type 0 where
   same : u ≡ t → IsRetold t u
   sets : (d : ℕ) (v : AbsByte) → u ≡ with_value t d v → ByteFits v → v.tag ≡ tag.None → IsRetold t u
 
-joined_was : (words : Image) (t u : AbsState) (d : ℕ) (permits : ℕ → Bool) (o : Option AbsByte) → flash_joined words permits ≡ o → with_joined t d o ≡ Some u → IsRetold t u
-joined_was words t u d permits None is e = absurd (cc)
-joined_was words t u d permits (Some v) is e =
-    sets d v (sym (same_Some (with_value t d v) u e)) (flash_fits words permits v is) (flash_untagged words permits v is)
+joined_was : (words : Image) (from : ℕ) (t u : AbsState) (d : ℕ) (permits : ℕ → Bool) (o : Option AbsByte) → flash_joined words from permits ≡ o → with_joined t d o ≡ Some u → IsRetold t u
+joined_was words from t u d permits None is e = absurd (cc)
+joined_was words from t u d permits (Some v) is e =
+    sets d v (sym (same_Some (with_value t d v) u e)) (flash_fits words from permits v is) (flash_untagged words from permits v is)
 
-flash_was : (words : Image) (t u : AbsState) (d : ℕ) (permits : ℕ → Bool) → flash_read words t d permits ≡ Some u → IsRetold t u
-flash_was words t u d permits e = by (few_in_flash words permits) e
+flash_was : (words : Image) (from : ℕ) (t u : AbsState) (d : ℕ) (permits : ℕ → Bool) → flash_read words from t d permits ≡ Some u → IsRetold t u
+flash_was words from t u d permits e = by (few_in_flash words from permits) e
   where
-    by : (few : Bool) → (if few then with_joined t d (flash_joined words permits) else Some t) ≡ Some u → IsRetold t u
-    by true is = joined_was words t u d permits (flash_joined words permits) refl is
+    by : (few : Bool) → (if few then with_joined t d (flash_joined words from permits) else Some t) ≡ Some u → IsRetold t u
+    by true is = joined_was words from t u d permits (flash_joined words from permits) refl is
     by false is = same (sym (same_Some t u is))
+
+extended_was : (words : Image) (bank : Option ℕ) (t u : AbsState) (d : ℕ) (permits : ℕ → Bool) → extended_read words bank t d permits ≡ Some u → IsRetold t u
+extended_was words None t u d permits e = same (sym (same_Some t u e))
+extended_was words (Some b) t u d permits e = flash_was words (65536 * b) t u d permits e
 
 doubled_was : (s t : AbsState) (op : BinaryOp) (d : ℕ) → IsRetold t (doubled_by s op d t)
 doubled_was s t binary.Cpc d = same refl
@@ -160,25 +165,33 @@ binary_was s t u op d r e = by (d == r) (sym (same_Some (if d == r then doubled_
 
 pub retold_was : (words : Image) (s : AbsState) (f : PairFacts) (instr : Instr) (t u : AbsState) → retold words s f instr t ≡ Some u → IsRetold t u
 retold_was words s f (i.Binary op d r) t u e = binary_was s t u op d r e
-retold_was words s f (i.LpmZ d) t u e = flash_was words t u d (pair_permits (z_of s f)) e
-retold_was words s f (i.LpmZPlus d) t u e = flash_was words t u d (pair_permits (z_of s f)) e
-retold_was words s f i.Lpm t u e = flash_was words t u 0 (pair_permits (z_of s f)) e
+retold_was words s f (i.LpmZ d) t u e = flash_was words 0 t u d (pair_permits (z_of s f)) e
+retold_was words s f (i.LpmZPlus d) t u e = flash_was words 0 t u d (pair_permits (z_of s f)) e
+retold_was words s f i.Lpm t u e = flash_was words 0 t u 0 (pair_permits (z_of s f)) e
+retold_was words s f (i.ElpmZ d) t u e = extended_was words (rampz_of s) t u d (pair_permits (z_of s f)) e
+retold_was words s f (i.ElpmZPlus d) t u e = extended_was words (rampz_of s) t u d (pair_permits (z_of s f)) e
+retold_was words s f i.Elpm t u e = extended_was words (rampz_of s) t u 0 (pair_permits (z_of s f)) e
 retold_was words s f _ t u e = same (sym (same_Some t u e))
 
 -- ---- it says more than the plain rules
 
-joined_under : (words : Image) (t u : AbsState) (d : ℕ) (p : PairSet) → CoversFlash words p (value_at t.registers d) → few_in_flash words (pair_permits p) ≡ true
-    → (o : Option AbsByte) → flash_joined words (pair_permits p) ≡ o → with_joined t d o ≡ Some u → IsStateWithin u t
-joined_under words t u d p covers few None is e = absurd (cc)
-joined_under words t u d p covers few (Some v) is e =
-    subst (λ (w : AbsState). IsStateWithin w t) (same_Some (with_value t d v) u e) (value_less t d v (flash_covered words p (value_at t.registers d) covers few v is))
+joined_under : (words : Image) (from : ℕ) (t u : AbsState) (d : ℕ) (p : PairSet) → CoversFlash words from p (value_at t.registers d) → few_in_flash words from (pair_permits p) ≡ true
+    → (o : Option AbsByte) → flash_joined words from (pair_permits p) ≡ o → with_joined t d o ≡ Some u → IsStateWithin u t
+joined_under words from t u d p covers few None is e = absurd (cc)
+joined_under words from t u d p covers few (Some v) is e =
+    subst (λ (w : AbsState). IsStateWithin w t) (same_Some (with_value t d v) u e) (value_less t d v (flash_covered words from p (value_at t.registers d) covers few v is))
 
-flash_under : (words : Image) (t u : AbsState) (d : ℕ) (p : PairSet) → CoversFlash words p (value_at t.registers d) → flash_read words t d (pair_permits p) ≡ Some u → IsStateWithin u t
-flash_under words t u d p covers e = by (few_in_flash words (pair_permits p)) refl e
+flash_under : (words : Image) (from : ℕ) (t u : AbsState) (d : ℕ) (p : PairSet) → CoversFlash words from p (value_at t.registers d) → flash_read words from t d (pair_permits p) ≡ Some u → IsStateWithin u t
+flash_under words from t u d p covers e = by (few_in_flash words from (pair_permits p)) refl e
   where
-    by : (few : Bool) → few_in_flash words (pair_permits p) ≡ few → (if few then with_joined t d (flash_joined words (pair_permits p)) else Some t) ≡ Some u → IsStateWithin u t
-    by true few_is is = joined_under words t u d p covers few_is (flash_joined words (pair_permits p)) refl is
+    by : (few : Bool) → few_in_flash words from (pair_permits p) ≡ few → (if few then with_joined t d (flash_joined words from (pair_permits p)) else Some t) ≡ Some u → IsStateWithin u t
+    by true few_is is = joined_under words from t u d p covers few_is (flash_joined words from (pair_permits p)) refl is
     by false many is = subst (λ (w : AbsState). IsStateWithin w t) (same_Some t u is) (states_are_ordered.same t)
+
+extended_under : (words : Image) (bank : Option ℕ) (t u : AbsState) (d : ℕ) (p : PairSet) → ((b : ℕ) → bank ≡ Some b → CoversFlash words (65536 * b) p (value_at t.registers d))
+    → extended_read words bank t d (pair_permits p) ≡ Some u → IsStateWithin u t
+extended_under words None t u d p covers e = subst (λ (w : AbsState). IsStateWithin w t) (same_Some t u e) (states_are_ordered.same t)
+extended_under words (Some b) t u d p covers e = flash_under words (65536 * b) t u d p (covers b refl) e
 
 doubled_under : (s t : AbsState) (op : BinaryOp) (d : ℕ) → CoversDoubled s op d (value_at t.registers d) → IsStateWithin (doubled_by s op d t) t
 doubled_under s t binary.Cpc d covers = states_are_ordered.same t
@@ -204,9 +217,12 @@ binary_under s t u op d r covers e = by (d == r) refl (sym (same_Some (if d == r
 
 pub retold_under : (words : Image) (s : AbsState) (f : PairFacts) (instr : Instr) (t u : AbsState) → CoversTold words s instr t → retold words s f instr t ≡ Some u → IsStateWithin u t
 retold_under words s f (i.Binary op d r) t u covers e = binary_under s t u op d r covers e
-retold_under words s f (i.LpmZ d) t u covers e = flash_under words t u d (z_of s f) (covers f) e
-retold_under words s f (i.LpmZPlus d) t u covers e = flash_under words t u d (z_of s f) (covers f) e
-retold_under words s f i.Lpm t u covers e = flash_under words t u 0 (z_of s f) (covers f) e
+retold_under words s f (i.LpmZ d) t u covers e = flash_under words 0 t u d (z_of s f) (covers f) e
+retold_under words s f (i.LpmZPlus d) t u covers e = flash_under words 0 t u d (z_of s f) (covers f) e
+retold_under words s f i.Lpm t u covers e = flash_under words 0 t u 0 (z_of s f) (covers f) e
+retold_under words s f (i.ElpmZ d) t u covers e = extended_under words (rampz_of s) t u d (z_of s f) (covers f) e
+retold_under words s f (i.ElpmZPlus d) t u covers e = extended_under words (rampz_of s) t u d (z_of s f) (covers f) e
+retold_under words s f i.Elpm t u covers e = extended_under words (rampz_of s) t u 0 (z_of s f) (covers f) e
 retold_under words s f _ t u covers e = subst (λ (w : AbsState). IsStateWithin w t) (same_Some t u e) (states_are_ordered.same t)
 
 -- ---- of more it is more
@@ -225,10 +241,10 @@ z_within s s' f f' le facts =
 abbrev IsMoreThan : AbsState → Option AbsState → Type 0
 IsMoreThan u o = (u' : AbsState) × (o ≡ Some u') × IsStateWithin u u'
 
-module _ (words : Image) (t t' u : AbsState) (d : ℕ) (count : length t.registers ≡ length t'.registers) (le : IsStateWithin t t') (p p' : PairSet) (more : IsPairWithin p p')
-    (covers : CoversFlash words p' (value_at t'.registers d)) where
+module _ (words : Image) (from : ℕ) (t t' u : AbsState) (d : ℕ) (count : length t.registers ≡ length t'.registers) (le : IsStateWithin t t') (p p' : PairSet) (more : IsPairWithin p p')
+    (covers : CoversFlash words from p' (value_at t'.registers d)) where
   -- few numbers are permitted of both
-  both_few : (o : Option AbsByte) → flash_joined words (pair_permits p) ≡ o → with_joined t d o ≡ Some u → IsMoreThan u (with_joined t' d (flash_joined words (pair_permits p')))
+  both_few : (o : Option AbsByte) → flash_joined words from (pair_permits p) ≡ o → with_joined t d o ≡ Some u → IsMoreThan u (with_joined t' d (flash_joined words from (pair_permits p')))
   both_few None is e = absurd (cc)
   both_few (Some v) is e =
       let joined = joined_more (pair_permits p) (pair_permits p') _ (permits_more p p' more) v is in (
@@ -238,10 +254,10 @@ module _ (words : Image) (t t' u : AbsState) (d : ℕ) (count : length t.registe
       )
 
   -- too many are permitted of the second
-  first_few : few_in_flash words (pair_permits p) ≡ true → (o : Option AbsByte) → flash_joined words (pair_permits p) ≡ o → with_joined t d o ≡ Some u → IsStateWithin u t'
+  first_few : few_in_flash words from (pair_permits p) ≡ true → (o : Option AbsByte) → flash_joined words from (pair_permits p) ≡ o → with_joined t d o ≡ Some u → IsStateWithin u t'
   first_few few None is e = absurd (cc)
   first_few few (Some v) is e =
-      let above = flash_covered words p (value_at t'.registers d) (λ z lt may. covers z lt (permits_more p p' more z lt may)) few v is in
+      let above = flash_covered words from p (value_at t'.registers d) (λ z lt may. covers z lt (permits_more p p' more z lt may)) few v is in
       subst (λ (w : AbsState). IsStateWithin w t') (same_Some (with_value t d v) u e) (record {
         registers = value_set (λ r w. IsByteWithin w (value_at t'.registers r)) t.registers d v above le.registers;
         flags = le.flags;
@@ -250,16 +266,31 @@ module _ (words : Image) (t t' u : AbsState) (d : ℕ) (count : length t.registe
         facts = le.facts;
       })
 
-  flash_more : flash_read words t d (pair_permits p) ≡ Some u → IsMoreThan u (flash_read words t' d (pair_permits p'))
-  flash_more e = by (few_in_flash words (pair_permits p)) (few_in_flash words (pair_permits p')) refl refl e
+  flash_more : flash_read words from t d (pair_permits p) ≡ Some u → IsMoreThan u (flash_read words from t' d (pair_permits p'))
+  flash_more e = by (few_in_flash words from (pair_permits p)) (few_in_flash words from (pair_permits p')) refl refl e
     where
-      by : (few few' : Bool) → few_in_flash words (pair_permits p) ≡ few → few_in_flash words (pair_permits p') ≡ few'
-          → (if few then with_joined t d (flash_joined words (pair_permits p)) else Some t) ≡ Some u
-          → IsMoreThan u (if few' then with_joined t' d (flash_joined words (pair_permits p')) else Some t')
-      by true true few_is few_is' is = both_few (flash_joined words (pair_permits p)) refl is
-      by true false few_is many is = (t', refl, first_few few_is (flash_joined words (pair_permits p)) refl is)
-      by false true many few_is is = absurd (false≢true (sym many ∙ few_less words (pair_permits p) (pair_permits p') (permits_more p p' more) few_is))
+      by : (few few' : Bool) → few_in_flash words from (pair_permits p) ≡ few → few_in_flash words from (pair_permits p') ≡ few'
+          → (if few then with_joined t d (flash_joined words from (pair_permits p)) else Some t) ≡ Some u
+          → IsMoreThan u (if few' then with_joined t' d (flash_joined words from (pair_permits p')) else Some t')
+      by true true few_is few_is' is = both_few (flash_joined words from (pair_permits p)) refl is
+      by true false few_is many is = (t', refl, first_few few_is (flash_joined words from (pair_permits p)) refl is)
+      by false true many few_is is = absurd (false≢true (sym many ∙ few_less words from (pair_permits p) (pair_permits p') (permits_more p p' more) few_is))
       by false false many many' is = (t', refl, subst (λ (w : AbsState). IsStateWithin w t') (same_Some t u is) le)
+
+-- a bank that the greater knows is that of the lesser
+bank_within : (s s' : AbsState) → IsStateWithin s s' → (b : ℕ) → rampz_of s' ≡ Some b → rampz_of s ≡ Some b
+bank_within s s' le b e = constant_within (value_at s.registers RAMPZ).bits (value_at s'.registers RAMPZ).bits b (le.registers RAMPZ (omega arith)).bits e
+
+extended_more : (words : Image) (bank bank' : Option ℕ) (t t' u : AbsState) (d : ℕ) → length t.registers ≡ length t'.registers → IsStateWithin t t'
+    → (p p' : PairSet) → IsPairWithin p p' → ((b : ℕ) → bank' ≡ Some b → bank ≡ Some b) → ((b : ℕ) → bank ≡ Some b → CoversFlash words (65536 * b) p (value_at t.registers d))
+    → ((b : ℕ) → bank' ≡ Some b → CoversFlash words (65536 * b) p' (value_at t'.registers d)) → extended_read words bank t d (pair_permits p) ≡ Some u
+    → IsMoreThan u (extended_read words bank' t' d (pair_permits p'))
+extended_more words bank None t t' u d count le p p' more known covers covers' e =
+    (t', refl, states_are_ordered.through u t t' (extended_under words bank t u d p covers e) le)
+extended_more words bank (Some b) t t' u d count le p p' more known covers covers' e =
+    let here : flash_read words (65536 * b) t d (pair_permits p) ≡ Some u =
+    subst (λ (x : Option ℕ). extended_read words x t d (pair_permits p) ≡ Some u) (known b refl) e in
+    flash_more words (65536 * b) t t' u d count le p p' more (covers' b refl) here
 
 doubled_within : (s s' : AbsState) (d : ℕ) (low low' : Tri) → IsWithin (value_at s.registers d).bits (value_at s'.registers d).bits → IsTriWithin low low'
     → IsByteWithin (doubled_value s d low) (doubled_value s' d low')
@@ -274,11 +305,11 @@ module _ (s s' t t' : AbsState) (count : length t.registers ≡ length t'.regist
   by_more : (op : BinaryOp) (d : ℕ) → d < 32 → IsStateWithin (doubled_by s op d t) (doubled_by s' op d t')
   by_more binary.Cpc d lt = le
   by_more binary.Sbc d lt = le
-  by_more binary.Add d lt = values_less t t' d _ _ count (doubled_within s s' d Zero Zero (within.registers d lt).bits (λ n may. may)) le
+  by_more binary.Add d lt = values_less t t' d _ _ count (doubled_within s s' d Zero Zero (within.registers d (omega (arith, lt))).bits (λ n may. may)) le
   by_more binary.Cpse d lt = le
   by_more binary.Cp d lt = le
   by_more binary.Sub d lt = le
-  by_more binary.Adc d lt = values_less t t' d _ _ count (doubled_within s s' d _ _ (within.registers d lt).bits (carry_within s s' within)) le
+  by_more binary.Adc d lt = values_less t t' d _ _ count (doubled_within s s' d _ _ (within.registers d (omega (arith, lt))).bits (carry_within s s' within)) le
   by_more binary.And d lt = le
   by_more binary.Eor d lt = le
   by_more binary.Or d lt = le
@@ -296,13 +327,19 @@ module _ (s s' t t' : AbsState) (count : length t.registers ≡ length t'.regist
   plain_more : (u : AbsState) → Some t ≡ Some u → IsMoreThan u (Some t')
   plain_more u e = (t', refl, subst (λ (w : AbsState). IsStateWithin w t') (same_Some t u e) le)
 
-  pub retold_more : (words : Image) (f f' : PairFacts) (instr : Instr) (u : AbsState) → HasRegisters instr → AreFactsWithin f f' → CoversTold words s' instr t'
-      → retold words s f instr t ≡ Some u → (u' : AbsState) × (retold words s' f' instr t' ≡ Some u') × IsStateWithin u u'
-  retold_more words f f' (i.Binary op d r) u fit facts covers e = binary_more u op d r fit.0 e
-  retold_more words f f' (i.LpmZ d) u fit facts covers e = flash_more words t t' u d count le (z_of s f) (z_of s' f') (z_within s s' f f' within facts) (covers f') e
-  retold_more words f f' (i.LpmZPlus d) u fit facts covers e = flash_more words t t' u d count le (z_of s f) (z_of s' f') (z_within s s' f f' within facts) (covers f') e
-  retold_more words f f' i.Lpm u fit facts covers e = flash_more words t t' u 0 count le (z_of s f) (z_of s' f') (z_within s s' f f' within facts) (covers f') e
-  retold_more words f f' _ u fit facts covers e = plain_more u e
+  pub retold_more : (words : Image) (f f' : PairFacts) (instr : Instr) (u : AbsState) → HasRegisters instr → AreFactsWithin f f' → CoversTold words s instr t
+      → CoversTold words s' instr t' → retold words s f instr t ≡ Some u → (u' : AbsState) × (retold words s' f' instr t' ≡ Some u') × IsStateWithin u u'
+  retold_more words f f' (i.Binary op d r) u fit facts covers covers' e = binary_more u op d r fit.0 e
+  retold_more words f f' (i.LpmZ d) u fit facts covers covers' e = flash_more words 0 t t' u d count le (z_of s f) (z_of s' f') (z_within s s' f f' within facts) (covers' f') e
+  retold_more words f f' (i.LpmZPlus d) u fit facts covers covers' e = flash_more words 0 t t' u d count le (z_of s f) (z_of s' f') (z_within s s' f f' within facts) (covers' f') e
+  retold_more words f f' i.Lpm u fit facts covers covers' e = flash_more words 0 t t' u 0 count le (z_of s f) (z_of s' f') (z_within s s' f f' within facts) (covers' f') e
+  retold_more words f f' (i.ElpmZ d) u fit facts covers covers' e =
+      extended_more words (rampz_of s) (rampz_of s') t t' u d count le (z_of s f) (z_of s' f') (z_within s s' f f' within facts) (bank_within s s' within) (covers f) (covers' f') e
+  retold_more words f f' (i.ElpmZPlus d) u fit facts covers covers' e =
+      extended_more words (rampz_of s) (rampz_of s') t t' u d count le (z_of s f) (z_of s' f') (z_within s s' f f' within facts) (bank_within s s' within) (covers f) (covers' f') e
+  retold_more words f f' i.Elpm u fit facts covers covers' e =
+      extended_more words (rampz_of s) (rampz_of s') t t' u 0 count le (z_of s f) (z_of s' f') (z_within s s' f f' within facts) (bank_within s s' within) (covers f) (covers' f') e
+  retold_more words f f' _ u fit facts covers covers' e = plain_more u e
 
 -- ---- it stands for what the instruction leaves
 
@@ -348,8 +385,8 @@ module _ (o : Origin) (m : State) (s t : AbsState) (n : ℕ) (at : IsBefore o s 
         interval = h.intervals 15 (omega arith);
       }
 
-  flash_stands : (d input : ℕ) → slice_index registers d ≡ byte_read words (pair m 30) input → StandsRetold o t (flash_read words t d (pair_permits (z_of s f))) registers
-  flash_stands d input is = by (few_in_flash words (pair_permits (z_of s f))) refl
+  flash_stands : (from d input : ℕ) → slice_index registers d ≡ byte_read words (from + pair m 30) input → StandsRetold o t (flash_read words from t d (pair_permits (z_of s f))) registers
+  flash_stands from d input is = by (few_in_flash words from (pair_permits (z_of s f))) refl
     where
       z_small : pair m 30 < 65536
       z_small = omega (arith, at.bytes 30, at.bytes 31)
@@ -357,21 +394,37 @@ module _ (o : Origin) (m : State) (s t : AbsState) (n : ℕ) (at : IsBefore o s 
       may : pair_permits (z_of s f) (pair m 30) ≡ true
       may = pair_permits_it (z_of s f) (slice_index m.registers 30) (slice_index m.registers 31) z_stands
 
-      by : (few : Bool) → few_in_flash words (pair_permits (z_of s f)) ≡ few
-          → StandsRetold o t (if few then with_joined t d (flash_joined words (pair_permits (z_of s f))) else Some t) registers
+      by : (few : Bool) → few_in_flash words from (pair_permits (z_of s f)) ≡ few
+          → StandsRetold o t (if few then with_joined t d (flash_joined words from (pair_permits (z_of s f))) else Some t) registers
       by false many = plain_stands
       by true few_is =
-          let joined = joined_stands o words (pair_permits (z_of s f)) (pair m 30) z_small may (byte_small words.words (pair m 30) are) in
-          let inside = is_in_flash words (pair_permits (z_of s f)) (pair m 30) few_is z_small may in
-          let byte : slice_index registers d ≡ byte_at words.words (pair m 30) = is ∙ ap (λ (b : Bool). if b then byte_at words.words (pair m 30) else input) inside in
+          let joined = joined_stands o words from (pair_permits (z_of s f)) (pair m 30) z_small may (byte_small words.words (from + pair m 30) are) in
+          let inside = is_in_flash words from (pair_permits (z_of s f)) (pair m 30) few_is z_small may in
+          let byte : slice_index registers d ≡ byte_at words.words (from + pair m 30) = is ∙ ap (λ (b : Bool). if b then byte_at words.words (from + pair m 30) else input) inside in
           let set = value_stands d joined.0 (subst (ByteStands o joined.0) (sym byte) joined.1.1) in
           (set.0, ap (with_joined t d) joined.1.0 ∙ set.1, set.2, set.3)
+
+  -- from bank 0, and from the bank in RAMPZ
+  first_stands : (d input : ℕ) → slice_index registers d ≡ byte_read words (pair m 30) input → StandsRetold o t (flash_read words 0 t d (pair_permits (z_of s f))) registers
+  first_stands d input is =
+      let same : pair m 30 ≡ 0 + pair m 30 = omega arith in flash_stands 0 d input (is ∙ ap (λ (z : ℕ). byte_read words z input) same)
+
+  extended_stands : (d input : ℕ) → slice_index registers d ≡ byte_read words (extended_byte m) input
+      → StandsRetold o t (extended_read words (rampz_of s) t d (pair_permits (z_of s f))) registers
+  extended_stands d input is = by (rampz_of s) refl
+    where
+      by : (bank : Option ℕ) → rampz_of s ≡ bank → StandsRetold o t (extended_read words bank t d (pair_permits (z_of s f))) registers
+      by None none = plain_stands
+      by (Some b) known =
+          let rampz = at.registers RAMPZ (omega arith) in
+          let holds : register m RAMPZ ≡ b = constant_member (value_at s.registers RAMPZ).bits b (register m RAMPZ) rampz.small known rampz.bits in
+          flash_stands (65536 * b) d input (is ∙ ap (λ (r : ℕ). byte_read words (65536 * r + pair m 30) input) holds)
 
   doubled_stands : (d : ℕ) (low : Tri) (c : Bool) → d < 32 → Permits low (from_bool c) → slice_index registers d ≡ sum_of (slice_index m.registers d) (slice_index m.registers d) c % 256
       → StandsRetold o t (Some (with_value t d (doubled_value s d low))) registers
   doubled_stands d low c lt may is =
       let x = slice_index m.registers d in
-      let was = at.registers d lt in
+      let was = at.registers d (omega (arith, lt)) in
       let small : sum_of x x c % 256 < 256 = omega arith in
       let has = has_doubled (value_at s.registers d).bits low x (from_bool c) was.small (carry_small c) was.bits may in
       value_stands d (doubled_value s d low)
@@ -420,10 +473,19 @@ module _ (o : Origin) (m : State) (s t : AbsState) (n : ℕ) (at : IsBefore o s 
       set_there (slice_set (slice_set m.registers 30 lo) 31 hi) d x
       (omega (arith, lt, at.count, length-set (slice_set m.registers 30 lo) 31 hi, length-set m.registers 30 lo))
 
+  -- and RAMPZ too
+  behind_bank : (d x lo hi bank : ℕ) → d < 32 → slice_index (slice_set (slice_set (slice_set (slice_set m.registers 30 lo) 31 hi) RAMPZ bank) d x) d ≡ x
+  behind_bank d x lo hi bank lt =
+      set_there (slice_set (slice_set (slice_set m.registers 30 lo) 31 hi) RAMPZ bank) d x
+      (omega (arith, lt, at.count, length-set (slice_set (slice_set m.registers 30 lo) 31 hi) RAMPZ bank, length-set (slice_set m.registers 30 lo) 31 hi, length-set m.registers 30 lo))
+
   pub retold_stands : (instr : Instr) → HasRegisters instr → RegistersStand o t.registers (registers_set words still m instr b1 b2)
       → (u : AbsState) × (retold words s f instr t ≡ Some u) × RegistersStand o u.registers (registers_set words still m instr b1 b2) × (u.facts ≡ t.facts)
   retold_stands (i.Binary op d r) fit stand = binary_stands op d r fit.0 stand
-  retold_stands (i.LpmZ d) fit stand = flash_stands o m s t n at words are f h _ stand d b1 (set_at d _ fit)
-  retold_stands (i.LpmZPlus d) fit stand = flash_stands o m s t n at words are f h _ stand d b1 (behind_pair d _ _ _ fit)
-  retold_stands i.Lpm fit stand = flash_stands o m s t n at words are f h _ stand 0 b1 (set_at 0 _ (omega arith))
+  retold_stands (i.LpmZ d) fit stand = first_stands o m s t n at words are f h _ stand d b1 (set_at d _ fit)
+  retold_stands (i.LpmZPlus d) fit stand = first_stands o m s t n at words are f h _ stand d b1 (behind_pair d _ _ _ fit)
+  retold_stands i.Lpm fit stand = first_stands o m s t n at words are f h _ stand 0 b1 (set_at 0 _ (omega arith))
+  retold_stands (i.ElpmZ d) fit stand = extended_stands o m s t n at words are f h _ stand d b1 (set_at d _ fit)
+  retold_stands (i.ElpmZPlus d) fit stand = extended_stands o m s t n at words are f h _ stand d b1 (behind_bank d _ _ _ _ fit)
+  retold_stands i.Elpm fit stand = extended_stands o m s t n at words are f h _ stand 0 b1 (set_at 0 _ (omega arith))
   retold_stands _ fit stand = (t, refl, stand, refl)

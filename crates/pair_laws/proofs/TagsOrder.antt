@@ -233,10 +233,10 @@ module _ (f : PairFacts) (fits : FactsFit f) where
 
   module _ (s : AbsState) (n : ℕ) (formed : IsFormed s n) where
     ordered_at : (r : ℕ) → r < 32 → (value_at s.registers r).low ≤ (value_at s.registers r).high
-    ordered_at r lt = (formed.ranges r lt).ordered
+    ordered_at r lt = (formed.ranges r (omega (arith, lt))).ordered
 
     byte_at : (r : ℕ) → r < 32 → (value_at s.registers r).high < 256
-    byte_at r lt = omega (arith, (formed.ranges r lt).high, ranges_fit.most (value_at s.registers r).bits)
+    byte_at r lt = omega (arith, (formed.ranges r (omega (arith, lt))).high, ranges_fit.most (value_at s.registers r).bits)
 
     binary_sum_fits : (op : BinaryOp) (d r : ℕ) → d < 32 → r < 32 → SumFits (sum_of_binary s.registers f op d r)
     binary_sum_fits binary.Cpc d r lt other = tt

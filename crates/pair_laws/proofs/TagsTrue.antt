@@ -88,7 +88,7 @@ even_is d e = by (cases_eq (d % 2) 1)
 no_borrow : (x z : ℕ) → nat_lt x (z + from_bool false) ≡ nat_lt x z
 no_borrow x z = let e : z + 0 ≡ z = omega arith in ap (nat_lt x) e
 
-module _ (registers : List ℕ) (count : length registers ≡ 32) (bytes : AreRegisterBytes registers) (f : PairFacts) (sreg : ℕ) (h : HoldsAt (Some f) registers sreg)
+module _ (registers : List ℕ) (count : length registers ≡ 34) (bytes : AreRegisterBytes registers) (f : PairFacts) (sreg : ℕ) (h : HoldsAt (Some f) registers sreg)
     (d low high z : ℕ) (small : d < 32) (operand : IsOperand low high z) where
   low_row : 2 * (d / 2) ≡ d → IsRow (interval_of f d) low high (slice_index registers d) (slice_index registers (d + 1)) z
   low_row even = record {
@@ -168,7 +168,7 @@ both_zero x y z is = by z is
     by false e = grind (arith, nat_tests)
 
 -- `sbc` keeps Z for a result of 0
-kept_zero : (registers : List ℕ) (count : length registers ≡ 32) (t : ZeroTag) (d b s : ℕ) (c : Bool) → d < 32 → ZeroHolds registers t (flag s 1)
+kept_zero : (registers : List ℕ) (count : length registers ≡ 34) (t : ZeroTag) (d b s : ℕ) (c : Bool) → d < 32 → ZeroHolds registers t (flag s 1)
     → ZeroHolds (slice_set registers d (difference_of (slice_index registers d) b c)) (zero_high t d) (flag (flags_of_difference (slice_index registers d) b c true s) 1)
 kept_zero registers count zero.None d b s c lt h = tt
 kept_zero registers count (zero.Pair r) d b s c lt h = tt

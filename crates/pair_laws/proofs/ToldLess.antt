@@ -34,8 +34,8 @@ pub record AreBounds (n m n' m' : ℕ) : Type 0 where
 pub bounds_at : (s s' : AbsState) (n r : ℕ) → IsFormed s n → IsStateWithin s s' → r < 32
     → AreBounds (value_at s.registers r).low (value_at s.registers r).high (value_at s'.registers r).low (value_at s'.registers r).high
 bounds_at s s' n r formed le lt =
-    let within = le.registers r lt in
-    record { ordered = (formed.ranges r lt).ordered; low = within.low; high = within.high }
+    let within = le.registers r (omega (arith, lt)) in
+    record { ordered = (formed.ranges r (omega (arith, lt))).ordered; low = within.low; high = within.high }
 
 pub bounds_of : (k : ℕ) → AreBounds k k k k
 bounds_of k = record { ordered = omega arith; low = omega arith; high = omega arith }

@@ -16,7 +16,7 @@ use Rattle.avr_model.specs.declared.instruction.Pointer.TheVariants as pointer
 use Rattle.avr_model.specs.Sites.{pointer_register}
 use Rattle.avr_model.specs.Sreg.{flag}
 use Rattle.avr_model.specs.Sums.{sum_of, difference_of}
-use Rattle.avr_model.specs.State.{State, pair, plus16, minus16}
+use Rattle.avr_model.specs.State.{State, RAMPZ, pair, plus16, minus16}
 use Rattle.avr_model.specs.Effects.{moved, set, binary_effect, immediate_effect}
 use Rattle.avr_model.specs.Step.{with_registers}
 use Rattle.avr_model.specs.Devices.{Image}
@@ -41,7 +41,7 @@ use Rattle.pair_rules.specs.declared.told.Told.TheVariants as told
 use Rattle.pair_rules.specs.Told.{interval_of, computed, kept_same, carried, borrowed, told_add, told_adc, told_sub, told_sbc, unless_set, told_pointer, told_binary, told_immediate, told_by}
 use Rattle.pair_rules.specs.Fits.{HasRegisters}
 use Rattle.pair_laws.specs.Laws.{AreRegisterBytes, IsBefore, registers_set}
-use Rattle.pair_laws.proofs.Numbers.{set_word, word_kept, high_is, same_is}
+use Rattle.pair_laws.proofs.Numbers.{set_word, word_kept, word_kept_twice, high_is, same_is}
 use Rattle.pair_laws.proofs.Tellings.{TellsTrue, ToldFits, IsIntervalSmall, modulo_small, computed_true, computed_fits, high_true, high_fits, unless_true, unless_fits}
 
 -- ---- what an operand is known to be
@@ -55,15 +55,15 @@ pub record IsOperand (n m z : ℕ) : Type 0 where
 pub operand_at : (o : Origin) (s : AbsState) (m : State) (n r : ℕ) → IsBefore o s m → IsFormed s n → r < 32
     → IsOperand (value_at s.registers r).low (value_at s.registers r).high (slice_index m.registers r)
 operand_at o s m n r at formed lt =
-    let stands = at.registers r lt in
-    record { low = stands.low; high = stands.high; byte = omega (arith, (formed.ranges r lt).high, ranges_fit.most (value_at s.registers r).bits) }
+    let stands = at.registers r (omega (arith, lt)) in
+    record { low = stands.low; high = stands.high; byte = omega (arith, (formed.ranges r (omega (arith, lt))).high, ranges_fit.most (value_at s.registers r).bits) }
 
 pub operand_of : (k : ℕ) → k < 256 → IsOperand k k k
 operand_of k lt = record { low = omega arith; high = omega arith; byte = lt }
 
 -- ---- the high byte of a pair
 
-module _ (registers : List ℕ) (count : length registers ≡ 32) (bytes : AreRegisterBytes registers) (f : PairFacts) (sreg : ℕ) (h : HoldsAt (Some f) registers sreg)
+module _ (registers : List ℕ) (count : length registers ≡ 34) (bytes : AreRegisterBytes registers) (f : PairFacts) (sreg : ℕ) (h : HoldsAt (Some f) registers sreg)
     (d low high z : ℕ) (small : d < 32) (operand : IsOperand low high z) where
   row : IsRow (interval_of f d) low high (slice_index registers (2 * (d / 2))) (slice_index registers (2 * (d / 2) + 1)) z
   row = record {
@@ -151,6 +151,13 @@ module _ (o : Origin) (m : State) (s : AbsState) (n : ℕ) (at : IsBefore o s m)
       unless_true d k told (slice_set (slice_set (slice_set m.registers (2 * k) (w % 256)) (2 * k + 1) (w / 256)) d byte)
       (λ away. subst (ToldHolds told) (sym (word_kept m.registers at.count k d w byte lt away)) holds)
 
+  -- the same with RAMPZ set between
+  banked_true : (d w bank byte : ℕ) (told : Option Interval) → w < 65536 → ToldHolds told w
+      → TellsTrue (unless_set d 15 told) (slice_set (slice_set (slice_set (slice_set m.registers 30 (w % 256)) 31 (w / 256)) RAMPZ bank) d byte)
+  banked_true d w bank byte told small holds =
+      unless_true d 15 told (slice_set (slice_set (slice_set (slice_set m.registers 30 (w % 256)) 31 (w / 256)) RAMPZ bank) d byte)
+      (λ away. subst (ToldHolds told) (sym (word_kept_twice m.registers at.count 15 RAMPZ d w bank byte (omega arith) (λ is. omega (arith, is)) away)) holds)
+
   same_true : (d r x : ℕ) → d < 32 → (d ≡ r → x ≡ slice_index m.registers d) → TellsTrue (kept_same f d r) (slice_set m.registers d x)
   same_true d r x lt is = by (d == r) refl
     where
@@ -236,7 +243,7 @@ module _ (o : Origin) (m : State) (s : AbsState) (n : ℕ) (at : IsBefore o s m)
   told_true image still b1 b2 (i.Ld d p) fit = load_true d _ p
   told_true image still b1 b2 (i.St p r) fit = store_true p
   told_true image still b1 b2 (i.LpmZPlus d) fit = pointer_true d 15 (plus16 (pair m 30) 1) _ _ (omega arith) (omega arith) (up_true 15 (omega arith) (pair m 30) refl)
-  told_true image still b1 b2 (i.ElpmZPlus d) fit = pointer_true d 15 (plus16 (pair m 30) 1) _ _ (omega arith) (omega arith) (up_true 15 (omega arith) (pair m 30) refl)
+  told_true image still b1 b2 (i.ElpmZPlus d) fit = banked_true d (plus16 (pair m 30) 1) _ _ _ (omega arith) (up_true 15 (omega arith) (pair m 30) refl)
   told_true image still b1 b2 _ fit = tt
 
 -- ---- it fits
@@ -279,8 +286,8 @@ binary_fits s n formed f binary.Eor d r lt other = tt
 binary_fits s n formed f binary.Or d r lt other = same_fits f d r lt
 binary_fits s n formed f binary.Mov d r lt other = tt
 binary_fits s n formed f binary.Mul d r lt other =
-    let first : (value_at s.registers d).high < 256 = omega (arith, (formed.ranges d lt).high, ranges_fit.most (value_at s.registers d).bits) in
-    let second : (value_at s.registers r).high < 256 = omega (arith, (formed.ranges r other).high, ranges_fit.most (value_at s.registers r).bits) in
+    let first : (value_at s.registers d).high < 256 = omega (arith, (formed.ranges d (omega (arith, lt))).high, ranges_fit.most (value_at s.registers d).bits) in
+    let second : (value_at s.registers r).high < 256 = omega (arith, (formed.ranges r (omega (arith, other))).high, ranges_fit.most (value_at s.registers r).bits) in
     (omega arith, product_of_bytes (value_at s.registers d).high (value_at s.registers r).high first second)
 
 immediate_fits : (f : PairFacts) (op : ImmediateOp) (d k : ℕ) → d < 32 → ToldFits (told_immediate f op d k)

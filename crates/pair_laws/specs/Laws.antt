@@ -1,9 +1,10 @@
 -- Laws of the transfer functions of the pair domain.
 use Rattle.std.specs.Prelude.{ℕ, ◌+◌, ◌*◌, ◌≡◌, ◌<◌, Bool, true, false, List, length, Some, slice_index}
 use Rattle.std.specs.List.{All}
+use Rattle.avr_model.specs.declared.device.Device.{Device}
 use Rattle.avr_model.specs.declared.instruction.Instr.{Instr}
 use Rattle.avr_model.specs.Sites.{instruction_at}
-use Rattle.avr_model.specs.State.{State}
+use Rattle.avr_model.specs.State.{State, REGISTERS}
 use Rattle.avr_model.specs.Effects.{effect_of}
 use Rattle.avr_model.specs.Step.{with_registers}
 use Rattle.avr_model.specs.Written.{written}
@@ -12,6 +13,7 @@ use Rattle.bit_domain.specs.declared.bits.Tri.{Tri}
 use Rattle.bit_domain.specs.declared.bytes.TriByte.{TriByte}
 use Rattle.bit_domain.specs.TriByte.{byte_constant}
 use Rattle.sp_domain.specs.Tags.{Origin}
+use Rattle.sp_domain.specs.declared.tags.Tag.{Tag}
 use Rattle.sp_domain.specs.declared.tags.Tag.TheVariants as tag
 use Rattle.pair_domain.specs.PairSets.{PairSet, PairStands}
 use Rattle.abs_alu.specs.Sums.{abs_add}
@@ -23,6 +25,7 @@ use Rattle.abs_state.specs.Formed.{IsFormed, IsUntagged, TagsFit}
 use Rattle.abs_state.specs.Laws.{HoldsAt}
 use Rattle.abs_state.specs.Ended.{is_one_of}
 use Rattle.abs_state.specs.Hulls.{IsInHulls}
+use Rattle.abs_state.specs.Banks.{IsStateWith}
 use Rattle.pair_rules.specs.Hulls.{ended_by}
 use Rattle.pair_rules.specs.Flash.{pair_permits}
 use Rattle.pair_rules.specs.Fits.{HasRegisters, flash_at, CoversFlash, IsPlain}
@@ -49,16 +52,16 @@ pub record OperandsFit : Type 0 where
 -- pair.
 pub record ValuesAreCovered : Type 0 where
   pub doubled : (bits flags : TriByte) (carry : Tri) → IsByteWithin (untagged (doubled bits carry)) (with_bits tag.None (abs_add bits bits carry flags).0)
-  pub constant : (image : Image) (p : PairSet) (x y : ℕ) → byte_constant p.low.bits ≡ Some x → byte_constant p.high.bits ≡ Some y
-      → CoversFlash image p (flash_at image (x + 256 * y))
-  pub unknown : (image : Image) (p : PairSet) → CoversFlash image p unknown
+  pub constant : (image : Image) (from : ℕ) (p : PairSet) (x y : ℕ) → byte_constant p.low.bits ≡ Some x → byte_constant p.high.bits ≡ Some y
+      → CoversFlash image from p (flash_at image (from + (x + 256 * y)))
+  pub unknown : (image : Image) (from : ℕ) (p : PairSet) → CoversFlash image from p unknown
   pub permits : (p : PairSet) (x y : ℕ) → PairStands p x y → pair_permits p (x + 256 * y) ≡ true
 
 -- ---- refined states
 
 -- the state holds of the machine before the instruction
 pub record IsBefore (o : Origin) (s : AbsState) (m : State) : Type 0 where
-  pub count : length m.registers ≡ 32
+  pub count : length m.registers ≡ REGISTERS
   pub bytes : AreRegisterBytes m.registers
   pub registers : RegistersStand o s.registers m.registers
   pub flags : FlagsStand o s.flags m.sreg
@@ -94,6 +97,8 @@ pub record RefinedIsOrdered : Type 0 where
       → refined marks image instr s t ≡ Some u → TagsFit u
   pub untagged : (marks : List ℕ) (image : Image) (instr : Instr) (n k : ℕ) (s t u : AbsState) → HasRegisters instr → IsFormed s n → IsFormed t k → IsUntagged t
       → refined marks image instr s t ≡ Some u → IsUntagged u
+  pub of : (good : Tag → Bool) (device : Device) (is_root : Bool) (marks : List ℕ) (image : Image) (instr : Instr) (n k : ℕ) (s t u : AbsState) → good tag.None ≡ true
+      → HasRegisters instr → IsFormed s n → IsFormed t k → IsStateWith good device is_root t → refined marks image instr s t ≡ Some u → IsStateWith good device is_root u
   -- registers that are not written keep their sets
   pub hulls : (marks : List ℕ) (image : Image) (instr : Instr) (n k : ℕ) (s t u : AbsState) → HasRegisters instr → IsFormed s n → IsFormed t k
       → t.facts ≡ ended_by instr s.facts

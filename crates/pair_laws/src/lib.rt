@@ -1,4 +1,5 @@
-//! Laws of the transfer function of the pair domain: it is sound and monotone. Source: own.
+//! Laws of the transfer function of the pair domain and of cuts by tests: they are sound and monotone. Source: own.
 #![tactic(auto)]
 
+pub mod cut_laws;
 pub mod laws;

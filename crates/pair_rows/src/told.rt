@@ -7,13 +7,13 @@ ghost use Rattle.pair_domain.specs.Facts.{interval_at};
 ghost use Rattle.pair_rules.specs.Told.{interval_of, is_odd, computed, computed_high, told_pointer, told_binary, told_immediate, told_by};
 
 use crate::rows::{carried, moved, paged, product};
-use abs_state::AbsByte;
+use abs_state::{AbsByte, Registers};
 use avr_model::instruction::{BinaryOp, ImmediateOp, Instr, Pair, Pointer, Register};
 use pair_domain::{Interval, PairFacts};
 use pair_rules::Told;
 
 /// The value of a register.
-pub fn value_at(registers: &[AbsByte; 32], r: Register) -> AbsByte
+pub fn value_at(registers: &Registers, r: Register) -> AbsByte
     ensures { result ≡ value_at registers.now r }
 {
     registers[usize::from(r.get())]
@@ -75,7 +75,8 @@ fn told_wide(facts: &PairFacts, n: Pair, up: bool, number: u8) -> Told
     computed(n, moved(interval_at(facts, n), up, number))
 }
 
-// The interval of the pointer of a load or store, which moves by one, unless the instruction sets one of its registers: `d`, or 32.
+// The interval of the pointer of a load or store, which moves by one, unless the instruction sets one of its registers: `d`, or 32, which
+// is in no pair.
 fn told_pointer(facts: &PairFacts, d: u16, pointer: Pointer) -> Told
     ensures { result ≡ told_pointer facts.now d pointer }
 {
@@ -96,7 +97,7 @@ fn told_pointer(facts: &PairFacts, d: u16, pointer: Pointer) -> Told
 }
 
 fn told_binary(
-    registers: &[AbsByte; 32],
+    registers: &Registers,
     facts: &PairFacts,
     op: BinaryOp,
     d: Register,
@@ -131,7 +132,7 @@ fn told_immediate(facts: &PairFacts, op: ImmediateOp, d: Register, number: u8) -
 }
 
 /// The interval of one pair after the instruction, from the registers and facts before it.
-pub fn told_by(registers: &[AbsByte; 32], facts: &PairFacts, instr: &Instr) -> Told
+pub fn told_by(registers: &Registers, facts: &PairFacts, instr: &Instr) -> Told
     ensures { result ≡ told_by registers.now facts.now instr.now }
 {
     match instr {

@@ -29,7 +29,7 @@ use Rattle.pair_rules.specs.Hulls.{ended_by}
 use Rattle.pair_rules.specs.Flash.{count_below, joined_below, pair_permits, flash_known}
 use Rattle.pair_rules.specs.Told.{told_by}
 use Rattle.pair_rules.specs.Tags.{sum_of, compare_of, zero_of, facts_tagged}
-use Rattle.pair_rules.specs.Values.{doubled, z_of}
+use Rattle.pair_rules.specs.Values.{doubled, z_of, rampz_of, retold}
 use Rattle.pair_rules.specs.Refined.{refined}
 use Rattle.avr_model.specs.Devices.{Image, M328, image_of}
 
@@ -205,6 +205,22 @@ told_of (Some v) = v.bits.known ∷ v.bits.value ∷ v.low ∷ v.high ∷ []
 bytes_are_joined : told_of (joined_below (pair_permits (z_of z_state nothing)) (flash_known table) 9) ≡ 0xFC ∷ 0x10 ∷ 0x10 ∷ 0x13 ∷ []
 unfolding joined_below packed permits_below
 bytes_are_joined = refl
+
+-- `elpm` reads from the bank in RAMPZ; if that isn't known, the plain value of r5 stays
+abbrev banked : AbsByte → AbsState
+banked v = record z_state { registers = slice_set z_state.registers 32 v }
+
+bank_is_known : rampz_of (banked (known 1)) ≡ Some 1
+unfolding packed
+bank_is_known = refl
+
+bank_is_unknown : rampz_of (banked unknown) ≡ None
+unfolding packed
+bank_is_unknown = refl
+
+unknown_bank_is_plain : retold table (banked unknown) nothing (i.ElpmZ 5) root ≡ Some root
+unfolding packed
+unknown_bank_is_plain = refl
 
 -- ---- a whole row: `adiw r24, 5` where r24 is from 1 to 3 and r25 is 1
 

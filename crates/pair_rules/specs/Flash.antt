@@ -1,5 +1,5 @@
 -- Bytes of flash at the possible numbers of a register pair. Source: own.
-use Rattle.std.specs.Prelude.{ℕ, zero, suc, ◌*◌, ◌/◌, ◌%◌, ◌&&◌, ◌||◌, Bool, not, nat_lt, nat_le, if◌then◌else◌, List, Option, Some, None}
+use Rattle.std.specs.Prelude.{ℕ, zero, suc, ◌+◌, ◌*◌, ◌/◌, ◌%◌, ◌&&◌, ◌||◌, Bool, not, nat_lt, nat_le, if◌then◌else◌, Option, Some, None}
 use Rattle.avr_model.specs.Bits.{all_below}
 use Rattle.avr_model.specs.Devices.{Image, words_of, device_of}
 use Rattle.avr_model.specs.Image.{byte_at}
@@ -36,7 +36,7 @@ unfoldable pub joined_below : (ℕ → Bool) → (ℕ → AbsByte) → ℕ → O
 joined_below permits value zero = None
 joined_below permits value (suc n) = if permits n then Some (joined_with (joined_below permits value n) (value n)) else joined_below permits value n
 
--- ---- flash
+-- ---- flash: a pair's numbers are byte addresses behind the address `from`, a multiple of 65,536
 
 abbrev pub flash_known : Image → ℕ → AbsByte
 flash_known image z = known (byte_at image.words z)
@@ -45,9 +45,9 @@ abbrev pub is_flash : Image → ℕ → Bool
 is_flash image z = nat_lt z (2 * words_of (device_of image))
 
 -- at most 64 numbers are permitted, and all are byte addresses in the device's flash
-abbrev pub few_in_flash : Image → (ℕ → Bool) → Bool
-few_in_flash image permits = nat_le (count_below permits 65536) 64 && all_below 65536 (λ z. not (permits z) || is_flash image z)
+abbrev pub few_in_flash : Image → ℕ → (ℕ → Bool) → Bool
+few_in_flash image from permits = nat_le (count_below permits 65536) 64 && all_below 65536 (λ z. not (permits z) || is_flash image (from + z))
 
 -- the join of the bytes at the permitted numbers; none if no number is permitted
-abbrev pub flash_joined : Image → (ℕ → Bool) → Option AbsByte
-flash_joined image permits = joined_below permits (flash_known image) 65536
+abbrev pub flash_joined : Image → ℕ → (ℕ → Bool) → Option AbsByte
+flash_joined image from permits = joined_below permits (λ z. flash_known image (from + z)) 65536

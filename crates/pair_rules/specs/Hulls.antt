@@ -11,7 +11,7 @@ use Rattle.abs_state.specs.FlagsSet.{sets_flags, sets_carry}
 abbrev pub ended_by : Instr → Option PairFacts → Option PairFacts
 ended_by instr x = ended (is_one_of (written instr)) (sets_flags instr) (sets_carry instr) x
 
--- the interval of each of these registers' pairs becomes the hull of its bytes
+-- the interval of each of these registers' pairs becomes the hull of its bytes; RAMPZ is in no pair
 abbrev pub all_hulled : List AbsByte → List ℕ → Option PairFacts → Option PairFacts
 all_hulled registers [] x = x
 all_hulled registers (r ∷ rs) x = all_hulled registers rs (written_hull registers r x)

@@ -40,19 +40,23 @@ is_above p z lt =
     ap (λ (b : Bool). ((nat_le p.interval.low z && b) && set_permits p.low (z % 256)) && set_permits p.high (z / 256)) out
     ∙ ap (λ (b : Bool). (b && set_permits p.low (z % 256)) && set_permits p.high (z / 256)) (and_with_false (nat_le p.interval.low z))
 
-module _ (image : Image) (permits : ℕ → Bool) where
+module _ (image : Image) (from : ℕ) (permits : ℕ → Bool) where
+  -- the byte at a number of the pair
+  abbrev at : ℕ → AbsByte
+  at z = flash_known image (from + z)
+
   -- the answer after all numbers are counted
   abbrev answer : Option (Option AbsByte)
-  answer = if few_in_flash image permits then Some (flash_joined image permits) else None
+  answer = if few_in_flash image from permits then Some (flash_joined image from permits) else None
 
   abbrev in_flash : ℕ → Bool
-  in_flash z = not (permits z) || is_flash image z
+  in_flash z = not (permits z) || is_flash image (from + z)
 
   -- the result for the numbers below n
   pub record IsSoFar (n count : ℕ) (value : Option AbsByte) : Type 0 where
     pub count_is : count ≡ count_below permits n
     pub few : count ≤ 64
-    pub value_is : value ≡ joined_below permits (flash_known image) n
+    pub value_is : value ≡ joined_below permits at n
     pub inside : all_below n in_flash ≡ true
 
   -- ---- one more number
@@ -62,24 +66,24 @@ module _ (image : Image) (permits : ℕ → Bool) where
   count_step n b e = ap (λ (c : Bool). if c then suc (count_below permits n) else count_below permits n) e
 
   value_step : (n : ℕ) (b : Bool) → permits n ≡ b
-      → joined_below permits (flash_known image) (suc n)
-      ≡ (if b then Some (joined_with (joined_below permits (flash_known image) n) (flash_known image n)) else joined_below permits (flash_known image) n)
+      → joined_below permits at (suc n)
+      ≡ (if b then Some (joined_with (joined_below permits at n) (at n)) else joined_below permits at n)
   unfolding joined_below
   value_step n b e =
-      ap (λ (c : Bool). if c then Some (joined_with (joined_below permits (flash_known image) n) (flash_known image n)) else joined_below permits (flash_known image) n) e
+      ap (λ (c : Bool). if c then Some (joined_with (joined_below permits at n) (at n)) else joined_below permits at n) e
 
   inside_step : (n : ℕ) → all_below n in_flash ≡ true → in_flash n ≡ true → all_below (suc n) in_flash ≡ true
   unfolding all_below
   inside_step n e h = grind arith
 
   not_permitted : (n : ℕ) → permits n ≡ false → in_flash n ≡ true
-  not_permitted n e = ap (λ (b : Bool). not b || is_flash image n) e
+  not_permitted n e = ap (λ (b : Bool). not b || is_flash image (from + n)) e
 
   or_true : (b : Bool) → (b || true) ≡ true
   or_true true = refl
   or_true false = refl
 
-  is_inside : (n : ℕ) → is_flash image n ≡ true → in_flash n ≡ true
+  is_inside : (n : ℕ) → is_flash image (from + n) ≡ true → in_flash n ≡ true
   is_inside n e = ap (λ (b : Bool). not (permits n) || b) e ∙ or_true (not (permits n))
 
   skip_one : (n count : ℕ) (value : Option AbsByte) → permits n ≡ false → IsSoFar n count value → IsSoFar (suc n) count value
@@ -93,7 +97,7 @@ module _ (image : Image) (permits : ℕ → Bool) where
   pub skipped : (n count : ℕ) (value : Option AbsByte) → permits n ≡ false → IsSoFar n count value → IsSoFar (n + 1) count value
   skipped n count value e h = let next : suc n ≡ n + 1 = omega arith in subst (λ (k : ℕ). IsSoFar k count value) next (skip_one n count value e h)
 
-  pub counted : (n count : ℕ) (value : Option AbsByte) (v : AbsByte) → permits n ≡ true → is_flash image n ≡ true → count < 64 → v ≡ joined_with value (flash_known image n)
+  pub counted : (n count : ℕ) (value : Option AbsByte) (v : AbsByte) → permits n ≡ true → is_flash image (from + n) ≡ true → count < 64 → v ≡ joined_with value (at n)
       → IsSoFar n count value → IsSoFar (n + 1) (count + 1) (Some v)
   counted n count value v e flash lt is h =
       let next : suc n ≡ n + 1 = omega arith in
@@ -101,7 +105,7 @@ module _ (image : Image) (permits : ℕ → Bool) where
       subst (λ (k : ℕ). IsSoFar k (count + 1) (Some v)) next (record {
         count_is = more ∙ ap suc h.count_is ∙ sym (count_step n true e);
         few = omega (arith, lt);
-        value_is = ap (λ (w : AbsByte). Some w) (is ∙ ap (λ (o : Option AbsByte). joined_with o (flash_known image n)) h.value_is) ∙ sym (value_step n true e);
+        value_is = ap (λ (w : AbsByte). Some w) (is ∙ ap (λ (o : Option AbsByte). joined_with o (at n)) h.value_is) ∙ sym (value_step n true e);
         inside = inside_step n h.inside (is_inside n flash);
       })
 
@@ -130,7 +134,7 @@ module _ (image : Image) (permits : ℕ → Bool) where
   ends n count value le none h =
       let all = goes_on (65536 - n) n 65536 count value (omega arith) none h in
       let few : nat_le (count_below permits 65536) 64 ≡ true = let small : count_below permits 65536 ≤ 64 = omega (arith, all.count_is, all.few) in grind (arith, nat_tests) in
-      ap (λ (b : Bool). if b then Some (flash_joined image permits) else None) (both_true (nat_le (count_below permits 65536) 64) (all_below 65536 in_flash) few all.inside)
+      ap (λ (b : Bool). if b then Some (flash_joined image from permits) else None) (both_true (nat_le (count_below permits 65536) 64) (all_below 65536 in_flash) few all.inside)
       ∙ ap (λ (o : Option AbsByte). Some o) (sym all.value_is)
 
   -- ---- where there is no answer
@@ -147,7 +151,7 @@ module _ (image : Image) (permits : ℕ → Bool) where
       by le true step = omega (arith, le, step)
       by le false step = omega (arith, le, step)
 
-  none_if : (a b : Bool) → (a ≡ true → b ≡ true → ⊥) → (if a && b then Some (flash_joined image permits) else None) ≡ None
+  none_if : (a b : Bool) → (a ≡ true → b ≡ true → ⊥) → (if a && b then Some (flash_joined image from permits) else None) ≡ None
   none_if true true h = absurd (h refl refl)
   none_if true false h = refl
   none_if false b h = refl
@@ -168,22 +172,22 @@ module _ (image : Image) (permits : ℕ → Bool) where
       let parts = and_parts (all_below n p) (p n) e in
       ⊎_elim (λ same. subst (λ (k : ℕ). p k ≡ true) (sym same) parts.1) (λ other. each_of n z p parts.0 (omega (arith, other))) (cases_eq z n)
 
-  pub outside : (n : ℕ) → n < 65536 → permits n ≡ true → is_flash image n ≡ false → answer ≡ None
+  pub outside : (n : ℕ) → n < 65536 → permits n ≡ true → is_flash image (from + n) ≡ false → answer ≡ None
   outside n lt e off =
       none_if (nat_le (count_below permits 65536) 64) (all_below 65536 in_flash)
       (λ few inside. by (each_of 65536 n in_flash inside lt))
     where
-      by : (not (permits n) || is_flash image n) ≡ true → ⊥
+      by : (not (permits n) || is_flash image (from + n)) ≡ true → ⊥
       by h =
-          false≢true (sym (ap (λ (b : Bool). not b || is_flash image n) e ∙ off) ∙ h)
+          false≢true (sym (ap (λ (b : Bool). not b || is_flash image (from + n)) e ∙ off) ∙ h)
 
 -- the loop over the interval of a pair
-pub begins : (image : Image) (p : PairSet) → IsSoFar image (pair_permits p) p.interval.low 0 None
-begins image p = starts image (pair_permits p) p.interval.low (is_below p)
+pub begins : (image : Image) (from : ℕ) (p : PairSet) → IsSoFar image from (pair_permits p) p.interval.low 0 None
+begins image from p = starts image from (pair_permits p) p.interval.low (is_below p)
 
-pub is_over : (image : Image) (p : PairSet) (n count : ℕ) (value : Option AbsByte) → n ≤ 65536 → p.interval.high < n → IsSoFar image (pair_permits p) n count value
-    → (if few_in_flash image (pair_permits p) then Some (flash_joined image (pair_permits p)) else None) ≡ Some value
-is_over image p n count value le over h = ends image (pair_permits p) n count value le (λ z far. is_above p z (omega (arith, over, far))) h
+pub is_over : (image : Image) (from : ℕ) (p : PairSet) (n count : ℕ) (value : Option AbsByte) → n ≤ 65536 → p.interval.high < n → IsSoFar image from (pair_permits p) n count value
+    → (if few_in_flash image from (pair_permits p) then Some (flash_joined image from (pair_permits p)) else None) ≡ Some value
+is_over image from p n count value le over h = ends image from (pair_permits p) n count value le (λ z far. is_above p z (omega (arith, over, far))) h
 
 -- ---- what is read
 

@@ -5,7 +5,7 @@ ghost use Rattle.pair_domain.specs.Tags.{IsNear};
 ghost use Rattle.pair_rules.specs.Told.{is_odd};
 ghost use Rattle.pair_rules.specs.Tags as given;
 
-use abs_state::AbsByte;
+use abs_state::Registers;
 use avr_model::instruction::{BinaryOp, ImmediateOp, Instr, Register, UnaryOp};
 use pair_domain::tags::{down_from, up_from};
 use pair_domain::{CompareTag, Facts, PairFacts, Side, SumTag, ZeroTag};
@@ -31,7 +31,7 @@ fn sum_of_byte(facts: &PairFacts, up: bool, d: Register, low: u8, high: u8) -> S
     }
 }
 
-fn sum_of(registers: &[AbsByte; 32], facts: &PairFacts, instr: &Instr) -> SumTag
+fn sum_of(registers: &Registers, facts: &PairFacts, instr: &Instr) -> SumTag
     ensures tag { result ≡ given.sum_of registers.now facts.now instr.now }
     ensures near { IsNear result }
 {
@@ -115,7 +115,7 @@ fn zero_of(facts: &PairFacts, instr: &Instr) -> ZeroTag
 }
 
 /// Sets the tags of the instruction in what its writes left, from the registers and facts before it.
-pub fn tag(registers: &[AbsByte; 32], facts: &PairFacts, instr: &Instr, left: &mut Facts)
+pub fn tag(registers: &Registers, facts: &PairFacts, instr: &Instr, left: &mut Facts)
     ensures { left.new ≡ given.tagged registers.now facts.now instr.now left.old }
 {
     left.kept();

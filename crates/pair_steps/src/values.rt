@@ -1,13 +1,16 @@
 //! Values of registers that are more exact if pairs are followed.
 
-ghost use Rattle.std.specs.Prelude.{◌≡◌, ◌<◌, ◌-◌, ◌==◌, if◌then◌else◌};
-ghost use Rattle.bit_domain.specs.TriByte.{tri_at};
+ghost use Rattle.std.specs.Prelude.{◌≡◌, ◌<◌, ◌-◌, ◌*◌, ◌==◌, if◌then◌else◌};
+ghost use Rattle.avr_model.specs.State as state;
+ghost use Rattle.bit_domain.specs.TriByte.{tri_at, byte_constant};
+ghost use Rattle.abs_state.specs.Values as given;
 ghost use Rattle.abs_state.specs.PairBytes.{left_in, sets};
 ghost use Rattle.pair_rules.specs.Flash as bytes;
 ghost use Rattle.pair_rules.specs.Values as values;
 
 use crate::flash_bytes::joined;
-use abs_state::{AbsByte, AbsState, PairBytes};
+use abs_state::{AbsByte, AbsState, PairBytes, Registers};
+use avr_model::device::RAMPZ;
 use avr_model::instruction::{BinaryOp, Instr, Pair, Register};
 use bit_domain::{Tri, TriByte};
 use flash_image::Flash;
@@ -64,22 +67,46 @@ fn z_of(before: &AbsState, facts: &PairFacts) -> PairBytes
     }
 }
 
-// Sets register `d` to the join of the bytes of flash that Z permits, if these are few; returns whether there are any.
+// Sets register `d` to the join of the bytes of a bank of flash that Z permits, if these are few; returns whether there are any.
 fn read_flash(
+    flash: &Flash,
+    bank: u8,
+    before: &AbsState,
+    facts: &PairFacts,
+    d: Register,
+    after: &mut AbsState,
+) -> bool
+    ensures { left_in result after.new ≡ values.flash_read flash.now (65536 * bank) after.old d (bytes.pair_permits (values.z_of before.now facts.now)) }
+{
+    match joined(flash, bank, z_of(before, facts)) {
+        Some(Some(value)) => {
+            set(after, d, value);
+            true
+        }
+        Some(None) => false,
+        None => true,
+    }
+}
+
+// The number in RAMPZ, if it is known.
+fn rampz_of(registers: &Registers) -> Option<u8>
+    ensures { result ≡ byte_constant (given.value_at registers.now state.RAMPZ).bits }
+{
+    registers[RAMPZ as usize].bits.constant()
+}
+
+// The same from the bank in RAMPZ, if it is known.
+fn read_extended(
     flash: &Flash,
     before: &AbsState,
     facts: &PairFacts,
     d: Register,
     after: &mut AbsState,
 ) -> bool
-    ensures { left_in result after.new ≡ values.flash_read flash.now after.old d (bytes.pair_permits (values.z_of before.now facts.now)) }
+    ensures { left_in result after.new ≡ values.extended_read flash.now (values.rampz_of before.now) after.old d (bytes.pair_permits (values.z_of before.now facts.now)) }
 {
-    match joined(flash, z_of(before, facts)) {
-        Some(Some(value)) => {
-            set(after, d, value);
-            true
-        }
-        Some(None) => false,
+    match rampz_of(&before.registers) {
+        Some(bank) => read_flash(flash, bank, before, facts, d, after),
         None => true,
     }
 }
@@ -102,9 +129,12 @@ pub fn retell(
             }
             true
         }
-        Instr::LpmZ(d) => read_flash(flash, before, facts, *d, after),
-        Instr::LpmZPlus(d) => read_flash(flash, before, facts, *d, after),
-        Instr::Lpm => read_flash(flash, before, facts, Register::new(0), after),
+        Instr::LpmZ(d) => read_flash(flash, 0, before, facts, *d, after),
+        Instr::LpmZPlus(d) => read_flash(flash, 0, before, facts, *d, after),
+        Instr::Lpm => read_flash(flash, 0, before, facts, Register::new(0), after),
+        Instr::ElpmZ(d) => read_extended(flash, before, facts, *d, after),
+        Instr::ElpmZPlus(d) => read_extended(flash, before, facts, *d, after),
+        Instr::Elpm => read_extended(flash, before, facts, Register::new(0), after),
         _ => true,
     }
 }

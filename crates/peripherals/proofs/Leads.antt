@@ -1,5 +1,5 @@
 -- Runs that continue step by step.
-use Rattle.std.proofs.Common.{arith, suc, ◌≡◌, ◌≢◌, refl, sym, ap, subst, ◌∙◌, ℕ, ◌<◌, ◌≤◌, ◌-◌, ◌+◌, ◌++◌, length, Bool, true, List, [], ◌∷◌, Some, None}
+use Rattle.std.proofs.Common.{arith, suc, ◌≡◌, ◌≢◌, refl, sym, ap, subst, ◌∙◌, ℕ, ◌<◌, ◌≤◌, ◌-◌, ◌+◌, ◌++◌, length, List, [], ◌∷◌, Option, Some, None, slice_get}
 use Rattle.std.proofs.lemmas.List.{append-nil, length-append}
 use Rattle.basics.specs.Numbers.{less_none, less_one_more}
 use Rattle.stimulus.proofs.AllLaws.{done_of}
@@ -16,12 +16,12 @@ use Rattle.avr_model.specs.Devices.{Image}
 use Rattle.stimulus.specs.Driving.{GoesOn, machine_after, stop_at}
 use Rattle.witness_replay.specs.Replay.{steps_of}
 use Rattle.peripherals.specs.Spelling.{Setup}
-use Rattle.peripherals.specs.Due.{Progress, begun, next_on}
+use Rattle.peripherals.specs.declared.devices.Source.{Source}
+use Rattle.peripherals.specs.Due.{Progress, begun, next_on, passed_at}
 use Rattle.peripherals.specs.Hooks.{Answering}
 use Rattle.peripherals.specs.Simulating.{Setting, setting, Chooses}
-use Rattle.peripherals.specs.Traces.{Leads}
-use Rattle.peripherals.proofs.Determined.{next_step}
-use Rattle.peripherals.specs.Midway.{IsChosen, kept_on, Walks}
+use Rattle.peripherals.specs.Traces.{Leads, IsTrace}
+use Rattle.peripherals.specs.Midway.{IsChosen}
 
 -- a run has at least one state
 states_some : (image : Image) (A : List Entry) (cs : List Choice) (m : State) → 1 ≤ length (states_of image A cs m)
@@ -79,54 +79,63 @@ module _ (answers : Answering) (setup : Setup) (image : Image) (A : List Entry) 
       let one : Led (n - length cs) mid at (c ∷ []) next end = (omega (arith, room), bytes, chosen.answer, chosen.asked, chosen.choice, done.0, done.1, (chosen.next, is)) in
       leads_joined n p m cs (c ∷ []) mid at next end h one
 
+  plus_none : (a b : ℕ) → a ≡ b → a + 0 ≡ b
+  plus_none a b e = omega (arith, e)
+
   -- a step that meets a stop
-  pub whole_stops : (n : ℕ) (p : Progress) (m : Machine) (cs : List Choice) (mid : Progress) (at : Machine) (c : Choice) (next : Progress) (end : Machine) (stop : Stop) → Led n p m cs mid at → length cs < n → HasBytes c → IsChosen (setting answers setup image A) mid at.state c next
-      → stop_at (result_of (step image A at.state c)) ≡ Some stop → end ≡ moved_on at (step image A at.state c) → Whole n p m (cs ++ c ∷ []) end (length cs + 0) stop
-  whole_stops n p m cs mid at c next end stop h room bytes chosen some moved =
+  pub whole_stops : (n : ℕ) (p : Progress) (m : Machine) (cs : List Choice) (mid : Progress) (at : Machine) (c : Choice) (next : Progress) (end : Machine) (steps : ℕ) (stop : Stop) → Led n p m cs mid at → length cs ≡ steps → steps < n → HasBytes c → IsChosen (setting answers setup image A) mid at.state c next
+      → stop_at (result_of (step image A at.state c)) ≡ Some stop → end ≡ moved_on at (step image A at.state c) → Whole n p m (cs ++ c ∷ []) end steps stop
+  whole_stops n p m cs mid at c next end steps stop h count room bytes chosen some moved =
       let st = stopped (step image A at.state c) stop some in
       let one : Whole (n - length cs) mid at (c ∷ []) end 0 stop =
       record {
-        chooses = (omega (arith, room), chosen.answer, chosen.asked, chosen.choice, st.goes _ _ refl);
+        chooses = (omega (arith, room, count), chosen.answer, chosen.asked, chosen.choice, st.goes _ _ refl);
         run = (bytes, st.runs _);
         machine = moved;
         steps_are = sym (ap (λ (xs : List State). length (at.state ∷ xs) - 1) (st.states _));
         stop_is = st.stop _;
       } in
-      whole_joined n p m cs (c ∷ []) mid at end 0 stop h one
+      subst (λ (k : ℕ). Whole n p m (cs ++ c ∷ []) end k stop) (plus_none (length cs) steps count) (whole_joined n p m cs (c ∷ []) mid at end 0 stop h one)
 
   -- the end without a stop
-  pub whole_ends : (n : ℕ) (p : Progress) (m : Machine) (cs : List Choice) (mid : Progress) (at : Machine) → Led n p m cs mid at → length cs ≡ n → Whole n p m cs at (length cs + 0) stop.End
+  pub whole_ends : (n : ℕ) (p : Progress) (m : Machine) (cs : List Choice) (mid : Progress) (at : Machine) → Led n p m cs mid at → length cs ≡ n → Whole n p m cs at n stop.End
   whole_ends n p m cs mid at h over =
       let none : n - length cs ≡ 0 = omega (arith, over) in
       let one : Whole (n - length cs) mid at [] at 0 stop.End = record { chooses = none; run = tt; machine = refl; steps_are = refl; stop_is = refl } in
       let all = whole_joined n p m cs [] mid at at 0 stop.End h one in
-      subst (λ (xs : List Choice). Whole n p m xs at (length cs + 0) stop.End) (append-nil cs) all
+      subst (λ (k : ℕ). Whole n p m cs at k stop.End) (plus_none (length cs) n over) (subst (λ (xs : List Choice). Whole n p m xs at (length cs + 0) stop.End) (append-nil cs) all)
 
 -- one more choice
 pub longer : (cs : List Choice) (c : Choice) (n : ℕ) → length cs ≡ n → length (cs ++ c ∷ []) ≡ n + 1
 longer cs c n e = length-append cs (c ∷ []) ∙ ap (λ (x : ℕ). x + 1) e
 
--- one more choice that is kept
-pub kept_more : (keeps : Bool) (old now cs : List Choice) (c : Choice) → (keeps ≡ true → old ≡ cs) → now ≡ kept_on keeps old c → keeps ≡ true → now ≡ cs ++ c ∷ []
-kept_more keeps old now cs c was is k = is ∙ ap (λ (b : Bool). kept_on b old c) k ∙ ap (λ (xs : List Choice). xs ++ c ∷ []) (was k)
+-- ---- the trace of a run
 
-module _ (answers : Answering) (setup : Setup) (image : Image) (A : List Entry) (n : ℕ) (keeps : Bool) (m : Machine) where
-  pub walks_stop : (cs old now : List Choice) (mid : Progress) (at : Machine) (c : Choice) (next : Progress) (end : Machine) (step' : ℕ) (stop : Stop)
-      → Leads (setting answers setup image A) n (begun setup) m cs mid at → length cs ≡ step' → step' < n → (keeps ≡ true → old ≡ cs) → now ≡ kept_on keeps old c
-      → HasBytes c → IsChosen (setting answers setup image A) mid at.state c next → stop_at (result_of (step image A at.state c)) ≡ Some stop → end ≡ moved_on at (step image A at.state c)
-      → Walks (setting answers setup image A) n keeps m (record { choices = now; steps = step'; stop = stop }) end
-  walks_stop cs old now mid at c next end step' stop led count room was is bytes chosen some moved =
-      let all = whole_stops answers setup image A n (begun setup) m cs mid at c next end stop led (omega (arith, count, room)) bytes chosen some moved in
-      let steps : step' ≡ length cs + 0 = omega (arith, count) in
-      record { choices = cs ++ c ∷ []; kept = kept_more keeps old now cs c was is; chooses = all.chooses; run = all.run; machine = all.machine; steps = steps ∙ all.steps_are; stop = all.stop_is }
+module _ (answers : Answering) (setup : Setup) (image : Image) (A : List Entry) (n : ℕ) (m : Machine) where
+  trace_of : (cs : List Choice) (end : Machine) (steps depth : ℕ) (stop : Stop) → Whole answers setup image A n (begun setup) m cs end steps stop → depth ≡ end.depth
+      → IsTrace (setting answers setup image A) n m (record { choices = cs; depth = depth; stop = stop }) end
+  trace_of cs end steps depth stop h is = record { chooses = h.chooses; run = h.run; machine = h.machine; depth = is; stop = h.stop_is }
 
-  pub walks_end : (cs now : List Choice) (mid : Progress) (at : Machine) (step' : ℕ) → Leads (setting answers setup image A) n (begun setup) m cs mid at → length cs ≡ step' → step' ≡ n → (keeps ≡ true → now ≡ cs)
-      → Walks (setting answers setup image A) n keeps m (record { choices = now; steps = n; stop = stop.End }) at
-  walks_end cs now mid at step' led count over was =
-      let all = whole_ends answers setup image A n (begun setup) m cs mid at led (count ∙ over) in
-      let steps : n ≡ length cs + 0 = omega (arith, count, over) in
-      record { choices = cs; kept = was; chooses = all.chooses; run = all.run; machine = all.machine; steps = steps ∙ all.steps_are; stop = all.stop_is }
+  pub trace_stops : (cs now : List Choice) (mid : Progress) (at : Machine) (c : Choice) (next : Progress) (end : Machine) (depth : ℕ) (stop : Stop)
+      → Leads (setting answers setup image A) n (begun setup) m cs mid at → length cs < n → now ≡ cs ++ c ∷ []
+      → HasBytes c → IsChosen (setting answers setup image A) mid at.state c next → stop_at (result_of (step image A at.state c)) ≡ Some stop → end ≡ moved_on at (step image A at.state c) → depth ≡ end.depth
+      → IsTrace (setting answers setup image A) n m (record { choices = now; depth = depth; stop = stop }) end
+  trace_stops cs now mid at c next end depth stop led room is bytes chosen some moved deep =
+      let P : List Choice → Type 0 = λ xs. IsTrace (setting answers setup image A) n m (record { choices = xs; depth = depth; stop = stop }) end in
+      subst P (sym is) (trace_of (cs ++ c ∷ []) end _ depth stop (whole_stops answers setup image A n (begun setup) m cs mid at c next end (length cs) stop led refl room bytes chosen some moved) deep)
+
+  pub trace_ends : (cs : List Choice) (mid : Progress) (at : Machine) (depth : ℕ) → Leads (setting answers setup image A) n (begun setup) m cs mid at → length cs ≡ n → depth ≡ at.depth
+      → IsTrace (setting answers setup image A) n m (record { choices = cs; depth = depth; stop = stop.End }) at
+  trace_ends cs mid at depth led over deep = trace_of cs at _ depth stop.End (whole_ends answers setup image A n (begun setup) m cs mid at led over) deep
 
 -- one step later
+passed_step : (o : Option Source) (p : Progress) (n : ℕ) → (passed_at o p n).step ≡ suc p.step
+passed_step None p n = omega arith
+passed_step (Some s) p n = omega arith
+
+next_step : (setup : Setup) (p : Progress) (a : Option ℕ) → (next_on setup p a).step ≡ suc p.step
+next_step setup p None = omega arith
+next_step setup p (Some n) = passed_step (slice_get setup.sources n) p n
+
 pub step_next : (x : Setting) (p : Progress) (m : State) (c : Choice) (next : Progress) (k : ℕ) → IsChosen x p m c next → p.step ≡ k → next.step ≡ k + 1
 step_next x p m c next k h e = let on = ap (λ (q : Progress). q.step) h.next ∙ next_step x.on.setup p h.answer in omega (arith, on, e)

@@ -3,6 +3,7 @@ pub mod Sources
 pub mod Exact
 pub mod Loop
 pub mod Ready
+pub mod Quiet
 pub mod Leads
 pub mod Runs
 pub mod Determined

@@ -1,14 +1,9 @@
 -- The first source that is ready.
-use Rattle.std.proofs.Common.{arith, zero, suc, ◌≡◌, refl, sym, ap, ◌∙◌, ℕ, ◌+◌, ◌-◌, ◌<◌, Bool, true, false, ◌&&◌, inl, inr, Option, Some, None, slice_get}
+use Rattle.std.proofs.Common.{arith, zero, suc, ◌≡◌, refl, sym, ap, ◌∙◌, ℕ, ◌+◌, ◌-◌, ◌<◌, Bool, true, false, ◌&&◌, inl, inr, Option, Some, None}
 use Rattle.peripherals.specs.declared.devices.Source.{Source}
-use Rattle.peripherals.specs.Spelling.{Setup}
 use Rattle.peripherals.specs.Due.{is_of, is_due, is_ready_source, first_from}
-use Rattle.std.proofs.lemmas.Bool.{false≢true}
-use Rattle.basics.specs.Booleans.{last_of_three}
 use Rattle.basics.specs.Lists.{chosen}
 use Rattle.std.proofs.lemmas.Option.{same_Some, none-some}
-use Rattle.avr_machine.specs.declared.menu.Menu.{Menu}
-use Rattle.peripherals.specs.Hooks.{stands_in, IsTakable}
 
 one_more : (ready : ℕ → Bool) (n left : ℕ) → 0 < left → first_from ready n left ≡ first_from ready n (suc (left - 1))
 one_more ready n left some = let same : left ≡ suc (left - 1) = omega (arith, some) in ap (first_from ready n) same
@@ -43,11 +38,3 @@ first_same ready other at (suc n) same = rw (same at, first_same ready other (at
 pub ready_same : (may other : ℕ → Bool) (timers : Bool) (o : Option Source) (taken step : ℕ) → ((v : ℕ) → may v ≡ other v) → is_ready_source may timers o taken step ≡ is_ready_source other timers o taken step
 ready_same may other timers None taken step same = refl
 ready_same may other timers (Some s) taken step same = ap (λ (b : Bool). is_of timers s.kind && is_due s taken step && b) (same s.vector)
-
-takable_if : (setup : Setup) (menu : Menu) (timers : Bool) (n taken step : ℕ) (o : Option Source) → slice_get setup.sources n ≡ o → is_ready_source (stands_in menu) timers o taken step ≡ true → IsTakable setup menu n
-takable_if setup menu timers n taken step None is e = absurd (false≢true e)
-takable_if setup menu timers n taken step (Some s) is e = record { source = s; there = is; stands = last_of_three (is_of timers s.kind) (is_due s taken step) (stands_in menu s.vector) e }
-
--- a source that is ready may be taken
-pub ready_takable : (setup : Setup) (menu : Menu) (timers : Bool) (n taken step : ℕ) → is_ready_source (stands_in menu) timers (slice_get setup.sources n) taken step ≡ true → IsTakable setup menu n
-ready_takable setup menu timers n taken step e = takable_if setup menu timers n taken step (slice_get setup.sources n) refl e

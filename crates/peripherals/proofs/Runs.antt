@@ -60,6 +60,10 @@ picked_may setup p m (Some n) e = elim (either _ _ n e) [
   | inr h ↦ first_may setup p m false n h
 ]
 
+-- what is picked is legal
+pub legal_if_picked : (image : Image) (A : List Entry) (setup : Setup) (p : Progress) (m : State) (a : Option ℕ) → picked setup p m ≡ a → result_of (step image A m (choice_on setup p a)) ≢ said.Illegal
+legal_if_picked image A setup p m a e = choice_legal image A m (answered setup a) p (picked_may setup p m a e)
+
 -- ---- input bytes are bytes
 
 bytes_at : (o : Option Source) (p : Progress) → p.input < 256 → HasBytes (choice_at o p)
@@ -103,7 +107,7 @@ chosen_runs device image A setup h (suc n) p m small =
     let a = picked setup p m in (
       bytes_at (answered setup a) p small,
       runs_on image A (step image A m (choice_on setup p a)) (λ s. chosen (board setup image A) n (next_on setup p a) s)
-          (choice_legal image A m (answered setup a) p (picked_may setup p m a refl))
+          (legal_if_picked image A setup p m a refl)
           (λ s. chosen_runs device image A setup h n (next_on setup p a) s (next_small device setup p a h small)),
     )
 

@@ -1,6 +1,6 @@
 //! The devices that are connected to a machine.
 
-ghost use Rattle.std.specs.Prelude.{◌≡◌, ◌<◌, length, Some, slice_get};
+ghost use Rattle.std.specs.Prelude.{◌≡◌, ◌<◌, ◌+◌, ◌*◌, ℕ, false, length, Some, slice_get};
 ghost use Rattle.std.specs.Option.{option_map};
 ghost use Rattle.text_base.specs.Answers.{Answers};
 ghost use Rattle.peripherals.specs.declared.devices.DevicesFault.TheVariants as fault;
@@ -79,12 +79,29 @@ impl Source {
         }
     }
 
+    // The step of the request after this many, if one is left.
+    fn request(&self, taken: u32) -> u64
+        ensures { result ≡ self.now.first + taken * self.now.period }
+    {
+        u64::from(self.first) + u64::from(taken) * u64::from(self.period)
+    }
+
     /// Whether a request is pending at this step, after this many were taken. No request is lost.
     pub fn is_due(&self, taken: u32, step: u32) -> bool
         ensures { result ≡ is_due self.now taken step }
     {
-        let request = u64::from(self.first) + u64::from(taken) * u64::from(self.period);
-        request <= u64::from(step) && self.is_left(taken)
+        self.request(taken) <= u64::from(step) && self.is_left(taken)
+    }
+
+    // A step before which no request is pending, after this many were taken.
+    pub(crate) fn due_from(&self, taken: u32) -> u64
+        ensures { (step : ℕ) → step < result → is_due self.now taken step ≡ false }
+    {
+        if self.is_left(taken) {
+            self.request(taken)
+        } else {
+            u64::MAX
+        }
     }
 }
 

@@ -1,12 +1,11 @@
 //! Hooks: closures that choose among interrupt sources.
 
-ghost use Rattle.std.specs.Prelude.{◌≡◌, ◌<◌, length, false};
+ghost use Rattle.std.specs.Prelude.{◌≡◌, length};
 ghost use Rattle.peripherals.specs.Spelling.{Setup};
-ghost use Rattle.peripherals.specs.Hooks.{stands_in, MayAnswer, IsHook};
-ghost use Rattle.peripherals.specs.Due.{is_ready, first_ready};
+ghost use Rattle.peripherals.specs.Hooks.{MayAnswer, IsHook};
 
 use crate::devices::Devices;
-use avr_machine::{Choice, Menu};
+use avr_machine::Menu;
 use std::marker::Model;
 
 /// The moment at which a hook is called.
@@ -52,37 +51,4 @@ impl<'a, F: Fn(&Moment<'_>, &Menu) -> Option<usize>> Hook<'a, F> {
     {
         (self.f)(moment, menu)
     }
-}
-
-// Whether source `n` is of this kind (timer or receiver), is pending, and has its interrupt in the menu.
-fn is_ready(devices: &Devices, timers: bool, moment: &Moment<'_>, menu: &Menu, n: usize) -> bool
-    requires { n < length moment.now.taken.now }
-    ensures { result ≡ is_ready devices.now (stands_in menu.now) timers moment.now.taken.now moment.now.step n }
-{
-    let taken = moment.taken[n];
-    match devices.source(n) {
-        Some(source) => source.is_of(timers)
-            && source.is_due(taken, moment.step)
-            && menu.has(Choice::Take(source.vector, false)),
-        None => false,
-    }
-}
-
-// The first source of this kind in the text's order that is pending and has its interrupt in the menu.
-#[tactic(auto, using(crate::proofs::Ready::first_here, crate::proofs::Ready::first_later, crate::proofs::Ready::first_none))]
-pub(crate) fn first_due(
-    devices: &Devices,
-    timers: bool,
-    moment: &Moment<'_>,
-    menu: &Menu,
-) -> Option<usize>
-    requires { length moment.now.taken.now ≡ length devices.now.sources }
-    ensures { result ≡ first_ready devices.now (stands_in menu.now) timers moment.now.taken.now moment.now.step }
-{
-    for n in 0..devices.count() {
-        if is_ready(devices, timers, moment, menu, n) {
-            return Some(n);
-        }
-    }
-    None
 }

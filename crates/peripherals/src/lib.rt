@@ -4,6 +4,7 @@
 pub mod devices;
 pub mod hook;
 pub mod laws;
+mod picking;
 mod progress;
 mod reading;
 mod simulating;

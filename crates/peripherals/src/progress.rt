@@ -40,6 +40,17 @@ impl Progress {
         })
     }
 
+    // The moment, as hooks see it.
+    pub(crate) fn moment(&self) -> Moment<'_>
+        ensures step { result.step ≡ self.now.step }
+        ensures taken { result.taken.now ≡ self.now.taken }
+    {
+        Moment {
+            step: self.step,
+            taken: &self.taken,
+        }
+    }
+
     // The first hook's answer, or the second one's if that is none.
     pub(crate) fn answer<
         F: Fn(&Moment<'_>, &Menu) -> Option<usize>,
@@ -51,10 +62,7 @@ impl Progress {
         requires second_counts { length self.now.taken ≡ length receivers.now.0.sources }
         ensures { ByHooks F.Fn G.Fn timers.now receivers.now self.now.step self.now.taken menu.now result }
     {
-        let moment = Moment {
-            step: self.step,
-            taken: &self.taken,
-        };
+        let moment = self.moment();
         match timers.ask(&moment, menu) {
             Some(n) => Some(n),
             None => receivers.ask(&moment, menu),

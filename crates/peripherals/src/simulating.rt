@@ -1,19 +1,44 @@
 //! Simulation by devices alone.
 
-ghost use Rattle.std.specs.Prelude.{◌≡◌, ◌≤◌, ℕ, IfOk};
-ghost use Rattle.avr_model.specs.Run.{Bounded};
+ghost use Rattle.std.specs.Prelude.{◌≡◌, ◌≤◌, ◌<◌, ℕ, IfOk};
+ghost use Rattle.avr_model.specs.Vectors.{is_enabled};
+ghost use Rattle.avr_model.specs.Run.{Bounded, HasBytes};
 ghost use Rattle.peripherals.specs.Spelling.{most_steps};
-ghost use Rattle.peripherals.specs.Simulating.{report_of, simulation_of};
+ghost use Rattle.peripherals.specs.Simulating.{setting, report_of, simulation_of};
+ghost use Rattle.peripherals.specs.Midway.{IsProgressKnown, IsChosen, IsPicked, IsQuiet};
 
 use crate::devices::Devices;
-use crate::hook::{Hook, Moment, first_due};
-use crate::walk::{Wiring, walk};
-use avr_machine::{Machine, Menu};
+use crate::picking::{Quiet, pick};
+use crate::progress::Progress;
+use crate::walk::stop_at;
+use avr_machine::{Choice, Machine, Stop};
+use avr_model::laws::devices_are_alike;
 use flash_image::Flash;
 use std::alloc::{AllocError, Global};
 use stimulus::laws::depth_is_kept;
 use vector_table::Assumptions;
 use witness_replay::ReplayReport;
+
+// The choice by the devices alone.
+fn choose(
+    devices: &Devices,
+    machine: &Machine,
+    progress: &mut Progress,
+    quiet: &mut Quiet,
+) -> Choice
+    requires known { IsProgressKnown devices.now progress.old }
+    requires room { progress.old.step < most_steps }
+    requires quiet { IsQuiet devices.now (is_enabled machine.now.state.device quiet.old.masks) progress.old.taken quiet.old.until }
+    ensures known { IsProgressKnown devices.now progress.new }
+    ensures quiet { IsQuiet devices.now (is_enabled machine.now.state.device quiet.new.masks) progress.new.taken quiet.new.until }
+    ensures bytes { HasBytes result }
+    ensures chosen { (flash : _) (A : _) → IsChosen (setting (IsPicked devices.now) devices.now flash A) progress.old machine.now.state result progress.new }
+{
+    let answer = pick(devices, quiet, &progress.moment(), &machine.menu());
+    let choice = progress.choice(devices, answer);
+    progress.pass(devices, answer);
+    choice
+}
 
 /// Runs the machine of the flash's device from reset, with the devices' fill byte in registers and SRAM. At each step it enters the
 /// interrupt of the first pending timer that may be taken, otherwise of the first such receiver, otherwise it executes an instruction. The
@@ -31,26 +56,24 @@ pub fn simulation(
     ensures bounded { (bound : ℕ) → Bounded flash.now assumptions.now bound → IfOk result (λ r. r.depth ≤ bound) }
 {
     depth_is_kept();
-    let timers = Hook::new(
-        devices,
-        |moment: &Moment<'_>, menu: &Menu| first_due(devices, true, moment, menu),
-    );
-    let receivers = Hook::new(
-        devices,
-        |moment: &Moment<'_>, menu: &Menu| first_due(devices, false, moment, menu),
-    );
+    devices_are_alike();
     let mut machine = Machine::start(flash.device(), devices.fill());
-    let wiring = Wiring {
-        devices,
-        timers: &timers,
-        receivers: &receivers,
-        flash,
-        assumptions,
-    };
-    let walk = walk(alloc, &wiring, &mut machine, steps, false)?;
+    let mut progress = Progress::begin(alloc, devices)?;
+    let mut quiet = Quiet::unknown();
+    for step in 0..steps {
+        let choice = choose(devices, &machine, &mut progress, &mut quiet);
+        let answer = machine.step(flash, assumptions, choice);
+        if let Some(stop) = stop_at(answer) {
+            return Ok(ReplayReport {
+                steps: step,
+                depth: machine.depth(),
+                stop,
+            });
+        }
+    }
     Ok(ReplayReport {
-        steps: walk.steps,
+        steps,
         depth: machine.depth(),
-        stop: walk.stop,
+        stop: Stop::End,
     })
 }

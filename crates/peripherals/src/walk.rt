@@ -1,6 +1,6 @@
 //! Runs that hooks choose.
 
-ghost use Rattle.std.specs.Prelude.{◌≡◌, ◌≢◌, ◌≤◌, ◌<◌, length, true, IfOk, OnOk, OnErr};
+ghost use Rattle.std.specs.Prelude.{◌≡◌, ◌≢◌, ◌≤◌, ◌<◌, IfOk, OnErr};
 ghost use Rattle.avr_model.specs.declared.choice.StepResult.TheVariants as answer;
 ghost use Rattle.avr_model.specs.Devices.{device_of};
 ghost use Rattle.avr_model.specs.Step.{step, result_of};
@@ -10,7 +10,7 @@ ghost use Rattle.peripherals.specs.Spelling.{most_steps};
 ghost use Rattle.peripherals.specs.Hooks.{IsHook, ByHooks};
 ghost use Rattle.peripherals.specs.Simulating.{setting};
 ghost use Rattle.peripherals.specs.Traces.{IsTrace, Halts};
-ghost use Rattle.peripherals.specs.Midway.{setting_of, IsProgressKnown, IsChosen, kept_on, Walks};
+ghost use Rattle.peripherals.specs.Midway.{setting_of, IsProgressKnown, IsChosen};
 
 use crate::devices::Devices;
 use crate::hook::{Hook, Moment};
@@ -22,29 +22,18 @@ use flash_image::Flash;
 use std::alloc::{AllocError, Global};
 use vector_table::Assumptions;
 
-// The record of a run.
-#[derive(Drop)]
-pub(crate) struct WalkedRun {
-    // The choices, or none if they are not kept.
-    pub(crate) choices: Choices,
-    // The steps done.
-    pub(crate) steps: u32,
-    // The stop that was met, or `End`.
-    pub(crate) stop: Stop,
-}
-
 // What determines the choices of a run: devices with two hooks of theirs, a firmware and its assumptions.
 #[derive(Drop)]
-pub(crate) struct Wiring<'a, F, G> {
-    pub(crate) devices: &'a Devices,
-    pub(crate) timers: &'a Hook<'a, F>,
-    pub(crate) receivers: &'a Hook<'a, G>,
-    pub(crate) flash: &'a Flash,
-    pub(crate) assumptions: &'a Assumptions,
+struct Wiring<'a, F, G> {
+    devices: &'a Devices,
+    timers: &'a Hook<'a, F>,
+    receivers: &'a Hook<'a, G>,
+    flash: &'a Flash,
+    assumptions: &'a Assumptions,
 }
 
 // How the answer to a step ends a run, if it does.
-fn stop_at(answer: StepResult) -> Option<Stop>
+pub(crate) fn stop_at(answer: StepResult) -> Option<Stop>
     ensures { result ≡ stop_at answer }
 {
     match answer {
@@ -78,53 +67,38 @@ fn choose<F: Fn(&Moment<'_>, &Menu) -> Option<usize>, G: Fn(&Moment<'_>, &Menu) 
     choice
 }
 
-// Appends the choice, if choices are kept.
-fn keep(choices: &mut Choices, keeps: bool, choice: Choice) -> Result<(), AllocError>
-    requires few { keeps ≡ true → length choices.old < most_steps }
-    ensures { OnOk result (choices.new ≡ kept_on keeps choices.old choice) }
-{
-    if keeps {
-        choices.push(choice)?;
-    }
-    Ok(())
-}
-
-// Steps the machine by the hooks' choices up to the first stop, or this many times. Returns the choices if `keeps`.
-pub(crate) fn walk<
-    F: Fn(&Moment<'_>, &Menu) -> Option<usize>,
-    G: Fn(&Moment<'_>, &Menu) -> Option<usize>,
->(
+// Steps the machine by the hooks' choices up to the first stop, or this many times.
+fn walk<F: Fn(&Moment<'_>, &Menu) -> Option<usize>, G: Fn(&Moment<'_>, &Menu) -> Option<usize>>(
     alloc: Global,
     wiring: &Wiring<'_, F, G>,
     machine: &mut Machine,
     steps: u32,
-    keeps: bool,
-) -> Result<WalkedRun, AllocError>
+) -> Result<DeviceTrace, AllocError>
     requires first { IsHook F.Fn wiring.now.timers.now.0 wiring.now.timers.now.1 }
     requires second { IsHook G.Fn wiring.now.receivers.now.0 wiring.now.receivers.now.1 }
     requires first_devices { wiring.now.timers.now.0 ≡ wiring.now.devices.now }
     requires second_devices { wiring.now.receivers.now.0 ≡ wiring.now.devices.now }
     requires few { steps ≤ most_steps }
-    ensures ok { IfOk result (λ w. Walks (setting_of F.Fn G.Fn wiring.now) steps keeps machine.old w machine.new) }
+    ensures ok { IfOk result (λ t. IsTrace (setting_of F.Fn G.Fn wiring.now) steps machine.old t machine.new) }
     ensures err { OnErr result (Halts (setting_of F.Fn G.Fn wiring.now) steps machine.old machine.new) }
 {
     let mut progress = Progress::begin(alloc, wiring.devices)?;
     let mut choices = Choices::empty(alloc);
     for step in 0..steps {
         let choice = choose(wiring, machine, &mut progress);
-        keep(&mut choices, keeps, choice)?;
+        choices.push(choice)?;
         let answer = machine.step(wiring.flash, wiring.assumptions, choice);
         if let Some(stop) = stop_at(answer) {
-            return Ok(WalkedRun {
+            return Ok(DeviceTrace {
                 choices,
-                steps: step,
+                depth: machine.depth(),
                 stop,
             });
         }
     }
-    Ok(WalkedRun {
+    Ok(DeviceTrace {
         choices,
-        steps,
+        depth: machine.depth(),
         stop: Stop::End,
     })
 }
@@ -161,10 +135,5 @@ pub fn simulate<
         flash,
         assumptions,
     };
-    let walk = walk(alloc, &wiring, machine, steps, true)?;
-    Ok(DeviceTrace {
-        choices: walk.choices,
-        depth: machine.depth(),
-        stop: walk.stop,
-    })
+    walk(alloc, &wiring, machine, steps)
 }

@@ -185,7 +185,7 @@ raised_rises f n formed node = by (get f n.key) refl
         (λ lt. inr (insert_more f n.key (state_join t n.state) (λ u is. subst (λ x. state_rank x < state_rank (state_join t n.state)) (same_Some t u (sym e ∙ is)) lt)))
         (states_rise.rises t (state_join t n.state) (offset_of n.key.sp) at.formed j.formed (join_least n.key t n.state at node).first)
 
-weight_high : {device : Device} {followed : Bool} (es : List (NodeKey × AbsState)) → AreNodesIn device followed (map node_of es) → weight_of es ≤ 1122557 * cells_of (map (λ (x : NodeKey × AbsState). x.0) es)
+weight_high : {device : Device} {followed : Bool} (es : List (NodeKey × AbsState)) → AreNodesIn device followed (map node_of es) → weight_of es ≤ 1123085 * cells_of (map (λ (x : NodeKey × AbsState). x.0) es)
 unfolding cells_of
 weight_high [] nodes = omega arith
 weight_high (e ∷ es) nodes =

@@ -81,5 +81,5 @@ pub record RoundsAreJoins : Type 0 where
   pub next : (task : Task) (f : Family) (ns : List Node) → AreFormed (device_of task.flash) (has_pairs task.assumptions) f → IsRoundOf task f ns → IsNext task f (raised_all f ns)
   pub joined : {device : Device} {followed : Bool} (f : Family) (ns : List Node) → AreFormed device followed f → AreNodesIn device followed ns → AreJoined device followed f ns (raised_all f ns)
   pub rises : {device : Device} {followed : Bool} (f : Family) (n : Node) → AreFormed device followed f → IsNodeIn device followed n.key n.state → (raised f n ≡ f) ⊎ (weight f < weight (raised f n))
-  pub high : {device : Device} {followed : Bool} (f : Family) → AreFormed device followed f → weight f ≤ 1122557 * cells f
+  pub high : {device : Device} {followed : Bool} (f : Family) → AreFormed device followed f → weight f ≤ 1123085 * cells f
   pub formed : {device : Device} {followed : Bool} (f : Family) (n : Node) → AreFormed device followed f → IsNodeIn device followed n.key n.state → AreFormed device followed (raised f n)

@@ -4,6 +4,7 @@ ghost use Rattle.std.specs.Prelude.{ℕ, Bool, ◌≡◌, ◌<◌, ◌++◌, Lis
 ghost use Rattle.avr_model.specs.declared.device.Device.{Device};
 ghost use Rattle.abs_state.specs.Values.{value_at};
 ghost use Rattle.abs_state.specs.Formed.{NamesRegister};
+ghost use Rattle.avr_model.specs.State.{REGISTERS};
 ghost use Rattle.local_rules.specs.declared.local.Node as node_type;
 ghost use Rattle.local_laws.specs.Laws.{AreNodesIn};
 ghost use Rattle.round_steps.specs.Targets.{entry_node, returned_to, back_at, backs_in, all_backs, onward_at, onwards_if, crossings_of, targets_of, all_targets};
@@ -65,7 +66,7 @@ fn add_return(
     exit: &Exit,
     leaving: &AbsState,
 ) -> Result<(), AllocError>
-    requires { (r : ℕ) → r < 32 → NamesRegister (value_at leaving.now.registers r).tag }
+    requires { (r : ℕ) → r < REGISTERS → NamesRegister (value_at leaving.now.registers r).tag }
     ensures { Grows result targets.old.items targets.new.items (returned_to (caller_node caller.now) caller.now.way exit.now leaving.now) }
 {
     let Some(node) = returned(alloc, caller, exit, leaving)? else {
@@ -134,7 +135,7 @@ fn add_onward(
     leaver: &Leaver<'_>,
     entering: &Crossing,
 ) -> Result<(), AllocError>
-    requires { (r : ℕ) → r < 32 → NamesRegister (value_at leaver.now.state.now.registers r).tag }
+    requires { (r : ℕ) → r < REGISTERS → NamesRegister (value_at leaver.now.state.now.registers r).tag }
     ensures { Grows result targets.old.items targets.new.items (onward_at family.now.table.now leaver.now.inst.now leaver.now.state.now leaver.now.exit entering.now) }
 {
     let key = &entering.node;
@@ -157,7 +158,7 @@ fn add_onwards(
     state: &AbsState,
     exit: Option<Exit>,
 ) -> Result<(), AllocError>
-    requires { (r : ℕ) → r < 32 → NamesRegister (value_at state.now.registers r).tag }
+    requires { (r : ℕ) → r < REGISTERS → NamesRegister (value_at state.now.registers r).tag }
     ensures { Grows result targets.old.items targets.new.items (onwards_if family.now.table.now family.now.notes.now.callers inst.now state.now exit) }
 {
     let Some(exit) = exit else {
@@ -183,7 +184,7 @@ fn add_crossings(
     state: &AbsState,
 ) -> Result<(), AllocError>
     requires own { AreOwn family.now.table.now }
-    requires named { (r : ℕ) → r < 32 → NamesRegister (value_at state.now.registers r).tag }
+    requires named { (r : ℕ) → r < REGISTERS → NamesRegister (value_at state.now.registers r).tag }
     ensures { Grows result targets.old.items targets.new.items (crossings_of family.now.table.now family.now.notes.now x.now state.now) }
 {
     add_entries(targets, family.alloc, state, &x.ways)?;

@@ -34,8 +34,8 @@ use Rattle.replies.specs.Reading.{Seen, Unread, Whole, Long}
 use Rattle.replies.specs.Reply.{Reply, Says, Refuses, WithFile, WithBytes, WithOptional, ImageBy, ListBy, WithList, attains, AttainedBy, WitnessReply, VerdictReply, CertificateReply, told_of, ClearSays, ClearReply, AcceptedReply, RunReply, EndsBefore, ScheduleReply, WhyNotReply, AnalyseReply, SimulateReply, DemoReply, FlashReply, ImageReply, WorkReply, IsReply}
 use Rattle.replies.specs.Headline.{HasWords, ReadsWords, AcceptingRepliesHold, RepliesAreExact}
 use Rattle.stack_core.specs.declared.reply.Reply.{Reply as Answered}
-use Rattle.command_files.specs.Reading.{seen_under, seen_whole, AreBytes}
-use Rattle.command_files.proofs.AllLaws.{whole_reply}
+use Rattle.stack_core.specs.Reading.{seen_under, seen_whole, AreBytes}
+use Rattle.stack_core.proofs.Gathering.{whole_reply}
 use Rattle.stack_core.specs.Answer.{IsAnswered, IsReplyWritten, IsReadFault, IsSettledAnswer, IsOutcome, IsCutOff}
 use Rattle.local_rules.specs.Site.{Task, task_with, bare}
 

@@ -6,11 +6,10 @@ ghost use Rattle.commands.specs.Views.{command_seen};
 ghost use Rattle.stack_core.specs.Answer.{IsOutcome, IsCutOff};
 ghost use Rattle.stack_core.specs.Clauses.{called};
 
+use crate::reading::{Unread, gather};
 use crate::reply::Reply;
 use crate::work::work;
-use clap_words::command_of;
-use command_files::{Unread, gather};
-use commands::Command;
+use commands::{Command, command_of};
 use replies::laws::replies_are_claims;
 use replies::status::Status;
 use replies::texts;

@@ -10,6 +10,7 @@ pub mod explaining;
 pub mod judging;
 pub mod laws;
 pub mod loading;
+pub mod reading;
 pub mod reply;
 pub mod running;
 pub mod simulating;

@@ -2,7 +2,7 @@
 
 ghost use Rattle.std.specs.Prelude.{◌≡◌, IfOk, false, length};
 ghost use Rattle.avr_model.specs.Devices.{limit_of};
-ghost use Rattle.command_files.specs.Reading.{bytes_of};
+ghost use Rattle.stack_core.specs.Reading.{bytes_of};
 ghost use Rattle.stack_core.specs.Answering.{LoadsBy, LoadsAs, NarrowedTo, LoadsOn, ListsAs};
 
 use crate::reply::Reply;

@@ -7,7 +7,7 @@ ghost use Rattle.replies.specs.declared.status.Status.TheVariants as exit;
 ghost use Rattle.replies.specs.Firmware.{firmware_image};
 ghost use Rattle.replies.specs.Reply.{WithList, ImageReply, WorkReply};
 ghost use Rattle.replies.specs.Headline.{HasWords};
-ghost use Rattle.command_files.specs.Reading.{bytes_of};
+ghost use Rattle.stack_core.specs.Reading.{bytes_of};
 ghost use Rattle.stack_core.specs.Answering.{LoadedReply};
 ghost use Rattle.stack_core.specs.Clauses.{Returns};
 

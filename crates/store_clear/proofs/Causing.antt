@@ -28,11 +28,11 @@ use Rattle.clear_laws.specs.Clear.{IsClear, MayBeFlagged, is_transfer_listed, ca
 use Rattle.clear_laws.specs.Causes.{may_write_protected, may_write_live, IsCause}
 use Rattle.clear_laws.proofs.AllLaws.{not_listed, unlisted_goes, unguarded}
 use Rattle.clear_laws.specs.Reach.{is_on}
-use Rattle.clear_laws.specs.declared.slots.Asks.{Asks}
+use Rattle.clear_laws.specs.declared.slots.Condition.{Condition}
 use Rattle.clear_laws.specs.declared.place.FlaggedPlace.{FlaggedPlace}
 use Rattle.clear_laws.specs.Places.{word_of, IsPlaceOf, ArePlaces}
 use Rattle.clear_laws.specs.Verdict.{AreSites}
-use Rattle.store_clear.specs.Settling.{ask_at, passes, IsTold, places_of}
+use Rattle.store_clear.specs.Conditions.{condition_at, is_discharged, HasConditionsLeft, places_of}
 use Rattle.store_clear.specs.Takes.{AreMarkedBeside}
 use Rattle.store_clear.specs.Causing.{IsProtectedBelow, is_unclear_at, PassesBelow, IsProtectedAt, may_happen, HappensAt, ArePlacesOf}
 use Rattle.store_clear.specs.declared.causes.Other.{Other}
@@ -71,18 +71,18 @@ module _ (task : Task) (pc : ℕ) (s : AbsState) (instr : Instr) where
 
 -- ---- all nodes
 
-module _ (task : Task) (nodes : List Node) (asks : List Asks) (pc : ℕ) (instr : Instr) where
+module _ (task : Task) (nodes : List Node) (conditions : List Condition) (pc : ℕ) (instr : Instr) where
   abbrev At : ℕ → ℕ → Type 0
-  At count a = IsProtectedAt task nodes asks pc instr count a
+  At count a = IsProtectedAt task nodes conditions pc instr count a
 
   -- a node with this key has a condition left and is at the word, and a store there may write this address
-  abbrev From : NodeKey → AbsState → Asks → ℕ → Type 0
+  abbrev From : NodeKey → AbsState → Condition → ℕ → Type 0
   From k s ask a = (is_unclear_at pc k ask ≡ true) × IsProtectedBelow task (store_at pc s instr) (io_end (device_of task.flash) + 1) a
 
   pub nodes_none : (marks : List Bool) → AreMarkedBeside (At 0) marks marks
   nodes_none marks = marks_none (At 0) marks (λ a t. let lt = t.1.below in omega (arith, lt))
 
-  nodes_more : (at : ℕ) (n : Node) (k : NodeKey) (s : AbsState) (ask : Asks) (old mid new : List Bool) → slice_get nodes at ≡ Some n → n.key ≡ k → n.state ≡ s → ask_at asks at ≡ ask
+  nodes_more : (at : ℕ) (n : Node) (k : NodeKey) (s : AbsState) (ask : Condition) (old mid new : List Bool) → slice_get nodes at ≡ Some n → n.key ≡ k → n.state ≡ s → condition_at conditions at ≡ ask
       → AreMarkedBeside (At at) old mid → AreMarkedBeside (From k s ask) mid new → AreMarkedBeside (At (at + 1)) old new
   nodes_more at n k s ask old mid new is key state same so one =
       marks_both (At at) (From k s ask) (At (at + 1)) old mid new
@@ -90,8 +90,8 @@ module _ (task : Task) (nodes : List Node) (asks : List Asks) (pc : ℕ) (instr 
       (λ a t. (t.1.0, record { at = at; node = n; below = omega arith; is = is; unclear = unclear_back t.0; passes = ap (λ (x : AbsState). may_write_protected task (store_at pc x instr) a) state ∙ t.1.1 }))
       split so one
     where
-      unclear_back : is_unclear_at pc k ask ≡ true → is_unclear_at pc n.key (ask_at asks at) ≡ true
-      unclear_back h = ap (λ (x : NodeKey). is_unclear_at pc x (ask_at asks at)) key ∙ ap (is_unclear_at pc k) same ∙ h
+      unclear_back : is_unclear_at pc k ask ≡ true → is_unclear_at pc n.key (condition_at conditions at) ≡ true
+      unclear_back h = ap (λ (x : NodeKey). is_unclear_at pc x (condition_at conditions at)) key ∙ ap (is_unclear_at pc k) same ∙ h
 
       here : (t : ℕ) (m : Node) → t ≡ at → slice_get nodes t ≡ Some m → m ≡ n
       here t m e read = one_at nodes at m n (subst (λ i. slice_get nodes i ≡ Some m) e read) is
@@ -102,24 +102,24 @@ module _ (task : Task) (nodes : List Node) (asks : List Asks) (pc : ℕ) (instr 
           (λ e.
           let m = here t.1.at t.1.node e t.1.is in
           inr (
-            sym (ap (λ (x : NodeKey). is_unclear_at pc x (ask_at asks at)) key ∙ ap (is_unclear_at pc k) same)
-                ∙ ap (λ (x : Node). is_unclear_at pc x.key (ask_at asks at)) (sym m) ∙ ap (λ i. is_unclear_at pc t.1.node.key (ask_at asks i)) (sym e) ∙ t.1.unclear,
+            sym (ap (λ (x : NodeKey). is_unclear_at pc x (condition_at conditions at)) key ∙ ap (is_unclear_at pc k) same)
+                ∙ ap (λ (x : Node). is_unclear_at pc x.key (condition_at conditions at)) (sym m) ∙ ap (λ i. is_unclear_at pc t.1.node.key (condition_at conditions i)) (sym e) ∙ t.1.unclear,
             (t.0, ap (λ (x : AbsState). may_write_protected task (store_at pc x instr) a) (sym state) ∙ ap (λ (x : Node). may_write_protected task (store_at pc x.state instr) a) (sym m) ∙ t.1.passes),
           ))
           (before_or_last t.1.at at t.1.below)
 
-  module _ (at : ℕ) (n : Node) (k : NodeKey) (s : AbsState) (ask : Asks) (old mid : List Bool) (is : slice_get nodes at ≡ Some n) (key : n.key ≡ k) (state : n.state ≡ s)
-      (same : ask_at asks at ≡ ask) (so : AreMarkedBeside (At at) old mid) where
+  module _ (at : ℕ) (n : Node) (k : NodeKey) (s : AbsState) (ask : Condition) (old mid : List Bool) (is : slice_get nodes at ≡ Some n) (key : n.key ≡ k) (state : n.state ≡ s)
+      (same : condition_at conditions at ≡ ask) (so : AreMarkedBeside (At at) old mid) where
     pub nodes_marked : (new : List Bool) → is_unclear_at pc k ask ≡ true → AreMarkedBeside (IsProtectedBelow task (store_at pc s instr) (io_end (device_of task.flash) + 1)) mid new → AreMarkedBeside (At (at + 1)) old new
     nodes_marked new e one =
         nodes_more at n k s ask old mid new is key state same so
         (marks_as (IsProtectedBelow task (store_at pc s instr) (io_end (device_of task.flash) + 1)) (From k s ask) mid new (λ a t. (e, t)) (λ a t. t.1) one)
 
   -- those that come next
-  pub nodes_skipped : (start at : ℕ) (old new : List Bool) → IsNextAsk nodes asks pc start at → AreMarkedBeside (At start) old new → AreMarkedBeside (At at) old new
+  pub nodes_skipped : (start at : ℕ) (old new : List Bool) → IsNextAsk nodes conditions pc start at → AreMarkedBeside (At start) old new → AreMarkedBeside (At at) old new
   nodes_skipped start at old new next so =
-      marks_as (At start) (At at) old new (λ a t. (t.0, reached nodes asks pc start at next (λ (n : Node). may_write_protected task (store_at pc n.state instr) a) t.1))
-      (λ a t. (t.0, skipped nodes asks pc start at next (λ (n : Node). may_write_protected task (store_at pc n.state instr) a) t.1)) so
+      marks_as (At start) (At at) old new (λ a t. (t.0, reached nodes conditions pc start at next (λ (n : Node). may_write_protected task (store_at pc n.state instr) a) t.1))
+      (λ a t. (t.0, skipped nodes conditions pc start at next (λ (n : Node). may_write_protected task (store_at pc n.state instr) a) t.1)) so
 
 -- ---- the list
 
@@ -147,9 +147,9 @@ ascending_given list last are = subst (IsStrictlySortedBy nat_cmp) (sym are) (as
 
 -- ---- one after the other
 
-module _ (task : Task) (bound : ℕ) (other : Other) (nodes : List Node) (asks : List Asks) (pc : ℕ) (instr : Instr) where
+module _ (task : Task) (bound : ℕ) (other : Other) (nodes : List Node) (conditions : List Condition) (pc : ℕ) (instr : Instr) where
   abbrev Happens : ℕ → Type 0
-  Happens count = HappensAt task bound other nodes asks pc instr count
+  Happens count = HappensAt task bound other nodes conditions pc instr count
 
   abbrev passing : Node → Bool
   passing n = may_happen task bound other pc instr n
@@ -158,7 +158,7 @@ module _ (task : Task) (bound : ℕ) (other : Other) (nodes : List Node) (asks :
     same_test : passing n ≡ passing (record { key = k; state = s })
     same_test = ap₂ (λ (x : NodeKey) (y : AbsState). passing (record { key = x; state = y })) key state
 
-    pub happens_found : (count : ℕ) → at < count → is_unclear_at pc n.key (ask_at asks at) ≡ true → passing (record { key = k; state = s }) ≡ true → Happens count
+    pub happens_found : (count : ℕ) → at < count → is_unclear_at pc n.key (condition_at conditions at) ≡ true → passing (record { key = k; state = s }) ≡ true → Happens count
     happens_found count lt unclear passes =
         record { at = at; node = n; below = lt; is = is; unclear = unclear; passes = same_test ∙ passes }
 
@@ -174,8 +174,8 @@ module _ (task : Task) (bound : ℕ) (other : Other) (nodes : List Node) (asks :
   happens_none t = let lt = t.below in omega (arith, lt)
 
   -- none among those that come next
-  pub happens_skipped : (start at : ℕ) → IsNextAsk nodes asks pc start at → (Happens start → ⊥) → Happens at → ⊥
-  happens_skipped start at next none t = none (skipped nodes asks pc start at next passing t)
+  pub happens_skipped : (start at : ℕ) → IsNextAsk nodes conditions pc start at → (Happens start → ⊥) → Happens at → ⊥
+  happens_skipped start at next none t = none (skipped nodes conditions pc start at next passing t)
 
   -- none at all, once the walk is at the end
   pub happens_nowhere : (at count : ℕ) → at ≡ count → (Happens at → ⊥) → (false ≡ true) ↔ Happens count
@@ -183,31 +183,31 @@ module _ (task : Task) (bound : ℕ) (other : Other) (nodes : List Node) (asks :
 
 -- ---- a word
 
-module _ (task : Task) (c : Claim) (nodes : List Node) (asks : List Asks) (told : IsTold task c nodes asks) (pc : ℕ) where
+module _ (task : Task) (c : Claim) (nodes : List Node) (conditions : List Condition) (told : HasConditionsLeft task c nodes conditions) (pc : ℕ) where
   abbrev f : RankedFamily
   f = family_of c nodes
 
   -- a node that isn't clear has a condition left
-  asks_there : (n : Node) (at : ℕ) → slice_get nodes at ≡ Some n → n.key.pc ≡ pc → (IsClear task f n → ⊥) → is_unclear_at pc n.key (ask_at asks at) ≡ true
+  asks_there : (n : Node) (at : ℕ) → slice_get nodes at ≡ Some n → n.key.pc ≡ pc → (IsClear task f n → ⊥) → is_unclear_at pc n.key (condition_at conditions at) ≡ true
   asks_there n at is word unclear =
-      and_from (not (passes (ask_at asks at))) (n.key.pc == pc) (not_from_never (passes (ask_at asks at)) (λ h. unclear ((told.told.each at n is).0 h)))
+      and_from (not (is_discharged (condition_at conditions at))) (n.key.pc == pc) (not_from_never (is_discharged (condition_at conditions at)) (λ h. unclear ((told.told.each at n is).0 h)))
       (ap (λ p. p == pc) word ∙ equals_itself pc)
 
   module _ (instr : Instr) (is : instruction_at task.flash pc ≡ Some instr) (test : Node → Instr → Bool) where
-    pub cause_from : PassesBelow nodes asks pc (λ (n : Node). test n instr) (length asks) → IsCause task f pc test
+    pub cause_from : PassesBelow nodes conditions pc (λ (n : Node). test n instr) (length conditions) → IsCause task f pc test
     cause_from t =
-        let parts = and_parts (not (passes (ask_at asks t.at))) (t.node.key.pc == pc) t.unclear in
+        let parts = and_parts (not (is_discharged (condition_at conditions t.at))) (t.node.key.pc == pc) t.unclear in
         record {
           node = t.node;
           present = contained_at nodes t.at t.node t.is;
           is = eqb-true t.node.key.pc pc parts.1;
-          unclear = λ clear. never_both (passes (ask_at asks t.at)) ((told.told.each t.at t.node t.is).1 clear) (not-true (passes (ask_at asks t.at)) parts.0);
+          unclear = λ clear. never_both (is_discharged (condition_at conditions t.at)) ((told.told.each t.at t.node t.is).1 clear) (not-true (is_discharged (condition_at conditions t.at)) parts.0);
           instr = instr;
           instruction = is;
           passes = t.passes;
         }
 
-    pub cause_to : IsCause task f pc test → PassesBelow nodes asks pc (λ (n : Node). test n instr) (length asks)
+    pub cause_to : IsCause task f pc test → PassesBelow nodes conditions pc (λ (n : Node). test n instr) (length conditions)
     cause_to cause =
         let p = place_of_contained nodes cause.node cause.present in
         record {
@@ -259,9 +259,9 @@ module _ (task : Task) (c : Claim) (nodes : List Node) (asks : List Asks) (told 
       (unguarded (device_of task.flash) task.assumptions pc (stored_bits s instr) a (omega (arith, over))))) (cases_lt a (io_end (device_of task.flash) + 1))
 
   module _ (instr : Instr) (is : instruction_at task.flash pc ≡ Some instr) (protected : List ℕ) (live moves : Bool)
-      (exact : (a : ℕ) → Contains protected a ↔ IsProtectedAt task nodes asks pc instr (length asks) a) (sorted : IsStrictlySortedBy nat_cmp protected)
-      (alive : (live ≡ true) ↔ HappensAt task c.bound Live nodes asks pc instr (length asks))
-      (moving : (moves ≡ true) ↔ HappensAt task c.bound Moves nodes asks pc instr (length asks)) (site : MayBeFlagged task f pc) where
+      (exact : (a : ℕ) → Contains protected a ↔ IsProtectedAt task nodes conditions pc instr (length conditions) a) (sorted : IsStrictlySortedBy nat_cmp protected)
+      (alive : (live ≡ true) ↔ HappensAt task c.bound Live nodes conditions pc instr (length conditions))
+      (moving : (moves ≡ true) ↔ HappensAt task c.bound Moves nodes conditions pc instr (length conditions)) (site : MayBeFlagged task f pc) where
     pub place_given : IsPlaceOf task f (record { word = pc; protected = protected; live = live; transfer = is_indirect instr || is_call instr; moves = moves })
     place_given =
         record {
@@ -313,7 +313,7 @@ module _ (task : Task) (g : RankedFamily) where
         each = λ p h. ⊎_elim (so.each p) (λ e. subst (IsPlaceOf task g) e is) (Contains-push_cases places place p h);
       }
 
-module _ (task : Task) (c : Claim) (nodes : List Node) (asks : List Asks) (told : IsTold task c nodes asks) (sites : List ℕ) (are : AreSites task c sites) where
+module _ (task : Task) (c : Claim) (nodes : List Node) (conditions : List Condition) (told : HasConditionsLeft task c nodes conditions) (sites : List ℕ) (are : AreSites task c sites) where
   -- the words are those of these nodes
   pub sites_are_flagged : (pc : ℕ) → Contains sites pc → MayBeFlagged task (family_of c nodes) pc
   sites_are_flagged pc h =

@@ -5,8 +5,8 @@ pub mod Scans
 pub mod Harmless
 pub mod Lists
 pub mod Spread
-pub mod Askings
-pub mod Settled
+pub mod Conditions
+pub mod Discharged
 pub mod Told
 pub mod Marked
 pub mod Taken

@@ -19,24 +19,24 @@ use Rattle.local_rules.specs.declared.local.Node.{Node}
 use Rattle.edge_rules.specs.Views.{key_of}
 use Rattle.family_edges.specs.Shown.{AreOfSomeDevice}
 use Rattle.clear_laws.specs.Reach.{is_on}
-use Rattle.clear_laws.specs.declared.slots.Asks.{Asks}
-use Rattle.store_clear.specs.Settling.{ask_at, passes, IsWordOf, AreWordsMarked, places_from}
+use Rattle.clear_laws.specs.declared.slots.Condition.{Condition}
+use Rattle.store_clear.specs.Conditions.{condition_at, is_discharged, IsWordOf, AreWordsMarked, places_from}
 
 -- ---- words
 
-module _ (nodes : List Node) (asks : List Asks) where
-  weaker : (at pc : ℕ) → IsWordOf nodes asks at pc → IsWordOf nodes asks (at + 1) pc
+module _ (nodes : List Node) (conditions : List Condition) where
+  weaker : (at pc : ℕ) → IsWordOf nodes conditions at pc → IsWordOf nodes conditions (at + 1) pc
   weaker at pc w = record { at = w.at; node = w.node; below = let lt = w.below in omega (arith, lt); is = w.is; fails = w.fails; word = w.word }
 
-  pub words_none : (old : List Bool) → AreWordsMarked nodes asks 0 old old
+  pub words_none : (old : List Bool) → AreWordsMarked nodes conditions 0 old old
   words_none old =
       record {
         same = refl;
         exact = λ pc. (λ h. inl h, λ h. ⊎_elim (λ o. o) (λ w. absurd (let lt = w.below in omega (arith, lt))) h);
       }
 
-  pub words_marked : (at : ℕ) (n : Node) (old mid : List Bool) → slice_get nodes at ≡ Some n → passes (ask_at asks at) ≡ false → n.key.pc < length mid
-      → AreWordsMarked nodes asks at old mid → AreWordsMarked nodes asks (at + 1) old (set mid n.key.pc true)
+  pub words_marked : (at : ℕ) (n : Node) (old mid : List Bool) → slice_get nodes at ≡ Some n → is_discharged (condition_at conditions at) ≡ false → n.key.pc < length mid
+      → AreWordsMarked nodes conditions at old mid → AreWordsMarked nodes conditions (at + 1) old (set mid n.key.pc true)
   words_marked at n old mid is fails lt m = record { same = length-set mid n.key.pc true ∙ m.same; exact = λ pc. (down pc, up pc) }
     where
       on_here : (pc : ℕ) → pc ≡ n.key.pc → is_on (set mid n.key.pc true) pc ≡ true
@@ -45,30 +45,30 @@ module _ (nodes : List Node) (asks : List Asks) where
       kept : (pc : ℕ) → is_on mid pc ≡ true → is_on (set mid n.key.pc true) pc ≡ true
       kept pc h = ⊎_elim (λ e. on_here pc e) (λ ne. get_or-set_other mid n.key.pc pc true false ne ∙ h) (cases_eq pc n.key.pc)
 
-      down : (pc : ℕ) → is_on (set mid n.key.pc true) pc ≡ true → (is_on old pc ≡ true) ⊎ IsWordOf nodes asks (at + 1) pc
+      down : (pc : ℕ) → is_on (set mid n.key.pc true) pc ≡ true → (is_on old pc ≡ true) ⊎ IsWordOf nodes conditions (at + 1) pc
       down pc h =
           ⊎_elim (λ e. inr (record { at = at; node = n; below = omega arith; is = is; fails = fails; word = sym e }))
           (λ ne. ⊎_elim (λ o. inl o) (λ w. inr (weaker at pc w)) ((m.exact pc).0 (sym (get_or-set_other mid n.key.pc pc true false ne) ∙ h)))
           (cases_eq pc n.key.pc)
 
-      up : (pc : ℕ) → (is_on old pc ≡ true) ⊎ IsWordOf nodes asks (at + 1) pc → is_on (set mid n.key.pc true) pc ≡ true
+      up : (pc : ℕ) → (is_on old pc ≡ true) ⊎ IsWordOf nodes conditions (at + 1) pc → is_on (set mid n.key.pc true) pc ≡ true
       up pc h = ⊎_elim (λ o. kept pc ((m.exact pc).1 (inl o))) (λ w. by w (before_or_last w.at at w.below)) h
         where
-          by : (w : IsWordOf nodes asks (at + 1) pc) → (w.at < at) ⊎ (w.at ≡ at) → is_on (set mid n.key.pc true) pc ≡ true
+          by : (w : IsWordOf nodes conditions (at + 1) pc) → (w.at < at) ⊎ (w.at ≡ at) → is_on (set mid n.key.pc true) pc ≡ true
           by w (inl l) = kept pc ((m.exact pc).1 (inr (record { at = w.at; node = w.node; below = l; is = w.is; fails = w.fails; word = w.word })))
           by w (inr e) =
               let one : w.node ≡ n = one_at nodes at w.node n (subst (λ k. slice_get nodes k ≡ Some w.node) e w.is) is in
               on_here pc (sym w.word ∙ ap (λ (x : Node). x.key.pc) one)
 
-  pub words_passed : (at : ℕ) (old mid : List Bool) → passes (ask_at asks at) ≡ true → AreWordsMarked nodes asks at old mid → AreWordsMarked nodes asks (at + 1) old mid
+  pub words_passed : (at : ℕ) (old mid : List Bool) → is_discharged (condition_at conditions at) ≡ true → AreWordsMarked nodes conditions at old mid → AreWordsMarked nodes conditions (at + 1) old mid
   words_passed at old mid is m = record { same = m.same; exact = λ pc. (λ h. ⊎_elim (λ o. inl o) (λ w. inr (weaker at pc w)) ((m.exact pc).0 h), up pc) }
     where
-      up : (pc : ℕ) → (is_on old pc ≡ true) ⊎ IsWordOf nodes asks (at + 1) pc → is_on mid pc ≡ true
+      up : (pc : ℕ) → (is_on old pc ≡ true) ⊎ IsWordOf nodes conditions (at + 1) pc → is_on mid pc ≡ true
       up pc h = ⊎_elim (λ o. (m.exact pc).1 (inl o)) (λ w. by w (before_or_last w.at at w.below)) h
         where
-          by : (w : IsWordOf nodes asks (at + 1) pc) → (w.at < at) ⊎ (w.at ≡ at) → is_on mid pc ≡ true
+          by : (w : IsWordOf nodes conditions (at + 1) pc) → (w.at < at) ⊎ (w.at ≡ at) → is_on mid pc ≡ true
           by w (inl l) = (m.exact pc).1 (inr (record { at = w.at; node = w.node; below = l; is = w.is; fails = w.fails; word = w.word }))
-          by w (inr e) = absurd (let no : true ≡ false = sym is ∙ (ap (λ k. passes (ask_at asks k)) (sym e) ∙ w.fails) in cc)
+          by w (inr e) = absurd (let no : true ≡ false = sym is ∙ (ap (λ k. is_discharged (condition_at conditions k)) (sym e) ∙ w.fails) in cc)
 
 -- ---- the numbers of what is marked
 

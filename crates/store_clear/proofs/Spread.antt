@@ -24,7 +24,7 @@ use Rattle.clear_laws.specs.Held.{StaysInFrame, is_guarded_push}
 use Rattle.clear_laws.specs.declared.slots.SlotSeed.{SlotSeed}
 use Rattle.clear_laws.specs.Reach.{links_of}
 use Rattle.clear_laws.specs.Links.{IsTarget, IsLandingSeed, offsets_of}
-use Rattle.store_clear.specs.Settling.{is_local, link_of, seed_of, links_by, seeds_by, SeedComesBelow, AreSeedsTo, AreSlotSeeds, SpreadsAlong}
+use Rattle.store_clear.specs.Conditions.{is_local, link_of, seed_of, links_by, seeds_by, SeedComesBelow, AreSeedsTo, AreSlotSeeds, SpreadsAlong}
 use Rattle.store_clear.proofs.Lists.{chosen_in}
 use Rattle.local_rules.specs.Site.{Task}
 

@@ -22,7 +22,7 @@ use Rattle.certificate.specs.Claims.{Claim}
 use Rattle.clear_laws.specs.Clear.{MayBeTaken}
 use Rattle.clear_laws.specs.Reach.{is_on}
 use Rattle.clear_laws.specs.Verdict.{AreNevers}
-use Rattle.store_clear.specs.Settling.{places_of}
+use Rattle.store_clear.specs.Conditions.{places_of}
 use Rattle.store_clear.specs.Takes.{AreMarkedBeside, is_take, IsTakenBelow, may_take, IsTakenFrom, IsTakenAt}
 use Rattle.store_clear.proofs.Marked.{placed, placing, ascending}
 use Rattle.local_rules.specs.Site.{Task}

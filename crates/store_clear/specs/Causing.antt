@@ -7,11 +7,11 @@ use Rattle.local_rules.specs.declared.local.Node.{Node}
 use Rattle.edge_rules.specs.Families.{RankedFamily}
 use Rattle.certificate.specs.Claims.{Claim}
 use Rattle.clear_laws.specs.Causes.{may_write_protected, may_write_live}
-use Rattle.clear_laws.specs.declared.slots.Asks.{Asks}
+use Rattle.clear_laws.specs.declared.slots.Condition.{Condition}
 use Rattle.clear_laws.specs.declared.place.FlaggedPlace.{FlaggedPlace}
 use Rattle.clear_laws.specs.Places.{word_of, IsPlaceOf}
 use Rattle.clear_laws.specs.Verdict.{AreSites, AreAllClear}
-use Rattle.store_clear.specs.Settling.{ask_at, passes, IsTold}
+use Rattle.store_clear.specs.Conditions.{condition_at, is_discharged, HasConditionsLeft}
 use Rattle.local_rules.specs.Site.{Task}
 use Rattle.clear_laws.specs.Clear.{Store, store_at, may_move, MayBeFlagged}
 use Rattle.store_clear.specs.declared.causes.Other.{Other}
@@ -34,35 +34,35 @@ MayAllBeFlagged task f sites = (pc : ℕ) → Contains sites pc → MayBeFlagged
 -- ---- nodes
 
 -- the node with this key still has a condition, and is at this word
-abbrev pub is_unclear_at : ℕ → NodeKey → Asks → Bool
-is_unclear_at pc k asks = not (passes asks) && (k.pc == pc)
+abbrev pub is_unclear_at : ℕ → NodeKey → Condition → Bool
+is_unclear_at pc k conditions = not (is_discharged conditions) && (k.pc == pc)
 
 -- one of the first nodes still has a condition, is at this word, and passes the test
-pub record PassesBelow (nodes : List Node) (asks : List Asks) (pc : ℕ) (test : Node → Bool) (count : ℕ) : Type 0 where
+pub record PassesBelow (nodes : List Node) (conditions : List Condition) (pc : ℕ) (test : Node → Bool) (count : ℕ) : Type 0 where
   pub at : ℕ
   pub node : Node
   pub below : at < count
   pub is : slice_get nodes at ≡ Some node
-  pub unclear : is_unclear_at pc node.key (ask_at asks at) ≡ true
+  pub unclear : is_unclear_at pc node.key (condition_at conditions at) ≡ true
   pub passes : test node ≡ true
 
-abbrev pub IsProtectedAt : Task → List Node → List Asks → ℕ → Instr → ℕ → ℕ → Type 0
-IsProtectedAt task nodes asks pc instr count a = (a < io_end (device_of task.flash) + 1) × PassesBelow nodes asks pc (λ (n : Node). may_write_protected task (store_at pc n.state instr) a) count
+abbrev pub IsProtectedAt : Task → List Node → List Condition → ℕ → Instr → ℕ → ℕ → Type 0
+IsProtectedAt task nodes conditions pc instr count a = (a < io_end (device_of task.flash) + 1) × PassesBelow nodes conditions pc (λ (n : Node). may_write_protected task (store_at pc n.state instr) a) count
 
 -- a store at the node may write a pushed byte, or IVSEL may be set there
 abbrev pub may_happen : Task → ℕ → Other → ℕ → Instr → Node → Bool
 may_happen task bound Live pc instr n = may_write_live task bound n.key (store_at pc n.state instr)
 may_happen task bound Moves pc instr n = may_move task n.key n.state instr
 
-abbrev pub HappensAt : Task → ℕ → Other → List Node → List Asks → ℕ → Instr → ℕ → Type 0
-HappensAt task bound other nodes asks pc instr count = PassesBelow nodes asks pc (may_happen task bound other pc instr) count
+abbrev pub HappensAt : Task → ℕ → Other → List Node → List Condition → ℕ → Instr → ℕ → Type 0
+HappensAt task bound other nodes conditions pc instr count = PassesBelow nodes conditions pc (may_happen task bound other pc instr) count
 
 -- ---- words
 
 -- the list is right for each certificate of these nodes and conditions
-abbrev pub AreSitesTold : List Node → List Asks → List ℕ → Type 0
-AreSitesTold nodes asks sites =
-    (task : Task) (c : Claim) → IsTold task c nodes asks → AreSites task c sites × ((sites ≡ []) ↔ AreAllClear task c)
+abbrev pub AreSitesTold : List Node → List Condition → List ℕ → Type 0
+AreSitesTold nodes conditions sites =
+    (task : Task) (c : Claim) → HasConditionsLeft task c nodes conditions → AreSites task c sites × ((sites ≡ []) ↔ AreAllClear task c)
 
 -- the first words with their causes
 pub record ArePlacesOf (task : Task) (f : RankedFamily) (sites : List ℕ) (places : List FlaggedPlace) : Type 0 where

@@ -1,7 +1,7 @@
 pub mod Stores
 pub mod Spreading
 pub mod Numbers
-pub mod Settling
+pub mod Conditions
 pub mod Takes
 pub mod Causing
 pub mod ByWord

@@ -4,7 +4,7 @@ ghost use Rattle.std.specs.Prelude.{ℕ, ◌≡◌, ◌<◌, length, get_or, IfO
 ghost use Rattle.avr_model.specs.Image.{WORDS};
 ghost use Rattle.store_clear.specs.ByWord.{AreLinked};
 
-use crate::telling::{ToldNodes, passes};
+use crate::listing::{ListedNodes, is_discharged};
 use avr_model::device::WORDS;
 use std::alloc::{AllocError, Global};
 
@@ -17,18 +17,18 @@ pub(crate) struct ByWord {
 }
 
 // Links the nodes that aren't clear, the last one first.
-fn link_all(told: &ToldNodes<'_>, first: &mut [usize], later: &mut [usize])
-    requires same { length told.now.asks.now ≡ length told.now.nodes.now }
+fn link_all(told: &ListedNodes<'_>, first: &mut [usize], later: &mut [usize])
+    requires same { length told.now.conditions.now ≡ length told.now.nodes.now }
     requires words { length first.old ≡ WORDS }
-    requires each { length later.old ≡ length told.now.asks.now }
-    requires none { (pc : ℕ) → pc < WORDS → get_or first.old pc 0 ≡ length told.now.asks.now }
-    ensures { AreLinked told.now.nodes.now told.now.asks.now 0 first.new later.new }
+    requires each { length later.old ≡ length told.now.conditions.now }
+    requires none { (pc : ℕ) → pc < WORDS → get_or first.old pc 0 ≡ length told.now.conditions.now }
+    ensures { AreLinked told.now.nodes.now told.now.conditions.now 0 first.new later.new }
 {
     let _count = told.nodes.count();
-    let mut at = told.asks.len();
+    let mut at = told.conditions.len();
     while at > 0 {
         at -= 1;
-        if !passes(told.asks[at]) {
+        if !is_discharged(told.conditions[at]) {
             let word = told.nodes.key(at).pc as usize;
             later[at] = first[word];
             first[word] = at;
@@ -37,11 +37,11 @@ fn link_all(told: &ToldNodes<'_>, first: &mut [usize], later: &mut [usize])
 }
 
 // The nodes that aren't clear, by their words. Each node is looked at once.
-pub(crate) fn by_word(alloc: Global, told: &ToldNodes<'_>) -> Result<ByWord, AllocError>
-    requires { length told.now.asks.now ≡ length told.now.nodes.now }
-    ensures { IfOk result (λ l. AreLinked told.now.nodes.now told.now.asks.now 0 l.first.items l.later.items) }
+pub(crate) fn by_word(alloc: Global, told: &ListedNodes<'_>) -> Result<ByWord, AllocError>
+    requires { length told.now.conditions.now ≡ length told.now.nodes.now }
+    ensures { IfOk result (λ l. AreLinked told.now.nodes.now told.now.conditions.now 0 l.first.items l.later.items) }
 {
-    let count = told.asks.len();
+    let count = told.conditions.len();
     let mut first = vec![in alloc; count; WORDS as usize]?;
     let mut later = vec![in alloc; count; count]?;
     link_all(told, first.as_mut_slice(), later.as_mut_slice());

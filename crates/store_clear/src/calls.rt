@@ -2,12 +2,13 @@
 
 ghost use Rattle.std.specs.Prelude.{◌≡◌, None, filter};
 ghost use Rattle.std.specs.List.{list_any};
-ghost use Rattle.avr_model.specs.Assumptions.{lists};
+ghost use Rattle.avr_model.specs.Assumptions.{lists, jump_line};
 ghost use Rattle.avr_model.specs.Devices.{device_of};
 ghost use Rattle.family_edges.specs.Tasks.{task_of};
 ghost use Rattle.clear_laws.specs.Clear.{or_none, is_cut, calls_cut};
 ghost use Rattle.local_rules.specs.Flow.{words_on, targets_by, z_with};
 
+use crate::need::target_bank;
 use abs_state::AbsState;
 use assumption_files::targets_on;
 use avr_decode::far;
@@ -56,6 +57,16 @@ fn is_permitted_cut(task: &Task<'_>, state: &AbsState, bank: TriByte) -> bool
     }
 }
 
+// Whether `icall` or `eicall` with this third byte calls such a word.
+fn is_pointed_cut(task: &Task<'_>, key: &NodeKey, state: &AbsState, bank: TriByte) -> bool
+    ensures { result ≡ list_any (is_cut task.now.assumptions.now) (or_none (targets_by (device_of task.now.flash.now) (jump_line task.now.assumptions.now key.now.pc) (z_with state.now bank))) }
+{
+    match task.assumptions.jumps(key.pc) {
+        Some(listed) => is_listed_cut(task, state, bank, listed),
+        None => is_permitted_cut(task, state, bank),
+    }
+}
+
 // Whether an instruction calls such a word.
 pub(crate) fn calls_cut(task: &Task<'_>, key: &NodeKey, state: &AbsState, instr: &Instr) -> bool
     ensures { result ≡ calls_cut (task_of task.now) key.now state.now instr.now }
@@ -66,10 +77,9 @@ pub(crate) fn calls_cut(task: &Task<'_>, key: &NodeKey, state: &AbsState, instr:
         Instr::Rcall(target) => {
             !task.flash.is_scratch(key.pc) && is_cut(task, device.wrap(far(key.pc, target.get())))
         }
-        Instr::Icall => match task.assumptions.jumps(key.pc) {
-            Some(listed) => is_listed_cut(task, state, TriByte::of(0), listed),
-            None => is_permitted_cut(task, state, TriByte::of(0)),
-        },
+        Instr::Icall | Instr::Eicall => {
+            is_pointed_cut(task, key, state, target_bank(state, instr))
+        }
         _ => false,
     }
 }

@@ -8,7 +8,7 @@ ghost use Rattle.avr_model.specs.Step as steps;
 ghost use Rattle.certificate.specs.Valid.{family_of};
 ghost use Rattle.clear_laws.specs.Clear.{MayBeFlagged};
 ghost use Rattle.clear_laws.specs.Places.{IsPlaceOf};
-ghost use Rattle.store_clear.specs.Settling.{IsTold};
+ghost use Rattle.store_clear.specs.Conditions.{HasConditionsLeft};
 ghost use Rattle.store_clear.specs.Takes.{AreMarkedBeside};
 ghost use Rattle.store_clear.specs.Causing.{IsProtectedAt, may_happen, HappensAt, ArePlacesOf, IsProtectedWrite, MayAllBeFlagged};
 ghost use Rattle.store_clear.specs.ByWord.{AreLinked, IsAskChain};
@@ -16,10 +16,10 @@ ghost use Rattle.family_edges.specs.Tasks.{task_of};
 ghost use Rattle.store_clear.specs.Stores.{task_in, store_of};
 
 use crate::by_word::{ByWord, by_word};
+use crate::listing::ListedNodes;
 use crate::moving::may_move;
 use crate::need::is_unfixed;
 use crate::store::GivenStore;
-use crate::telling::ToldNodes;
 use crate::words::addresses;
 use crate::writes::{may_write_live, may_write_protected};
 use abs_state::AbsState;
@@ -55,15 +55,15 @@ fn mark_addresses(store: &GivenStore<'_>, marks: &mut [bool])
 }
 
 // Marks the addresses of all nodes there that aren't clear.
-fn mark_nodes(task: &Task<'_>, told: &ToldNodes<'_>, site: &WordSite<'_>, marks: &mut [bool])
-    requires same { length told.now.asks.now ≡ length told.now.nodes.now }
-    requires chain { IsAskChain told.now.nodes.now told.now.asks.now site.now.pc site.now.first site.now.later.now }
+fn mark_nodes(task: &Task<'_>, told: &ListedNodes<'_>, site: &WordSite<'_>, marks: &mut [bool])
+    requires same { length told.now.conditions.now ≡ length told.now.nodes.now }
+    requires chain { IsAskChain told.now.nodes.now told.now.conditions.now site.now.pc site.now.first site.now.later.now }
     requires all { length marks.old ≡ io_end (device_of task.now.flash.now) + 1 }
-    ensures { AreMarkedBeside (IsProtectedAt (task_of task.now) told.now.nodes.now told.now.asks.now site.now.pc site.now.instr.now (length told.now.asks.now)) marks.old marks.new }
+    ensures { AreMarkedBeside (IsProtectedAt (task_of task.now) told.now.nodes.now told.now.conditions.now site.now.pc site.now.instr.now (length told.now.conditions.now)) marks.old marks.new }
 {
     let _count = told.nodes.count();
     let mut at = site.first;
-    while at < told.asks.len() {
+    while at < told.conditions.len() {
         let store = GivenStore {
             flash: task.flash,
             assumptions: task.assumptions,
@@ -79,12 +79,12 @@ fn mark_nodes(task: &Task<'_>, told: &ToldNodes<'_>, site: &WordSite<'_>, marks:
 // The protected addresses that stores at some node there, which isn't clear, may write; ascending.
 fn protected_of(
     task: &Task<'_>,
-    told: &ToldNodes<'_>,
+    told: &ListedNodes<'_>,
     site: &WordSite<'_>,
 ) -> Result<Listed<u16>, AllocError>
-    requires same { length told.now.asks.now ≡ length told.now.nodes.now }
-    requires chain { IsAskChain told.now.nodes.now told.now.asks.now site.now.pc site.now.first site.now.later.now }
-    ensures exact { IfOk result (λ list. (a : ℕ) → Contains list a ↔ IsProtectedAt (task_of task.now) told.now.nodes.now told.now.asks.now site.now.pc site.now.instr.now (length told.now.asks.now) a) }
+    requires same { length told.now.conditions.now ≡ length told.now.nodes.now }
+    requires chain { IsAskChain told.now.nodes.now told.now.conditions.now site.now.pc site.now.first site.now.later.now }
+    ensures exact { IfOk result (λ list. (a : ℕ) → Contains list a ↔ IsProtectedAt (task_of task.now) told.now.nodes.now told.now.conditions.now site.now.pc site.now.instr.now (length told.now.conditions.now) a) }
     ensures ascending { IfOk result (λ list. IsStrictlySortedBy nat_cmp list) }
 {
     let count = usize::from(task.flash.device().io_end()) + 1;
@@ -131,18 +131,18 @@ fn may_happen(
 fn happens_at(
     task: &Task<'_>,
     bound: u16,
-    told: &ToldNodes<'_>,
+    told: &ListedNodes<'_>,
     site: &WordSite<'_>,
     other: Other,
 ) -> bool
-    requires same { length told.now.asks.now ≡ length told.now.nodes.now }
-    requires chain { IsAskChain told.now.nodes.now told.now.asks.now site.now.pc site.now.first site.now.later.now }
+    requires same { length told.now.conditions.now ≡ length told.now.nodes.now }
+    requires chain { IsAskChain told.now.nodes.now told.now.conditions.now site.now.pc site.now.first site.now.later.now }
     requires small { bound ≤ size_of (device_of task.now.flash.now) }
-    ensures { (result ≡ true) ↔ HappensAt (task_of task.now) bound other told.now.nodes.now told.now.asks.now site.now.pc site.now.instr.now (length told.now.asks.now) }
+    ensures { (result ≡ true) ↔ HappensAt (task_of task.now) bound other told.now.nodes.now told.now.conditions.now site.now.pc site.now.instr.now (length told.now.conditions.now) }
 {
     let _count = told.nodes.count();
     let mut at = site.first;
-    while at < told.asks.len() {
+    while at < told.conditions.len() {
         let (key, state) = (told.nodes.key(at), told.nodes.state(at));
         if may_happen(task, bound, key, state, site, other) {
             return true;
@@ -158,7 +158,7 @@ fn is_transfer(instr: &Instr) -> bool
     ensures { result ≡ (steps.is_indirect instr.now || steps.is_call instr.now) }
 {
     match instr {
-        Instr::Ijmp | Instr::Icall => true,
+        Instr::Ijmp | Instr::Icall | Instr::Eijmp | Instr::Eicall => true,
         Instr::Call(_) | Instr::Rcall(_) => true,
         _ => false,
     }
@@ -168,13 +168,13 @@ fn is_transfer(instr: &Instr) -> bool
 fn place_at(
     task: &Task<'_>,
     certificate: &Certificate,
-    told: &ToldNodes<'_>,
+    told: &ListedNodes<'_>,
     links: &ByWord,
     pc: u32,
 ) -> Result<FlaggedPlace, AllocError>
-    requires linked { AreLinked told.now.nodes.now told.now.asks.now 0 links.now.first.items links.now.later.items }
+    requires linked { AreLinked told.now.nodes.now told.now.conditions.now 0 links.now.first.items links.now.later.items }
     requires small { certificate.now.bound ≤ size_of (device_of task.now.flash.now) }
-    requires told { IsTold (task_of task.now) certificate.now told.now.nodes.now told.now.asks.now }
+    requires told { HasConditionsLeft (task_of task.now) certificate.now told.now.nodes.now told.now.conditions.now }
     requires site { MayBeFlagged (task_of task.now) (family_of certificate.now told.now.nodes.now) pc }
     ensures word { IfOk result (λ place. place.word ≡ pc) }
     ensures exact { IfOk result (λ p. IsPlaceOf (task_of task.now) (family_of certificate.now told.now.nodes.now) p) }
@@ -214,13 +214,13 @@ fn place_at(
 fn places_by(
     task: &Task<'_>,
     certificate: &Certificate,
-    told: &ToldNodes<'_>,
+    told: &ListedNodes<'_>,
     links: &ByWord,
     sites: &[u32],
 ) -> Result<Listed<FlaggedPlace>, AllocError>
-    requires linked { AreLinked told.now.nodes.now told.now.asks.now 0 links.now.first.items links.now.later.items }
+    requires linked { AreLinked told.now.nodes.now told.now.conditions.now 0 links.now.first.items links.now.later.items }
     requires small { certificate.now.bound ≤ size_of (device_of task.now.flash.now) }
-    requires told { IsTold (task_of task.now) certificate.now told.now.nodes.now told.now.asks.now }
+    requires told { HasConditionsLeft (task_of task.now) certificate.now told.now.nodes.now told.now.conditions.now }
     requires sites { MayAllBeFlagged (task_of task.now) (family_of certificate.now told.now.nodes.now) sites.now }
     ensures { IfOk result (ArePlacesOf (task_of task.now) (family_of certificate.now told.now.nodes.now) sites.now) }
 {
@@ -236,11 +236,11 @@ fn places_by(
 pub(crate) fn places_at(
     task: &Task<'_>,
     certificate: &Certificate,
-    told: &ToldNodes<'_>,
+    told: &ListedNodes<'_>,
     sites: &[u32],
 ) -> Result<Listed<FlaggedPlace>, AllocError>
     requires small { certificate.now.bound ≤ size_of (device_of task.now.flash.now) }
-    requires told { IsTold (task_of task.now) certificate.now told.now.nodes.now told.now.asks.now }
+    requires told { HasConditionsLeft (task_of task.now) certificate.now told.now.nodes.now told.now.conditions.now }
     requires sites { MayAllBeFlagged (task_of task.now) (family_of certificate.now told.now.nodes.now) sites.now }
     ensures { IfOk result (ArePlacesOf (task_of task.now) (family_of certificate.now told.now.nodes.now) sites.now) }
 {

@@ -12,8 +12,8 @@ ghost use Rattle.family_edges.specs.Tasks.{task_of};
 ghost use Rattle.local_rules.specs.Site.{bare};
 
 use crate::causes::places_at;
+use crate::listing::{ListedNodes, listed};
 use crate::takes::mark_takes;
-use crate::telling::{ToldNodes, tell};
 use crate::words::{first_unclear, places, sites_of};
 use avr_model::device::WORDS;
 use avr_model::listed::Listed;
@@ -45,8 +45,8 @@ pub fn clear_family(
 {
     words_have_16_bits(task.flash.words());
     let _nodes = certificate.nodes();
-    let asks = tell(task, certificate, family)?;
-    match first_unclear(&asks) {
+    let conditions = listed(task, certificate, family)?;
+    match first_unclear(&conditions) {
         None => Ok(ClearVerdict::Clear),
         Some(at) => Ok(ClearVerdict::Unclear(at as u32, family.nodes.key(at).pc)),
     }
@@ -71,10 +71,10 @@ pub fn flagged_sites_in(
 {
     words_have_16_bits(task.flash.words());
     let _nodes = certificate.nodes();
-    let asks = tell(task, certificate, family)?;
-    let told = ToldNodes {
+    let conditions = listed(task, certificate, family)?;
+    let told = ListedNodes {
         nodes: &family.nodes,
-        asks: asks.as_slice(),
+        conditions: conditions.as_slice(),
     };
     sites_of(task.alloc, &told)
 }
@@ -97,10 +97,10 @@ pub fn flagged_places_in(
 {
     words_have_16_bits(task.flash.words());
     let _nodes = certificate.nodes();
-    let asks = tell(task, certificate, family)?;
-    let told = ToldNodes {
+    let conditions = listed(task, certificate, family)?;
+    let told = ListedNodes {
         nodes: &family.nodes,
-        asks: asks.as_slice(),
+        conditions: conditions.as_slice(),
     };
     let sites = sites_of(task.alloc, &told)?;
     places_at(task, certificate, &told, sites.as_slice())

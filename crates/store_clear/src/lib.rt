@@ -1,6 +1,6 @@
 //! Which nodes of a certificate may flag a step: the least of them, and all words at which one lies, with what may happen there. Where the
-//! store of one node goes and what it asks of its slots comes first (`aims` to `writes`), then where slots spread (`reach`, `spreading`),
-//! then which nodes get what they ask (`settling`, `telling`), and what is told of their words (`words` to `causes`). Source: own.
+//! store of one node goes and what it conditions of its slots comes first (`aims` to `writes`), then where slots spread (`reach`, `spreading`),
+//! then which nodes get what they ask (`discharging`, `listing`), and what is told of their words (`words` to `causes`). Source: own.
 #![tactic(auto)]
 
 mod aims;
@@ -8,15 +8,15 @@ mod by_word;
 mod calls;
 mod causes;
 pub mod clearing;
+mod discharging;
+mod listing;
 mod moving;
 mod need;
 mod numbers;
 mod reach;
-mod settling;
 mod spreading;
 mod store;
 mod takes;
-mod telling;
 mod words;
 mod writes;
 

@@ -2,10 +2,11 @@
 
 ghost use Rattle.std.specs.Prelude.{◌≡◌, ◌≤◌, ◌&&◌, not, ℕ, Bool, Some};
 ghost use Rattle.avr_model.specs.Assumptions as assumed;
+ghost use Rattle.avr_model.specs.Bits.{all_below};
 ghost use Rattle.avr_model.specs.Devices.{device_of, size_of};
 ghost use Rattle.avr_model.specs.Sites.{instruction_at};
 ghost use Rattle.avr_model.specs.Step as steps;
-ghost use Rattle.clear_laws.specs.Clear.{stored_bits, is_guarded, is_flagged_address, is_address_harmless, is_reach_harmless, is_aim_harmless, permits_pair, is_target_listed, are_targets_listed, is_transfer_listed, calls_cut, may_move, is_clear_by, store_at, is_slot_harmless};
+ghost use Rattle.clear_laws.specs.Clear.{stored_bits, is_guarded, is_flagged_address, is_address_harmless, is_reach_harmless, is_aim_harmless, permits_pair, target_bank, is_target_listed, is_bank_listed, are_targets_listed, is_transfer_listed, calls_cut, may_move, is_clear_by, store_at, is_slot_harmless};
 ghost use Rattle.clear_laws.specs.Needs.{meets};
 ghost use Rattle.family_edges.specs.Tasks.{task_of};
 ghost use Rattle.store_clear.specs.Stores.{task_in, store_of};
@@ -17,27 +18,41 @@ use crate::moving::may_move;
 use crate::numbers::are_addresses_harmless;
 use crate::store::GivenStore;
 use abs_state::AbsState;
+use avr_model::device::EIND;
 use avr_model::instruction::{Base, Instr, LowRegister};
 use bit_domain::TriByte;
-use clear_laws::slots::Asks;
+use clear_laws::slots::Condition;
 use clear_laws::stores::{Aim, Reach, Span};
 use family_edges::Task;
 use flash_image::Flash;
 use local_reads::members::permits_number;
 use local_reads::pointers::has;
-use local_rows::registers::{bits, pair};
+use local_rows::registers::{bits, pair, value_at};
 use local_rows::transfer::base_register;
 use node_keys::{NodeKey, may_enable_barred};
 use vector_table::{is_core, is_protected};
 
-// Whether this is `ijmp` or `icall`.
+// Whether this is `ijmp`, `icall`, `eijmp` or `eicall`.
 pub(crate) fn is_indirect(instr: &Instr) -> bool
     ensures { result ≡ steps.is_indirect instr.now }
 {
     match instr {
         Instr::Ijmp => true,
         Instr::Icall => true,
+        Instr::Eijmp => true,
+        Instr::Eicall => true,
         _ => false,
+    }
+}
+
+// The third byte of an indirect transfer's target: EIND, or 0.
+pub(crate) fn target_bank(state: &AbsState, instr: &Instr) -> TriByte
+    ensures { result ≡ target_bank state.now instr.now }
+{
+    match instr {
+        Instr::Eijmp => value_at(&state.registers, EIND).bits,
+        Instr::Eicall => value_at(&state.registers, EIND).bits,
+        _ => TriByte::of(0),
     }
 }
 
@@ -127,20 +142,25 @@ fn is_reach_harmless(store: &GivenStore<'_>, bound: u16, reach: Reach) -> bool
 }
 
 // The condition of a store.
-fn asks_of_aim(store: &GivenStore<'_>, bound: u16, key: &NodeKey, aim: Option<Aim>) -> Asks
+fn condition_of_aim(
+    store: &GivenStore<'_>,
+    bound: u16,
+    key: &NodeKey,
+    aim: Option<Aim>,
+) -> Condition
     requires at { store.now.pc ≡ key.now.pc }
     requires small { bound ≤ size_of (device_of store.now.flash.now) }
     ensures { (held : ℕ → Bool) → is_aim_harmless (task_in store.now) bound (store_at key.now.pc store.now.state.now store.now.instr.now) (is_slot_harmless (offset_of key.now.sp) held) aim ≡ meets result held }
 {
     let Some(aim) = aim else {
-        return Asks::Nothing;
+        return Condition::Always;
     };
     if is_reach_harmless(store, bound, aim.reach) || are_addresses_harmless(store, bound) {
-        return Asks::Nothing;
+        return Condition::Always;
     }
     match aim.slot {
-        Some(slot) if slot < key.offset() => Asks::Free(slot),
-        _ => Asks::Never,
+        Some(slot) if slot < key.offset() => Condition::SlotFree(slot),
+        _ => Condition::Never,
     }
 }
 
@@ -157,20 +177,40 @@ fn permits_pair(state: &AbsState, r: LowRegister, number: u16) -> bool
     }
 }
 
-// Whether the target of Z with this number is listed, if the number is permitted.
-fn is_target_listed(flash: &Flash, state: &AbsState, listed: &[u32], z: u16) -> bool
-    ensures { result ≡ is_target_listed (device_of flash.now) state.now listed.now z }
+// Whether the target with this third byte and this number of Z is listed, if the number is permitted.
+fn is_target_listed(flash: &Flash, state: &AbsState, listed: &[u32], third: u8, z: u16) -> bool
+    ensures { result ≡ is_target_listed (device_of flash.now) state.now listed.now third z }
 {
     let permitted = permits_pair(state, base_register(Base::Z), z);
-    !permitted || lists_word(listed, flash.device().wrap(u32::from(z)))
+    let word = 65536 * u32::from(third) + u32::from(z);
+    !permitted || lists_word(listed, flash.device().wrap(word))
 }
 
-// Whether all possible targets of Z are listed.
-fn are_targets_listed(flash: &Flash, state: &AbsState, listed: &[u32]) -> bool
-    ensures { result ≡ are_targets_listed (device_of flash.now) state.now (Some listed.now) }
+// Whether all possible targets with this third byte are listed.
+fn are_words_listed(flash: &Flash, state: &AbsState, listed: &[u32], third: u8) -> bool
+    ensures { result ≡ all_below 65536 (is_target_listed (device_of flash.now) state.now listed.now third) }
 {
     for z in 0..65536u32 {
-        if !is_target_listed(flash, state, listed, z as u16) {
+        if !is_target_listed(flash, state, listed, third, z as u16) {
+            return false;
+        }
+    }
+    true
+}
+
+// The same, if these bits permit the third byte.
+fn is_bank_listed(flash: &Flash, state: &AbsState, bank: TriByte, listed: &[u32], third: u8) -> bool
+    ensures { result ≡ is_bank_listed (device_of flash.now) state.now bank listed.now third }
+{
+    !has(bank, third) || are_words_listed(flash, state, listed, third)
+}
+
+// Whether all possible targets are listed.
+fn are_targets_listed(flash: &Flash, state: &AbsState, bank: TriByte, listed: &[u32]) -> bool
+    ensures { result ≡ are_targets_listed (device_of flash.now) state.now bank (Some listed.now) }
+{
+    for third in 0..flash.device().eind_most() + 1 {
+        if !is_bank_listed(flash, state, bank, listed, third) {
             return false;
         }
     }
@@ -186,7 +226,7 @@ fn is_transfer_listed(task: &Task<'_>, pc: u32, state: &AbsState, instr: &Instr)
     }
     match task.assumptions.jumps(pc) {
         None => true,
-        Some(listed) => are_targets_listed(task.flash, state, listed),
+        Some(listed) => are_targets_listed(task.flash, state, target_bank(state, instr), listed),
     }
 }
 
@@ -200,12 +240,17 @@ fn stays(task: &Task<'_>, key: &NodeKey, state: &AbsState, instr: &Instr) -> boo
 }
 
 // A node's condition for being clear, if the stack takes at most this many bytes.
-pub(crate) fn asked_by(task: &Task<'_>, bound: u16, key: &NodeKey, state: &AbsState) -> Asks
+pub(crate) fn condition_by(
+    task: &Task<'_>,
+    bound: u16,
+    key: &NodeKey,
+    state: &AbsState,
+) -> Condition
     requires { bound ≤ size_of (device_of task.now.flash.now) }
     ensures { (held : ℕ → Bool) → is_clear_by (task_of task.now) bound (record { key = key.now; state = state.now }) held (instruction_at task.now.flash.now key.now.pc) ≡ meets result held }
 {
     match task.flash.instruction(key.pc) {
-        None => Asks::Nothing,
+        None => Condition::Always,
         Some(instr) => {
             let aim = aim(task.flash.device(), key, state, &instr);
             if stays(task, key, state, &instr) {
@@ -216,9 +261,9 @@ pub(crate) fn asked_by(task: &Task<'_>, bound: u16, key: &NodeKey, state: &AbsSt
                     state,
                     instr: &instr,
                 };
-                asks_of_aim(&store, bound, key, aim)
+                condition_of_aim(&store, bound, key, aim)
             } else {
-                Asks::Never
+                Condition::Never
             }
         }
     }

@@ -4,7 +4,7 @@ ghost use Rattle.std.specs.Prelude.{◌≡◌, ◌++◌, map, IfOk, OnOk};
 ghost use Rattle.family_edges.specs.Landings.{AreLandings};
 ghost use Rattle.clear_laws.specs.Held as held;
 ghost use Rattle.clear_laws.specs.Links.{offsets_of};
-ghost use Rattle.store_clear.specs.Settling.{links_by, seeds_by, AreSlotSeeds, SpreadsAlong};
+ghost use Rattle.store_clear.specs.Conditions.{links_by, seeds_by, AreSlotSeeds, SpreadsAlong};
 ghost use Rattle.family_edges.specs.Tasks.{task_of};
 
 use avr_model::instruction::Instr;

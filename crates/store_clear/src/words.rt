@@ -2,21 +2,21 @@
 
 ghost use Rattle.std.specs.Prelude.{◌≡◌, ◌≤◌, length, IfOk};
 ghost use Rattle.avr_model.specs.Image.{WORDS};
-ghost use Rattle.store_clear.specs.Settling.{IsFirstAsking, AreWordsMarked, places_of};
+ghost use Rattle.store_clear.specs.Conditions.{IsFirstLeft, AreWordsMarked, places_of};
 ghost use Rattle.store_clear.specs.Causing.{AreSitesTold};
 
-use crate::telling::{ToldNodes, passes};
+use crate::listing::{ListedNodes, is_discharged};
 use avr_model::device::WORDS;
 use avr_model::listed::Listed;
-use clear_laws::slots::Asks;
+use clear_laws::slots::Condition;
 use std::alloc::{AllocError, Global};
 
 // The number of the first node with a condition left.
-pub(crate) fn first_unclear(asks: &[Asks]) -> Option<usize>
-    ensures { IsFirstAsking asks.now result }
+pub(crate) fn first_unclear(conditions: &[Condition]) -> Option<usize>
+    ensures { IsFirstLeft conditions.now result }
 {
-    for at in 0..asks.len() {
-        if !passes(asks[at]) {
+    for at in 0..conditions.len() {
+        if !is_discharged(conditions[at]) {
             return Some(at);
         }
     }
@@ -24,14 +24,14 @@ pub(crate) fn first_unclear(asks: &[Asks]) -> Option<usize>
 }
 
 // Marks the words of nodes with a condition left.
-fn mark_words(told: &ToldNodes<'_>, marks: &mut [bool])
-    requires same { length told.now.asks.now ≡ length told.now.nodes.now }
+fn mark_words(told: &ListedNodes<'_>, marks: &mut [bool])
+    requires same { length told.now.conditions.now ≡ length told.now.nodes.now }
     requires all { length marks.old ≡ WORDS }
-    ensures { AreWordsMarked told.now.nodes.now told.now.asks.now (length told.now.asks.now) marks.old marks.new }
+    ensures { AreWordsMarked told.now.nodes.now told.now.conditions.now (length told.now.conditions.now) marks.old marks.new }
 {
     let _count = told.nodes.count();
-    for at in 0..told.asks.len() {
-        if !passes(told.asks[at]) {
+    for at in 0..told.conditions.len() {
+        if !is_discharged(told.conditions[at]) {
             marks[told.nodes.key(at).pc as usize] = true;
         }
     }
@@ -66,9 +66,9 @@ pub(crate) fn addresses(alloc: Global, marks: &[bool]) -> Result<Listed<u16>, Al
 }
 
 // The words at which some node isn't clear, ascending and without repeats.
-pub(crate) fn sites_of(alloc: Global, told: &ToldNodes<'_>) -> Result<Listed<u32>, AllocError>
-    requires { length told.now.asks.now ≡ length told.now.nodes.now }
-    ensures { IfOk result (λ sites. AreSitesTold told.now.nodes.now told.now.asks.now sites) }
+pub(crate) fn sites_of(alloc: Global, told: &ListedNodes<'_>) -> Result<Listed<u32>, AllocError>
+    requires { length told.now.conditions.now ≡ length told.now.nodes.now }
+    ensures { IfOk result (λ sites. AreSitesTold told.now.nodes.now told.now.conditions.now sites) }
 {
     let mut marks = vec![in alloc; false; WORDS as usize]?;
     mark_words(told, marks.as_mut_slice());

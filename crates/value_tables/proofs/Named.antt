@@ -7,7 +7,7 @@ use Rattle.abs_state.specs.Values.{value_at}
 use Rattle.abs_state.specs.Formed.{NamesRegister}
 
 abbrev pub AllName : List AbsByte → Type 0
-AllName vs = (r : ℕ) → r < 32 → NamesRegister (value_at vs r).tag
+AllName vs = (r : ℕ) → r < 34 → NamesRegister (value_at vs r).tag
 
 value_at-set_same : (vs : List AbsByte) (n : ℕ) (v : AbsByte) → n < length vs → value_at (slice_set vs n v) n ≡ v
 value_at-set_same vs n v h = grind (arith, elements)

@@ -15,7 +15,7 @@ use Rattle.avr_model.specs.Step.{Answer, Illegal, Overflow, Done, step, go, take
 use Rattle.avr_model.specs.Run.{Machine, HasBytes, IsRun, starting, depth_of, moved_on}
 use Rattle.stimulus.specs.Driving.{machine_after}
 use Rattle.stimulus.specs.Laws.{DepthIsKept}
-use Rattle.trial_runs.proofs.AllLaws.{depth_from_reset}
+use Rattle.stimulus.proofs.AllLaws.{depth_from_reset}
 use Rattle.witness_search.specs.declared.waypoint.Waypoint.{Waypoint}
 use Rattle.witness_search.specs.Waypoints.{fits_way, interrupt_of, due_at, pick_due, due_left}
 use Rattle.witness_search.specs.Trials.{trial_by}

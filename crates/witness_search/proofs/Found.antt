@@ -16,11 +16,11 @@ use Rattle.witness_replay.specs.Replay.{replay_from, report_unless, steps_of}
 use Rattle.certificate.specs.Valid.{Attains}
 use Rattle.witness_search.specs.declared.waypoint.Waypoint.{Waypoint}
 use Rattle.witness_search.specs.Waypoints.{pick_due, due_left}
-use Rattle.trial_runs.specs.Length.{most_trial_steps}
+use Rattle.stimulus.specs.TrialLength.{most_trial_steps}
 use Rattle.witness_search.specs.Attempts.{IsAttempt, IsAttempted}
 use Rattle.witness_search.specs.Trials.{fills, trial_by, trial_of, Succeeds, NoneSucceeds, IsTried, IsFound}
 use Rattle.witness_search.specs.Laws.{TrialsAreShort}
-use Rattle.trial_runs.proofs.AllLaws.{few, ends_well, run_legal}
+use Rattle.stimulus.proofs.AllLaws.{few, ends_well, run_legal}
 use Rattle.local_rules.specs.Site.{Task}
 
 steps_are : most_trial_steps ≡ 200000

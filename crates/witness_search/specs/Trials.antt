@@ -7,7 +7,7 @@ use Rattle.avr_model.specs.State.{filled}
 use Rattle.avr_model.specs.Run.{starting, depth_of}
 use Rattle.stimulus.specs.Driving.{choices_by}
 use Rattle.witness_replay.specs.Spelling.{Plan, IsSchedule, choices_of}
-use Rattle.trial_runs.specs.Length.{most_trial_steps}
+use Rattle.stimulus.specs.TrialLength.{most_trial_steps}
 use Rattle.witness_search.specs.declared.waypoint.Waypoint.{Waypoint}
 use Rattle.witness_search.specs.Waypoints.{pick_due, due_left}
 use Rattle.local_rules.specs.Site.{Task}

@@ -14,7 +14,7 @@ use avr_model::listed::Listed;
 use family_edges::Task;
 use std::alloc::AllocError;
 use stimulus::laws::depth_is_kept;
-use trial_runs::most_trial_steps;
+use stimulus::most_trial_steps;
 use witness_replay::Schedule;
 
 // The next choice of a trial, and the waypoints left after it: the next waypoint's interrupt if it is due, else an instruction with the

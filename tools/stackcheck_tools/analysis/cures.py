@@ -128,7 +128,7 @@ CURES = {
         "`jmp` or `call` on a device that has none: the file was linked for another one",
         "`--device` with the device that it was linked for"),
     "group": (
-        "`refused 5` with an opcode of `mul`, `movw`, `lpm` with a register, `elpm` or `break`, which the device lacks",
+        "`refused 5` with an opcode of `mul`, `movw`, `lpm` with a register, `elpm`, `eijmp` or `break`, which the device lacks",
         "a library or assembly for another device, or the file was linked for one",
         "libraries and assembly for this device; `--device` with the device that it was linked for"),
     "unsupported": (
@@ -156,7 +156,7 @@ CURES = {
         "the pointer of the store is not known",
         "a `store` line with the registers in place of the `prove` line"),
 }
-REFUSAL = re.compile(r"refused (\d) (\S+)(?: of (\d+))?(?: at ([0-9A-F]{4}))?(?: (.*))?$")
+REFUSAL = re.compile(r"refused (\d) (\S+)(?: of (\d+))?(?: at ([0-9A-F]{4,5}))?(?: (.*))?$")
 
 
 def parts(refusal: str) -> Tuple[str, str, Optional[str], Optional[str], Optional[str]]:

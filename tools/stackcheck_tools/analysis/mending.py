@@ -35,7 +35,7 @@ class Analysis:
     """Calls of the program on a firmware under lines, which may grow."""
 
     def __init__(self, firmware: Firmware, folder: str, text: str) -> None:
-        self.firmware, self.folder, self.lines = firmware, folder, Lines(text)
+        self.firmware, self.folder, self.lines = firmware, folder, Lines(firmware.device, text)
         self.elf, self.device = firmware.elf, firmware.device
 
     def program(self, lines: Optional[Lines] = None) -> Program:
@@ -155,7 +155,7 @@ class Mending(Analysis):
 
     def knows(self, kind: str, site: int, items: Iterable[int] = ()) -> bool:
         """Whether the program knows a kind of lines."""
-        lines = Lines()
+        lines = Lines(self.device)
         lines.put(site, kind, items)
         status, _ = self.program(lines).call("simulate", os.devnull)  # which reads the assumption file first
         return status == DEVICES

@@ -115,7 +115,7 @@ class Nodes:
     """The nodes of a certificate by their words, with the values of the registers that each begins with."""
 
     def __init__(self, elf: Elf, certificate: str) -> None:
-        self.elf, self.has_pairs = elf, "\npairs\n" in certificate
+        self.elf, self.has_pairs, self.banks = elf, "\npairs\n" in certificate, len(elf.chip.banks)
         self.lines: List[List[str]] = []
         self.told: Dict[int, List[Value]] = {}
         self.at: Dict[int, List[int]] = {}
@@ -148,7 +148,7 @@ class Nodes:
         """The least and the greatest number of a pair that its interval leaves, where the node says one itself."""
         words = self.lines[number]
         if self.has_pairs and words[8] != "from":
-            pairs = words[45]
+            pairs = words[45 + self.banks]
             for at in range(0, len(pairs) - 9, 10):
                 if int(pairs[at:at + 2], 16) == register:
                     return int(pairs[at + 2:at + 6], 16), int(pairs[at + 6:at + 10], 16)

@@ -12,7 +12,7 @@ from stackcheck_tools.analysis import causes, cures, cycles, refusals, warnings_
 from stackcheck_tools.analysis.mending import Mending
 from stackcheck_tools.analysis.program import OK, USAGE, NoProgram, Program
 from stackcheck_tools.analysis.telling import Written, flagged, lines_for, narrower, others, written
-from stackcheck_tools.analysis.trials import INPUTS, Run, Stop, reads_inputs
+from stackcheck_tools.analysis.trials import Run, Stop
 from stackcheck_tools.analysis.widening import Lists
 from stackcheck_tools.firmware import intel_hex
 from stackcheck_tools.firmware.firmware import Firmware
@@ -103,7 +103,7 @@ def refuse(firmware: Firmware, spec: str, given: str, work: Mending) -> Refused:
     _, found.cause, found.cure = cures.CURES[name]
     if word is not None:
         vector = cures.parts(refusal)[2]
-        found.places.append(f"{word:04X} " + (firmware.handler(int(vector)) if vector else firmware.place(word)))
+        found.places.append(firmware.device.word(word) + " " + (firmware.handler(int(vector)) if vector else firmware.place(word)))
     found.places += others(firmware, work, name, word)
     found.reasons = refusals.reasons(firmware, work, refusal) or list(refusals.of_cause(firmware, name))
     found.cause, found.cure = refusals.overriding(name, found.reasons) or (found.cause, found.cure)
@@ -167,8 +167,6 @@ def tell_premises(found: Accepted, program: Program, certificate: str) -> None:
     elif found.firmware.device.moving and found.firmware.device.is_first() and not found.own.has_masks():
         found.rests_on.append(NOT_MOVED)
     found.rests_on += narrower(found.firmware, found.lists, found.own)
-    if reads_inputs(found.firmware.elf, found.firmware.device):
-        found.rests_on.append(INPUTS)
     if lines is None:
         found.rests_on.append("This stackbound does not list the places where a step may be flagged; the tool `flagged` finds some.")
 

@@ -39,8 +39,8 @@ class Place:
     """One entry: `title` (what it is), its source (path and line, or None), the text of that line, its words, what may happen there with
     the lines of a spec that close it, and the line that judges it."""
 
-    def __init__(self, key: Key, title: str, source: Optional[Tuple[str, int]] = None) -> None:
-        self.key, self.title, self.source, self.cause, self.may_enable = key, title, source, Cause(), False
+    def __init__(self, device: Device, key: Key, title: str, source: Optional[Tuple[str, int]] = None) -> None:
+        self.device, self.key, self.title, self.source, self.cause, self.may_enable = device, key, title, source, Cause(), False
         self.words: List[int] = []
         self.kinds: Dict[Union[int, str], str] = {}  # by words, and by the names of fuses
         self.warned: List[str] = []
@@ -56,7 +56,7 @@ class Place:
 
     def count(self) -> str:
         many = f"{len(self.words)} instruction{'' if len(self.words) == 1 else 's'}"
-        return many + " at " + " ".join(f"{it:04X}" for it in self.words[:MOST_WORDS]) + (" .." if len(self.words) > MOST_WORDS else "")
+        return many + " at " + " ".join(map(self.device.word, self.words[:MOST_WORDS])) + (" .." if len(self.words) > MOST_WORDS else "")
 
     def where(self) -> str:
         """`path:line: ` of a source place, and nothing of another."""
@@ -109,17 +109,17 @@ def filled(elf: Elf, word: int) -> Optional[str]:
 
 def entry_of(outcome: Told, word: int, found: Dict[Key, Place]) -> Place:
     """The entry to which a word belongs, which is made with its first one."""
-    elf, loop = outcome.firmware.elf, filled(outcome.firmware.elf, word)
+    elf, device, loop = outcome.firmware.elf, outcome.firmware.device, filled(outcome.firmware.elf, word)
     symbol, source = elf.symbol_at(2 * word), debug_lines.of(elf).source(2 * word)
     if loop and not source and (symbol is None or symbol.name in START):
-        entry = found.setdefault(START_UP, Place(START_UP, "start-up"))
+        entry = found.setdefault(START_UP, Place(device, START_UP, "start-up"))
         entry.title += (", " if entry.words else " ") + loop
         return entry
     name = shown(symbol) if symbol else "-"
     if source:
-        return found.setdefault((*source, name), Place((*source, name), name, source))
+        return found.setdefault((*source, name), Place(device, (*source, name), name, source))
     what = f"library function {name}" if debug_lines.of(elf).has_rows and symbol else f"{name} (no line numbers)"
-    return found.setdefault(name, Place(name, what))
+    return found.setdefault(name, Place(device, name, what))
 
 
 def may_enable(nodes: Nodes, word: int, cause: Cause) -> bool:
@@ -175,7 +175,8 @@ class Look:
             names = self.cores[word]
             yield f"may write {' '.join(names)}, whose {'address stands' if len(names) == 1 else 'addresses stand'} in this file"
         if kind in (CALLS, WHOLE):
-            yield from (f"its pointer is {it:04X} here, which its list does not have" for it in self.unlisted(word))
+            text = self.outcome.firmware.device.word
+            yield from (f"its pointer is {text(it)} here, which its list does not have" for it in self.unlisted(word))
             if word in self.outcome.lists.why and not self.unlisted(word):
                 yield self.outcome.lists.why[word]
                 if kind == CALLS and not has_records(self.elf):
@@ -201,14 +202,15 @@ def entry_of_vector(outcome: Told, word: int) -> Place:
     vector = outcome.firmware.handler(number)
     is_given, device = outcome.own.is_given(word, "never"), outcome.firmware.device
     why = "no header names its enable bit" if device.is_open(number) else "may be enabled"
-    entry = Place(vector, f"{vector}: " + ("a `never` line says that it is not entered" if is_given else f"it has no handler, and {why}"))
+    told = "a `never` line says that it is not entered" if is_given else f"it has no handler, and {why}"
+    entry = Place(device, vector, f"{vector}: {told}")
     entry.kinds[word] = GIVEN if is_given else VECTORS
     return entry
 
 
 def entry_of_fuses(outcome: Told) -> Iterator[Place]:
     """Yields the one entry of the fuses that the file itself programs, where it does."""
-    entry = Place(fuses.KEPT, "the file's own fuses")
+    entry = Place(outcome.firmware.device, fuses.KEPT, "the file's own fuses")
     for it in fuses.programmed(outcome.firmware.elf, outcome.firmware.device.name):
         entry.kinds[it.name], entry.keep = fuses.FUSES, f"keeps {fuses.KEPT}  # {WHY}"
         entry.warned.append(f"its .fuse section programs {it.name}: {it.text}")
@@ -227,7 +229,7 @@ def entries(outcome: Told) -> List[Place]:
         elif kind == "at":
             put(look, entry_of(outcome, int(at, 16), found), int(at, 16))
         else:
-            found[line] = Place(line, line)
+            found[line] = Place(outcome.firmware.device, line, line)
     for word in look.cores:
         if word not in outcome.causes:
             put(look, entry_of(outcome, word, found), word)

@@ -87,7 +87,8 @@ def written(firmware: Firmware, lines: Lines) -> Iterator[Written]:
         if kind not in UNASSUMED and not (kind == "never" and is_all):
             place = firmware.place_of_line(kind, site)
             more = ", which says that it enables no interrupt" if kind == "store" and lines.of(site, kind) == {0} else ""
-            yield Written(line_of_spec(firmware, lines, site, kind), lines.line(site, kind), f"at {site:04X} {place}{more}")
+            told = f"at {firmware.device.word(site)} {place}{more}"
+            yield Written(line_of_spec(firmware, lines, site, kind), lines.line(site, kind), told)
 
 
 def narrower(firmware: Firmware, lists: Lists, lines: Lines) -> Iterator[str]:
@@ -96,7 +97,7 @@ def narrower(firmware: Firmware, lists: Lists, lines: Lines) -> Iterator[str]:
         return
     told = []
     for site, words in sorted(lists.narrower.items()):
-        less = Lines()
+        less = Lines(firmware.device)
         less.put(site, "jump", words)
         if words != lines.of(site, "jump"):
             told.append(line_of_spec(firmware, less, site, "jump") or less.line(site, "jump"))
@@ -107,10 +108,11 @@ def narrower(firmware: Firmware, lists: Lists, lines: Lines) -> Iterator[str]:
 
 def text_of_stop(firmware: Firmware, stop: Stop) -> str:
     """A flagged step: its kind, the word, the address or target, and the place."""
-    other = f" {stop.other:04X}" if stop.has_other() else ""
+    text = "{:04X}".format if stop.kind in ("live", "protected") else firmware.device.word
+    other = f" {text(stop.other)}" if stop.has_other() else ""
     register = firmware.device.register_name(stop.other) if stop.kind == "protected" else ""
     name = f" ({register})" if register else f" ({firmware.place(stop.other)})" if stop.kind == "transfer" else ""
-    return f"{stop.kind} {stop.word:04X}{other}{name} at {firmware.place(stop.word)}"
+    return f"{stop.kind} {firmware.device.word(stop.word)}{other}{name} at {firmware.place(stop.word)}"
 
 
 def why_not(firmware: Firmware, stop: Stop) -> str:
@@ -148,7 +150,7 @@ def flagged(firmware: Firmware, work: Mending, stop: Stop) -> str:
     if found is None:
         return told + why_not(firmware, stop)
     kind, items = found
-    line = Lines()
+    line = Lines(firmware.device)
     line.put(stop.word, kind, items)
     return told + f"admitted by: {line_of_spec(firmware, line, stop.word, kind) or line.line(stop.word, kind)}"
 
@@ -170,10 +172,10 @@ def others(firmware: Firmware, work: Mending, name: str, word: Optional[int]) ->
     elif name == "written flash":
         found = [at for words in candidates.code(elf) for at, opcode in words if opcode == opcodes.SPM]
     elif name in ("re-entry", "noblock", "merged"):
-        return [f"{at:04X} {firmware.handler(vector)}" for at, vector in other_vectors(firmware, work)]
+        return [f"{firmware.device.word(at)} {firmware.handler(vector)}" for at, vector in other_vectors(firmware, work)]
     else:
-        return [f"{at:04X} {firmware.place(at)}: {note}" for at, note in work.notes]
-    return [f"{at:04X} {firmware.place(at)}" for at in sorted(set(found) - {word})]
+        return [f"{firmware.device.word(at)} {firmware.place(at)}: {note}" for at, note in work.notes]
+    return [f"{firmware.device.word(at)} {firmware.place(at)}" for at in sorted(set(found) - {word})]
 
 
 def other_vectors(firmware: Firmware, work: Mending) -> Iterator[Tuple[int, int]]:

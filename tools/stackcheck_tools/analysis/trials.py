@@ -14,12 +14,11 @@ from stackcheck_tools.firmware.candidates import code, start
 from stackcheck_tools.firmware.devices import Device
 from stackcheck_tools.firmware.elf import Elf
 
-STOP = re.compile(r"steps (\d+) depth (\d+) stop (\w+)(?: ([0-9A-F]{4}))?(?: ([0-9A-F]{4}))?")
+STOP = re.compile(r"steps (\d+) depth (\d+) stop (\w+)(?: ([0-9A-F]{4,5}))?(?: ([0-9A-F]{4,5}))?")
 FLAGGED = ("live", "protected", "transfer", "moved")
 BYTES = (0x00, 0xFF, 0x55, 0xAA, 0x01, 0x20)
 LONG = 60_000  # steps of a run of the tool `flagged`
 MOST_TAKES = 40
-INPUTS = "simulated runs read input bytes where `elpm` reads flash, so their flagged steps are not reported"
 DEVICE_LINES, MOST_RECEIVED = 32, 64
 
 
@@ -121,12 +120,6 @@ def told_apart(elf: Elf, device: Device) -> List[int]:
     return sorted(found)
 
 
-def reads_inputs(elf: Elf, device: Device) -> bool:
-    """Whether runs read bytes of inputs where the firmware reads flash by `elpm`: initialised data, tables of `switch`. What is flagged
-    behind that says nothing of the firmware."""
-    return "elpm" in device.groups and any(opcodes.is_elpm(opcode) for words in code(elf) for _, opcode in words)
-
-
 def is_receiver(device: Device, vector: int) -> bool:
     """Whether a vector's interrupt comes from outside, with a byte."""
     return not device.vectors[vector].startswith(("TIM", "WDT", "WATCHDOG"))
@@ -141,7 +134,7 @@ class Trials:
         self.has_simulate = True
         self.deepest: Optional[int] = None
         self.deepest_run: Optional[Run] = None
-        self.bytes, self.reads_inputs = told_apart(elf, device), reads_inputs(elf, device)
+        self.bytes = told_apart(elf, device)
 
     def answer(self, run: Run) -> Tuple[int, str]:
         path = os.path.join(self.folder, run.command)
@@ -157,12 +150,7 @@ class Trials:
             self.deepest, self.deepest_run = int(found[2]), run
         if found[3] not in FLAGGED:
             return None
-        stop = Stop(found[3], int(found[4], 16), int(found[5], 16) if found[5] else NO_OTHER)
-        return stop if not self.reads_inputs or self.is_entry(stop) else None
-
-    def is_entry(self, stop: Stop) -> bool:
-        """Whether a step that was flagged is the entry of an interrupt."""
-        return stop.kind == "transfer" and self.device.vector_at(stop.other) is not None
+        return Stop(found[3], int(found[4], 16), int(found[5], 16) if found[5] else NO_OTHER)
 
     def simulation(self, fill: int, lines: List[str], steps: int) -> Optional[Stop]:
         """The stop of a run with these timers and receivers; None also where the program has no `simulate`."""

@@ -69,7 +69,7 @@ def table_of_jumps(elf: Elf, site: int) -> Set[int]:
     """The words of a table of `rjmp` that the `ijmp` at a word goes through, as far as they lead into its function; none where it has no
     such table."""
     symbol, table = elf.symbol_at(2 * site), opcodes.pair_loaded(elf, site - 2)
-    if symbol is None or table is None or elf.word(site) != opcodes.IJMP:
+    if symbol is None or table is None or not opcodes.is_jump(elf.word(site)):
         return set()
     begin, end = elf.extent(symbol)
     found: Set[int] = set()

@@ -15,8 +15,8 @@ if TYPE_CHECKING:
 FIRST = ("atmega48pa", "atmega88pa", "atmega168pa", "atmega328p")  # those of certificates without a device's name
 DEFAULT = "atmega328p"  # the one that stackbound takes without --device
 MOST_NEAR, ALIKE = 4, 0.85
-# protected registers with their data addresses; some devices lack SPH
-CORE = {**{f"r{n}": n for n in range(32)}, "SPL": 0x5D, "SPH": 0x5E, "SREG": 0x5F}
+# protected registers with their data addresses; some devices lack SPH, RAMPZ or EIND
+CORE = {**{f"r{n}": n for n in range(32)}, "RAMPZ": 0x5B, "EIND": 0x5C, "SPL": 0x5D, "SPH": 0x5E, "SREG": 0x5F}
 OTHER_CORES = (  # names of chips that no row of the table can describe, and why
     (r"attiny(4|5|9|10|20|40|102|104)", "another core, AVRrc, with 16 registers"),
     (r"at90s1200|attiny(11|12|15|28)", "another core, AVR1, without a stack in SRAM"),
@@ -57,14 +57,17 @@ class Device:
     """A class of equal devices, by a line of the table: `words` of flash, the `first` and the `last` byte of SRAM, how many words a vector
     has, the `last_vector`, and the vector of the `watchdog`. `vectors` has the name of each vector that may come, by number; `registers`
     the protected addresses by name; `enabling` those of registers that enable interrupts; `handlers` the functions of handlers by their
-    vectors' names; `moving` the bit that moves the vectors; `core` the registers of the core, with SPH where it `has_sph`."""
+    vectors' names; `moving` the bit that moves the vectors; `core` the registers of the core, with SPH where it `has_sph`; `banks` which of
+    RAMPZ and EIND it has."""
 
     def __init__(self, row: List[str]) -> None:
         self.name, self.words, self.vector_words, self.last_vector = row[0], int(row[1]), int(row[5]), int(row[7])
         self.first, self.last = int(row[2], 16), int(row[3], 16)
         self.has_sph = row[4] == "2"
-        self.core = {name: it for name, it in CORE.items() if name != "SPH" or self.has_sph}
         self.groups = frozenset(row[6].split(","))
+        self.banks = [name for name, group in (("RAMPZ", "elpm"), ("EIND", "eijmp")) if group in self.groups]
+        lacking = {*(() if self.has_sph else ("SPH",)), *({"RAMPZ", "EIND"} - set(self.banks))}
+        self.core = {name: it for name, it in CORE.items() if name not in lacking}
         self.watchdog = None if row[8] == "-" else int(row[8])
         self.moving = None if row[9] == "-" else place(row[9])
         self.rows = {int(number): Vector(how, names) for number, how, *names in map(str.split, VECTORS[int(row[10])].splitlines())}
@@ -82,6 +85,10 @@ class Device:
         written. All others are read as with the line `masks`."""
         return self.name in FIRST
 
+    def word(self, word: int) -> str:
+        """A word address as stackbound writes it, of four or five digits."""
+        return f"{word:0{4 if self.words <= 0x10000 else 5}X}"
+
     def sram(self) -> int:
         return self.last + 1 - self.first
 
@@ -97,7 +104,7 @@ class Device:
         """The vector whose word this is, which is that of one."""
         vector = self.vector_at(word)
         if vector is None:
-            raise ValueError(f"{word:04X} is the word of no vector")
+            raise ValueError(f"{self.word(word)} is the word of no vector")
         return vector
 
     def vector_named(self, name: str) -> Optional[int]:

@@ -5,17 +5,19 @@ from __future__ import annotations
 import bisect
 import re
 import struct
-from typing import Dict, List, Optional, Tuple
+from typing import Dict, Iterator, List, Optional, Tuple
 
 from stackcheck_tools.firmware.devices import Device, default, named
 
-FLASH = 0x20000  # bytes of the largest device
+FLASH = 0x40000  # bytes of the largest device
 LEAST_WORDS = 0x4000  # below which no word address goes round
 CODE_END = 0x800000  # from here on addresses are of data
 EEPROM = 0x810000  # behind the sections of data in SRAM
 ALLOCATED, EXECUTED = 2, 4  # flags of sections that take memory, and that hold code
 OBJECT, FUNCTION, FILE_NAME = 1, 2, 4  # types of symbols
 ABSOLUTE = 0xFFF1  # the section number of symbols that are no place in a section
+STUBS = ("__trampolines_start", "__trampolines_end")  # around the stubs by which pointers reach functions above 128 KiB
+JMP = 0x940C
 BOUNDS = ("__ctors_", "__dtors_", "__trampolines_", "__vector_default", "_etext", "__TEXT_REGION", "__data_load")  # the linker's own marks
 
 
@@ -123,10 +125,25 @@ class Elf:
                         self.objects[name] = address, size
                     if address < CODE_END and section != ABSOLUTE and kind in (0, FUNCTION) and not name.startswith((".", *BOUNDS)):
                         self.code.append(Symbol(name, address, size, kind == FUNCTION, file if info >> 4 == 0 else "", info >> 4 == 1))
+        self.stub_at: Dict[int, int] = {}
+        self.code += list(self.stubs({it.address: it.name for it in self.code if it.is_function}))
         self.code.sort(key=lambda it: (it.address, not it.is_function, it.name))
         self.addresses = [it.address for it in self.code]
         self.starts = sorted(set(self.addresses))
         self.found_at: Dict[int, Optional[Symbol]] = {}
+
+    def stubs(self, names: Dict[int, str]) -> Iterator[Symbol]:
+        """Yields the linker's stubs as functions `NAME@stub`: each is a `jmp` to a function that a pointer of 16 bits does not reach."""
+        for at in range(self.all.get(STUBS[0], 0), self.all.get(STUBS[1], 0) - 3, 4):
+            opcode, low = struct.unpack_from("<HH", self.flash, at)
+            to = 2 * ((opcode >> 3 & 0x3E | opcode & 1) << 16 | low)
+            if opcode & 0xFE0E == JMP and to in names:
+                self.stub_at[to] = at
+                yield Symbol(f"{names[to]}@stub", at, 4, True, "")
+
+    def pointed(self, address: int) -> int:
+        """Where a pointer to the function at a byte address leads: to its stub, where there is one."""
+        return self.stub_at.get(address, address)
 
     def extent(self, symbol: Symbol) -> Tuple[int, int]:
         """The byte addresses from a symbol's begin to its end: its size where told, else up to the next symbol."""

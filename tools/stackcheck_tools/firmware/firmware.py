@@ -58,7 +58,7 @@ class Firmware:
         """The name of the function at a word, of a handler that of its vector; the word itself without one."""
         symbol = self.elf.symbol_at(2 * word)
         if symbol is None:
-            return f"{word:04X}"
+            return self.device.word(word)
         return self.vector_of(symbol.name) or self.name(symbol)
 
     def vector_of(self, name: str) -> Optional[str]:
@@ -88,4 +88,4 @@ class Firmware:
         symbol = self.elf.symbol_at(2 * entry)
         if symbol and symbol.address == 2 * entry:
             return self.name(symbol)
-        return name or (symbol.name if symbol else f"{entry:04X}")
+        return name or (symbol.name if symbol else self.device.word(entry))

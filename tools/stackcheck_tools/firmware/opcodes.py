@@ -6,7 +6,7 @@ from typing import Callable, Iterator, List, Optional, Tuple
 
 from stackcheck_tools.firmware.elf import Elf, Symbol
 
-IJMP, ICALL = 0x9409, 0x9509
+IJMP, ICALL, EIJMP, EICALL = 0x9409, 0x9509, 0x9419, 0x9519
 SPM, SEI = 0x95E8, 0x9478
 DEC_R29, INC_R29, SUBI_R29 = 0x95DA, 0x95D3, 0x50D0
 OUT_SPH_R29, OUT_SPL_R28 = 0xBFDE, 0xBFCD
@@ -19,8 +19,18 @@ def length(opcode: int) -> int:
     return 2 if opcode & 0xFC0F == 0x9000 or opcode & 0xFE0C == 0x940C else 1
 
 
+def is_jump(opcode: int) -> bool:
+    """`ijmp` or `eijmp`."""
+    return opcode in (IJMP, EIJMP)
+
+
+def is_call(opcode: int) -> bool:
+    """`icall` or `eicall`."""
+    return opcode in (ICALL, EICALL)
+
+
 def is_indirect(opcode: int) -> bool:
-    return opcode in (IJMP, ICALL)
+    return is_jump(opcode) or is_call(opcode)
 
 
 def is_pointer_store(opcode: int) -> bool:
@@ -68,8 +78,8 @@ def ldi(opcode: int) -> Tuple[int, int]:
 
 
 def ends(opcode: int) -> bool:
-    """`ret`, `reti`, `ijmp`, `jmp` or `rjmp`: what the next word follows only by a jump or a call."""
-    return opcode in (0x9508, 0x9518, IJMP) or opcode & 0xFE0E == 0x940C or opcode & 0xF000 == 0xC000
+    """`ret`, `reti`, `ijmp`, `eijmp`, `jmp` or `rjmp`: what the next word follows only by a jump or a call."""
+    return opcode in (0x9508, 0x9518) or is_jump(opcode) or opcode & 0xFE0E == 0x940C or opcode & 0xF000 == 0xC000
 
 
 def words_of(elf: Elf, symbol: Symbol) -> Iterator[Tuple[int, int]]:
@@ -89,7 +99,7 @@ def sites(elf: Elf, symbol: Symbol, test: Callable[[int], bool]) -> List[int]:
 def target(elf: Elf, word: int, far: int, near: int) -> Optional[int]:
     opcode = elf.word(word)
     if opcode & 0xFE0E == far:
-        return elf.word(word + 1) % elf.chip.words
+        return ((opcode >> 3 & 0x3E | opcode & 1) << 16 | elf.word(word + 1)) % elf.chip.words
     if opcode & 0xF000 == near:
         step = opcode & 0xFFF
         return (word + 1 + step - (0x1000 if step & 0x800 else 0)) % elf.chip.words
@@ -113,7 +123,8 @@ def io_address(opcode: int) -> int:
 
 def uses_stack(opcode: int) -> bool:
     """`push`, a call, `ret`, `reti`, or `sei`, behind which an interrupt may push."""
-    return opcode & 0xFE0F == 0x920F or opcode & 0xFE0E == 0x940E or opcode & 0xF000 == 0xD000 or opcode in (ICALL, 0x9508, 0x9518, SEI)
+    pushes = opcode & 0xFE0F == 0x920F or opcode & 0xFE0E == 0x940E or opcode & 0xF000 == 0xD000
+    return pushes or is_call(opcode) or opcode in (0x9508, 0x9518, SEI)
 
 
 def is_skip(opcode: int) -> bool:
@@ -122,10 +133,11 @@ def is_skip(opcode: int) -> bool:
 
 
 def following(elf: Elf, word: int) -> List[int]:
-    """The words at which a run may go on behind an instruction that is no call and no return; none behind `ijmp`."""
+    """The words at which a run may go on behind an instruction that is no call and no return; none behind `ijmp` and
+    `eijmp`."""
     opcode = elf.word(word)
     after = word + length(opcode)
-    if opcode == IJMP:
+    if is_jump(opcode):
         return []
     if (to := jump_target(elf, word)) is not None:
         return [to]
@@ -154,7 +166,11 @@ def group(opcode: int) -> Optional[str]:
         return "mul"
     if opcode & 0xFF00 == 0x0100 or opcode & 0xFE0E == 0x9004:  # `lpm` with a register
         return "movw" if opcode & 0x8000 == 0 else "lpmx"
-    return "elpm" if is_elpm(opcode) else "break" if opcode == 0x9598 else None
+    if opcode in (EIJMP, EICALL):
+        return "eijmp"
+    if is_elpm(opcode):
+        return "elpm" if opcode == 0x95D8 else "elpmx"
+    return "break" if opcode == 0x9598 else None
 
 
 def is_lpm(opcode: int) -> bool:

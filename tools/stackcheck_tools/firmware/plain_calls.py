@@ -31,7 +31,7 @@ def writes(opcode: int, pair: int) -> bool:
 
 def goes_back(elf: Elf, code: List[Tuple[int, int]], site: int) -> bool:
     """Whether a way leads back into what stands before a word."""
-    return any(to <= at and to <= site for at, opcode in code for to in opcodes.following(elf, at) if opcode != opcodes.ICALL)
+    return any(to <= at and to <= site for at, opcode in code for to in opcodes.following(elf, at) if not opcodes.is_call(opcode))
 
 
 def of_argument(elf: Elf, site: int) -> bool:

@@ -81,8 +81,8 @@ def taken(elf: Elf, but: Iterable[Tuple[int, int]] = ()) -> Optional[Set[int]]:
     if not has_records(elf):
         return None
     begins, spans = set(elf.addresses), list(but)
-    return {it.address // 2 for it in named(elf) if (it.address in begins or it.kind in IN_WORDS and lies_between(elf, it.address))
-            and not any(begin <= it.place < end for begin, end in spans)}
+    found = (it for it in named(elf) if it.address in begins or it.kind in IN_WORDS and lies_between(elf, it.address))
+    return {elf.pointed(it.address) // 2 for it in found if not any(begin <= it.place < end for begin, end in spans)}
 
 
 def places(elf: Elf) -> Set[int]:

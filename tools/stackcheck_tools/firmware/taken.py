@@ -138,9 +138,9 @@ def searched(elf: Elf, device: Device, reached: FrozenSet[int], is_plain: bool) 
 
 
 def labels(elf: Elf, site: int, numbers: Set[int]) -> Set[int]:
-    """The words inside the function of an `ijmp` at which an instruction begins and that are among these numbers: of `goto *`."""
+    """The words inside the function of such a jump at which an instruction begins and that are among these numbers: of `goto *`."""
     symbol = elf.symbol_at(2 * site)
-    if symbol is None or elf.word(site) != opcodes.IJMP:
+    if symbol is None or not opcodes.is_jump(elf.word(site)):
         return set()
     return {word for word, _ in opcodes.words_of(elf, symbol)} & numbers
 

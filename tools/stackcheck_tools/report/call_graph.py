@@ -40,7 +40,7 @@ def called(elf: Elf, word: int, lines: Dict[int, Set[int]]) -> Optional[Set[int]
     target = opcodes.call_target(elf, word)
     if target is not None:
         return {target}
-    if elf.word(word) != opcodes.ICALL:
+    if not opcodes.is_call(elf.word(word)):
         return set()
     return lines.get(word)
 

@@ -10,7 +10,7 @@ from stackcheck_tools.analysis.outcome import Outcome, Refused
 from stackcheck_tools.analysis.places import readable
 from stackcheck_tools.report import verdict
 
-WORD = re.compile(r"\b([0-9A-F]{4})\b")
+WORD = re.compile(r"\b([0-9A-F]{4,5})\b")
 
 
 def escaped(text: str) -> str:

@@ -7,6 +7,7 @@ from typing import Iterator, List, Optional
 
 from stackcheck_tools.analysis.outcome import Accepted
 from stackcheck_tools.analysis.program import OK, Program
+from stackcheck_tools.firmware.devices import Device
 from stackcheck_tools.spec.lines import Lines
 
 
@@ -17,9 +18,9 @@ class Cost:
         self.name, self.without = name, without
 
 
-def with_never(assumed: str, word: int) -> str:
+def with_never(device: Device, assumed: str, word: int) -> str:
     """An assumption file with a `never` line more, in its place."""
-    lines = Lines(assumed)
+    lines = Lines(device, assumed)
     lines.add(word, "never")
     return lines.text()
 
@@ -28,7 +29,7 @@ def bound_without(outcome: Accepted, assumed: str, word: int, folder: str) -> Op
     """The bound that `check` accepts where the vector of a word is never entered; None where there is none."""
     paths = [os.path.join(folder, name) for name in ("never.assume", "never.cert")]
     with open(paths[0], "w", encoding="ascii") as file:
-        file.write(with_never(assumed, word))
+        file.write(with_never(outcome.firmware.device, assumed, word))
     program = Program(outcome.firmware.image, outcome.firmware.device.name, paths[0])
     status, text = program.call("analyse")
     if status != OK:

@@ -20,7 +20,7 @@ def cause(it: Cause) -> Dict[str, object]:
 
 def place(it: Place) -> Dict[str, object]:
     return {"source": it.path, "line": it.source[1] if it.source else None, "title": it.title, "text": it.code,
-            "words": [f"{word:04X}" for word in it.words],
+            "words": [*map(it.device.word, it.words)],
             "kind": sorted(set(it.kinds.values())), "ordinary": it.is_ordinary(), "may": cause(it.cause), "closed_by": it.closers,
             "told": it.warned, "judged_by": it.keep, "judged": it.judged.why if it.judged else None}
 
@@ -55,7 +55,7 @@ def accepted(outcome: Accepted) -> Dict[str, object]:
         "kinds": None if outcome.premises is None else kinds.counts(outcome)}
     if outcome.recursions:
         found["recursions"] = [{"function": it.name, "activations": it.count, "depth": max(it.depths.values()),
-                                "words": [f"{entry:04X}" for entry in it.entries]}
+                                "words": [*map(outcome.firmware.device.word, it.entries)]}
                                for it in outcome.recursions]
     if outcome.costs is not None:
         found["interrupts"] = [{"name": it.name, "without": it.without} for it in outcome.costs]

@@ -17,8 +17,8 @@ class Lines:
     """Lines with their items. Those of a text are given: they never change, and what is added later stands at other sites or is of other
     kinds."""
 
-    def __init__(self, text: str = "") -> None:
-        self.items, self.given = {}, set()
+    def __init__(self, device: Device, text: str = "") -> None:
+        self.device, self.items, self.given = device, {}, set()
         for line in text.splitlines():
             kind, *words = line.split()
             site, *items = [int(it, 10 if at and kind == recursion.KIND else 16) for at, it in enumerate(words)] or [NOWHERE]
@@ -26,7 +26,7 @@ class Lines:
         self.given = set(self.items)
 
     def copy(self) -> Lines:
-        other = Lines()
+        other = Lines(self.device)
         other.items, other.given = {key: set(items) for key, items in self.items.items()}, set(self.given)
         return other
 
@@ -79,7 +79,7 @@ class Lines:
         return [(site, KINDS[number]) for site, number in sorted(set(self.items) - self.given)]
 
     def line(self, site: int, kind: str) -> str:
-        return assumption_line(kind, site, self.of(site, kind))
+        return assumption_line(self.device, kind, site, self.of(site, kind))
 
     def text(self) -> str:
         return "".join(self.line(site, KINDS[kind]) + "\n" for site, kind in sorted(self.items))

@@ -109,7 +109,7 @@ class Nest:
         target = opcodes.call_target(self.elf, word)
         if target is not None:
             return [target]
-        if self.elf.word(word) != opcodes.ICALL:
+        if not opcodes.is_call(self.elf.word(word)):
             return []
         every = [key[1] for key in self.by_key if key[0] == "call" and key[2:] == (enables, flag)]
         return self.jumps.get(word, every)
@@ -195,7 +195,7 @@ def conditions(recursions: List[Recursion]) -> Iterator[str]:
 def of_call(elf: Elf, lines: Lines, recursions: List[Recursion], word: int) -> Optional[Recursion]:
     """The line that speaks of the call at a word, by name or by a `jump` line."""
     target = opcodes.call_target(elf, word)
-    targets = {target} if target is not None else lines.of(word, "jump") if elf.word(word) == opcodes.ICALL else set()
+    targets = {target} if target is not None else lines.of(word, "jump") if opcodes.is_call(elf.word(word)) else set()
     return next((found for it in sorted(targets) if (found := line_at(recursions, it))), None)
 
 
@@ -204,11 +204,11 @@ def text_of_stop(firmware: Firmware, recursions: List[Recursion], stop: Stop) ->
     found = line_at(recursions, stop.other) if stop.kind == "transfer" else None
     if found is None:
         return None
-    return (f"FLAGGED: a simulated run calls {found.name} while {found.count} of it stand on the stack, at {stop.word:04X} "
-            f"{firmware.place(stop.word)}: "
+    at = f"{firmware.device.word(stop.word)} {firmware.place(stop.word)}"
+    return (f"FLAGGED: a simulated run calls {found.name} while {found.count} of it stand on the stack, at {at}: "
             f"{found.count} is too small in `recursion {found.name} {found.count}`; the bound covers only what comes before")
 
 
 def name_of_entry(firmware: Firmware, entry: int) -> str:
     symbol = firmware.elf.symbol_at(2 * entry)
-    return shown(symbol) if symbol else f"{entry:04X}"
+    return shown(symbol) if symbol else firmware.device.word(entry)

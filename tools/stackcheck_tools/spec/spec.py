@@ -26,10 +26,10 @@ AT_SITES = ("jump", "store", "prove", "free")  # those whose site may be told by
 START_UP = "@startup"
 
 
-def assumption_line(kind: str, place: int, items: Set[int]) -> str:
-    """The line of an assumption file of this kind, at this word, with these items."""
-    written = (str(it) if kind == recursion.KIND else f"{it:04X}" for it in sorted(items))
-    return " ".join([kind, *([] if place == NOWHERE else [f"{place:04X}"]), *written])
+def assumption_line(device: Device, kind: str, place: int, items: Set[int]) -> str:
+    """The line of an assumption file of this kind, at this word, with these items: a depth, data addresses or words."""
+    item = str if kind == recursion.KIND else "{:04X}".format if kind == "store" else device.word
+    return " ".join([kind, *([] if place == NOWHERE else [device.word(place)]), *map(item, sorted(items))])
 
 
 class Line:
@@ -164,6 +164,7 @@ class Spec:
         self.lines: List[Line] = []
         self.keeps: List[Keep] = []
         self.recursions: List[recursion.Recursion] = []
+        self.device = device or elf.chip
         above = ""
         for number, line in enumerate(text.splitlines(), start=1):
             line, _, comment = re.sub(r"^\s*\?", " ? ", line).partition("#")
@@ -197,7 +198,7 @@ class Spec:
                                     f"{len(held)}")
         if len(lines) > MOST_LINES:
             raise SpecFault(f"line {number}: an assumption file has at most {MOST_LINES} lines, and these are {len(lines)}")
-        return "".join(assumption_line(KINDS[kind], place, items) + "\n" for (place, kind), items in sorted(lines.items()))
+        return "".join(assumption_line(self.device, KINDS[kind], place, items) + "\n" for (place, kind), items in sorted(lines.items()))
 
 
 def assumptions(elf: Elf, text: str, device: Optional[Device] = None) -> str:

@@ -6,7 +6,6 @@ ghost use Rattle.certificate.specs.Valid.{IsSound};
 ghost use Rattle.family_edges.specs.Tasks.{task_of};
 ghost use Rattle.local_rules.specs.Site.{bare};
 
-use super::Worked;
 use super::edges::flash_on;
 use avr_model::device::Device;
 use certificate::Certificate;
@@ -14,6 +13,7 @@ use chain_explain::{Explanation, Part, PartPlace, explain};
 use family_edges::Task;
 use fixpoint::solve;
 use flash_image::Flash;
+use row_tests::WorkedRow;
 use std::alloc::Global;
 use store_clear::{
     ClearVerdict, FlaggedPlace, clear_sites, flagged_places, flagged_sites, never_takes,
@@ -189,7 +189,7 @@ fn is_on(alloc: Global, flash: &Flash, row: &Row) -> bool {
     }
 }
 
-impl Worked for Row {
+impl WorkedRow for Row {
     fn holds(&self, alloc: Global) -> bool {
         match flash_on(alloc, Device::M328, self.image) {
             Some(flash) => is_on(alloc, &flash, self),

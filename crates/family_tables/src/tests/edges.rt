@@ -5,7 +5,6 @@ ghost use Rattle.avr_model.specs.Devices.{device_of};
 ghost use Rattle.edge_rules.specs.Expansion.{AreSeeds};
 ghost use Rattle.edge_laws.specs.Expansions.{AreSeedsAscending};
 
-use super::Worked;
 use crate::tests::seeds::{Plan, SeedList, seeds_of};
 use avr_model::device::Device;
 use avr_model::listed::Listed;
@@ -15,6 +14,7 @@ use family_edges::{
 use flash_image::Flash;
 use local_rules::NodeFault;
 use node_keys::Kind;
+use row_tests::WorkedRow;
 use std::alloc::Global;
 use vector_table::Assumptions;
 
@@ -128,7 +128,7 @@ pub(crate) fn flash_on(alloc: Global, device: Device, bytes: &[u8]) -> Option<Fl
     }
 }
 
-impl Worked for Row {
+impl WorkedRow for Row {
     fn holds(&self, alloc: Global) -> bool {
         match flash_on(alloc, self.0, self.1) {
             Some(flash) => is_on(alloc, &flash, self),

@@ -7,13 +7,13 @@ ghost use Rattle.edge_laws.specs.Expansions.{AreSeedsAscending};
 ghost use Rattle.family_edges.specs.Landings.{AreLandings};
 ghost use Rattle.family_edges.specs.Tasks.{task_of};
 
-use super::Worked;
 use crate::tests::seeds::{Plan, SeedList, seeds_of};
 use avr_model::device::Device;
 use family_edges::{Expanded, Filled, Leaving, NodeForm, Task, WorkedOut as Family, exits, expand};
 use fixpoint::forming::forms;
 use flash_image::Flash;
 use node_keys::{Kind, NodeKey};
+use row_tests::WorkedRow;
 use std::alloc::Global;
 use vector_table::Assumptions;
 
@@ -86,7 +86,7 @@ fn is_on(alloc: Global, flash: &Flash, row: &Row) -> bool {
     }
 }
 
-impl Worked for Row {
+impl WorkedRow for Row {
     fn holds(&self, alloc: Global) -> bool {
         match Flash::from_raw(alloc, Device::M328, self.0) {
             Ok(flash) => is_on(alloc, &flash, self),

@@ -1,11 +1,11 @@
 //! Assumptions that do not fit the firmware's device.
 
-use super::Worked;
 use super::edges::flash_on;
 use avr_model::device::Device;
 use family_edges::Task;
 use fixpoint::{Refusal, solve};
 use flash_image::Flash;
+use row_tests::WorkedRow;
 use std::alloc::Global;
 use vector_table::{Assumptions, Entry};
 
@@ -44,7 +44,7 @@ fn is_on(alloc: Global, flash: &Flash, first: u16, second: u16, due: Option<u32>
     is_told(&task, due)
 }
 
-impl Worked for Row {
+impl WorkedRow for Row {
     fn holds(&self, alloc: Global) -> bool {
         match flash_on(alloc, self.0, &STAY) {
             Some(flash) => is_on(alloc, &flash, self.1, self.2, self.3),

@@ -4,13 +4,13 @@ ghost use Rattle.instance_graph.specs.Chain.{HavePlaces};
 ghost use Rattle.instance_graph.specs.Graph.{IsGraph};
 ghost use Rattle.instance_graph.specs.Least.{IsLeast};
 
-use super::Worked;
 use avr_model::device::SIZE;
 use avr_model::listed::Listed;
 use instance_graph::{
     ComposeFault, Composed, Entered, Graph, GraphInst, GraphWay, Link, Place, chain, compose,
 };
 use node_keys::{EdgeKind, InstKey, Kind};
+use row_tests::WorkedRow;
 use std::alloc::{AllocError, Global};
 use vector_table::Masks;
 
@@ -200,7 +200,7 @@ fn is_made(alloc: Global, graph: &Graph, wanted: &Wanted) -> bool {
     }
 }
 
-impl Worked for Row {
+impl WorkedRow for Row {
     fn holds(&self, alloc: Global) -> bool {
         match graph(alloc, self.0) {
             Ok(graph) => is_made(alloc, &graph, &self.1),

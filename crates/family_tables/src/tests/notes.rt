@@ -4,11 +4,11 @@ ghost use Rattle.std.specs.Prelude.{◌≤◌};
 ghost use Rattle.avr_model.specs.State.{SIZE};
 ghost use Rattle.node_keys.specs.Keys.{offset_of};
 
-use super::Worked;
 use crate::tests::nesting::key;
 use avr_model::device::{Device, SIZE};
 use node_keys::{NodeKey, SpForm};
 use round_nesting::{Nesting, NestingVerdict};
+use row_tests::WorkedRow;
 use std::alloc::{AllocError, Global};
 
 // Devices with 512 and with 2,048 bytes of SRAM.
@@ -255,7 +255,7 @@ pub static ROWS: [(&str, &[Row]); 1] = [(
     ],
 )];
 
-impl Worked for Row {
+impl WorkedRow for Row {
     fn holds(&self, alloc: Global) -> bool {
         is_row(alloc, self.0, self.1, &self.2)
     }

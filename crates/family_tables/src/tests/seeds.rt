@@ -7,6 +7,7 @@ ghost use Rattle.node_keys.specs.declared.keys.SpForm.TheVariants.{Closed};
 ghost use Rattle.node_keys.specs.Order.{node_cmp};
 ghost use Rattle.edge_rules.specs.Expansion.{AreSeeds};
 ghost use Rattle.edge_laws.specs.Expansions.{AreSeedsAscending};
+ghost use Rattle.family_tables.specs.Seeds.{first_state};
 
 use abs_state::AbsState;
 use avr_model::device::Device;
@@ -42,7 +43,7 @@ impl Seeded for SeedList {
 }
 
 // A node: the kind and entry of its instance, whether vectors 2 and 7 are enabled, its word, and the number of the node that it comes
-// from with the bytes on the stack. Without a number the stack is empty, and its state is that at reset.
+// from with the bytes on the stack. Without a number the stack is empty, and its state is that at reset or at an entry.
 #[derive(Clone, Copy)]
 pub(crate) struct Plan(pub Kind, pub u32, pub bool, pub u32, pub Option<(u32, u16)>);
 
@@ -105,7 +106,18 @@ fn may_follow(items: &[(NodeKey, NodeForm)], key: &NodeKey) -> bool
     true
 }
 
-// A node with the state at reset, if it may follow.
+// The state at reset, or outside the root the one at an entry from it.
+fn first_state(alloc: Global, kind: Kind) -> Result<AbsState, AllocError>
+    ensures { IfOk result (λ s. s ≡ first_state kind) }
+{
+    let root = AbsState::root(alloc);
+    match kind {
+        Kind::Root => Ok(root),
+        Kind::Call | Kind::Vector(_) => root.entered(alloc),
+    }
+}
+
+// A node with its first state, if it may follow.
 fn add_own(
     alloc: Global,
     device: Device,
@@ -123,7 +135,8 @@ fn add_own(
     if key.pc >= device.limit() || !may_follow(items, &key) {
         return Ok(false);
     }
-    let held = HeldState::new(alloc, AbsState::root(alloc))?;
+    let state = first_state(alloc, key.inst.kind)?;
+    let held = HeldState::new(alloc, state)?;
     items.push((key, NodeForm::State(held)))?;
     Ok(true)
 }

@@ -1,10 +1,10 @@
 //! Trials of small firmwares.
 
-use super::Worked;
 use avr_machine::{Masks, Stop};
 use avr_model::device::Device;
 use family_edges::Task;
 use flash_image::Flash;
+use row_tests::WorkedRow;
 use std::alloc::{AllocError, Global};
 use vector_table::Assumptions;
 use witness_replay::{ReplayReport, Schedule, replay};
@@ -87,7 +87,7 @@ fn is_on(alloc: Global, bytes: &[u8], row: &Row) -> bool {
     is_tried(&task, row)
 }
 
-impl Worked for Row {
+impl WorkedRow for Row {
     fn holds(&self, alloc: Global) -> bool {
         let mut bytes = Vec::new(alloc);
         let added = add_words(&mut bytes, &self.0).is_ok();

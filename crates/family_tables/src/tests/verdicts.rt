@@ -4,7 +4,6 @@ ghost use Rattle.std.specs.Prelude.{◌≡◌, IfOk};
 ghost use Rattle.edge_rules.specs.Examples.{callee};
 ghost use Rattle.family_tables.specs.Examples.{form_by, nodes_by, insts_by};
 
-use super::Worked;
 use super::edges::flash_on;
 use abs_state::AbsState;
 use avr_model::device::Device;
@@ -13,6 +12,7 @@ use certificate::{Certificate, HeldState, Inst, NodeForm};
 use family_edges::Task;
 use flash_image::Flash;
 use node_keys::{InstKey, Kind, NodeKey};
+use row_tests::WorkedRow;
 use std::alloc::{AllocError, Global};
 use vector_table::{Assumptions, Entry, Masks};
 
@@ -186,7 +186,7 @@ fn is_on(alloc: Global, flash: &Flash, row: &Row) -> bool {
     }
 }
 
-impl Worked for Row {
+impl WorkedRow for Row {
     fn holds(&self, alloc: Global) -> bool {
         match flash_on(alloc, self.device, &self.image) {
             Some(flash) => is_on(alloc, &flash, self),

@@ -1,8 +1,8 @@
 //! Texts of devices. Refused texts, and runs that devices choose, are in tests/end_to_end.
 
-use super::Worked;
 use avr_model::device::Device;
 use peripherals::Devices;
+use row_tests::WorkedRow;
 use std::alloc::Global;
 
 /// A text with the number of its sources.
@@ -20,7 +20,7 @@ pub static TEXTS: [(&str, &[Text]); 1] = [(
     ],
 )];
 
-impl Worked for Text {
+impl WorkedRow for Text {
     fn holds(&self, alloc: Global) -> bool {
         match Devices::read(alloc, Device::M328, self.0) {
             Ok(devices) => devices.count() == self.1,

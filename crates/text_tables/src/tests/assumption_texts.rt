@@ -1,9 +1,9 @@
 //! Texts with answers that were worked out by hand, written lists, and targets.
 
-use super::Worked;
 use assumption_files::{AssumeText, entry_of, read, targets, write};
 use avr_model::device::Device;
 use bit_domain::TriByte;
+use row_tests::WorkedRow;
 use std::alloc::{AllocError, Global};
 use text_base::LineWriter;
 use vector_table::Assumptions;
@@ -382,7 +382,7 @@ fn is_answer_behind(alloc: Global, text: &mut Vec<u8>, row: &Text) -> bool {
     added && is_answer(alloc, text.as_slice(), &row.2)
 }
 
-impl Worked for Text {
+impl WorkedRow for Text {
     fn holds(&self, alloc: Global) -> bool {
         let mut out = LineWriter::new(alloc);
         let written = write_start(&mut out, &self.0).is_ok();
@@ -402,7 +402,7 @@ pub static ALONE: [(&str, &[Alone]); 1] = [(
     ],
 )];
 
-impl Worked for Alone {
+impl WorkedRow for Alone {
     fn holds(&self, alloc: Global) -> bool {
         match entry_of(alloc, Device::M328, self.0) {
             Ok(entry) => entry.is_some() == self.1,
@@ -437,7 +437,7 @@ pub static TARGETS: [(&str, &[Targets]); 1] = [(
     ],
 )];
 
-impl Worked for Targets {
+impl WorkedRow for Targets {
     // The words are the expected ones, or there are too many if none are given.
     fn holds(&self, _alloc: Global) -> bool {
         let low = TriByte::new(self.0[0], self.0[1]);

@@ -1,12 +1,12 @@
 //! A certificate of the first version with each kind of line, which is written as it was read. Small damages to it are in
 //! tests/end_to_end, with the places of the refusals.
 
-use super::Worked;
 use super::second_version::{LATER, PAIRS, has_its_facts, has_later_values};
 use avr_model::device::Device;
 use cert_format::{CertFault, Certificate, Limit, read, write};
 use edge_rules::NodeForm;
 use node_keys::Kind;
+use row_tests::WorkedRow;
 use sp_domain::{CarryTag, Slot, Tag};
 use std::alloc::{AllocError, Global};
 use text_base::LineWriter;
@@ -162,7 +162,7 @@ fn is_read(alloc: Global, text: &[u8], version: &Version) -> bool {
     }
 }
 
-impl Worked for Sample {
+impl WorkedRow for Sample {
     fn holds(&self, alloc: Global) -> bool {
         let mut text = Vec::new(alloc);
         let appended = append_all(&mut text, self.0).is_ok();
@@ -188,7 +188,7 @@ fn is_refused(alloc: Global, text: &[u8], due: &Option<CertFault>) -> bool {
     }
 }
 
-impl Worked for Cells {
+impl WorkedRow for Cells {
     fn holds(&self, alloc: Global) -> bool {
         let mut out = LineWriter::new(alloc);
         let written = write_cells(&mut out, self.0).is_ok();

@@ -1,8 +1,8 @@
 //! Words, and their commands.
 
-use super::Worked;
 use avr_model::device::Device;
-use clap_words::{Command, Work, command_of};
+use commands::{Command, Work, command_of};
+use row_tests::WorkedRow;
 use std::alloc::Global;
 
 // The compared parts of a command: its name, the device, the second file, the assumption file, its number, and whether it answers as
@@ -99,7 +99,7 @@ pub struct Refused(&'static [&'static str]);
 pub static REFUSED: [(&str, &[Refused]); 1] = [(
     "no command",
     &[
-        Refused(&["analyse", "a", "--device", "atmega2560"]),
+        Refused(&["analyse", "a", "--device", "atmega4809"]),
         Refused(&["analyse", "a", "--device", "ATmega328P"]),
         Refused(&["demo", "1", "--device", "atmega88pa"]),
         Refused(&[
@@ -178,7 +178,7 @@ fn is_told(command: &Command<'_>, told: &Told) -> bool {
     has_firmware(command, name) && found == *told
 }
 
-impl Worked for Row {
+impl WorkedRow for Row {
     fn holds(&self, alloc: Global) -> bool {
         match command_of(alloc, self.0) {
             Ok(Some(command)) => is_told(&command, &self.1),
@@ -187,7 +187,7 @@ impl Worked for Row {
     }
 }
 
-impl Worked for Refused {
+impl WorkedRow for Refused {
     fn holds(&self, alloc: Global) -> bool {
         matches!(command_of(alloc, self.0), Ok(None))
     }

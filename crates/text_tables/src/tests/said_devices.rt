@@ -1,10 +1,10 @@
 //! Certificates whose text says its device: read and written back, and refused.
 
-use super::Worked;
 use super::certificates::{Piece, append_all, is_written};
 use avr_model::device::Device;
 use avr_model::naming::device_named;
 use cert_format::{CertFault, Version, read};
+use row_tests::WorkedRow;
 use std::alloc::Global;
 
 // With a vector of one word and five digits of enable bits.
@@ -26,9 +26,9 @@ const WITHOUT_PAIRS: &[Piece] = &[
     (b"witness open\nend\n", b"", 0, b""),
 ];
 
-// With vectors of two words, fourteen digits, a word above 3FFF and a bound above 2048.
+// With vectors of two words, fourteen digits, a word above 3FFF, a bound above 2048 and RAMPZ.
 const WITH_PAIRS: &[Piece] = &[
-    (b"stackcert 4\ndevice atmega1280\n", b"", 0, b""),
+    (b"stackcert 5\ndevice atmega1280\n", b"", 0, b""),
     (b"bound 8192\nassume 2\n", b"", 0, b""),
     (b"pairs\nnever FFFF\n", b"", 0, b""),
     (b"instances 2\n", b"", 0, b""),
@@ -49,7 +49,7 @@ const WITH_PAIRS: &[Piece] = &[
         b"node 0 0000 00000000000000 0 0 c0 -",
         b" -000000FF",
         32,
-        b" -7F00 - - - - -\n",
+        b" -FF010101 -7F00 - - - - -\n",
     ),
     (
         b"node 0 FFFF FFFFFFFFFFFFFF 0 0 c0 00 from 0\n",
@@ -81,7 +81,7 @@ fn is_read(alloc: Global, device: Device, text: &[u8], pairs: bool) -> bool {
     }
 }
 
-impl Worked for Said {
+impl WorkedRow for Said {
     fn holds(&self, alloc: Global) -> bool {
         let Some(device) = device_named(self.0.as_bytes()) else {
             return false;
@@ -140,7 +140,25 @@ pub static UNREAD: [(&str, &[Unread]); 1] = [(
         Unread("attiny84", "stackcert 3\nbound 0\n", Due::Malformed(0)),
         Unread("attiny84", "stackcert 2\nbound 0\n", Due::Malformed(0)),
         Unread("attiny84", "stackcert 1\nbound 0\n", Due::Malformed(0)),
+        Unread("attiny84", "stackcert 5\nbound 0\n", Due::Malformed(0)),
         Unread("atmega328", "stackcert 4\n", Due::Malformed(0)),
+        Unread("atmega328", "stackcert 5\n", Due::Malformed(0)),
+        Unread(
+            "atmega128",
+            "stackcert 4\ndevice atmega128\n",
+            Due::Malformed(0),
+        ),
+        Unread("atmega2560", "stackcert 6\n", Due::Malformed(0)),
+        Unread(
+            "atmega2560",
+            "stackcert 5\ndevice atmega2561\n",
+            Due::Other("atmega2561"),
+        ),
+        Unread(
+            "atmega2560",
+            "stackcert 5\ndevice attiny13\n",
+            Due::Other("attiny13"),
+        ),
         Unread(
             "attiny84",
             "stackcert 4\ndevice attiny84\nbound 2049\n",
@@ -148,7 +166,7 @@ pub static UNREAD: [(&str, &[Unread]); 1] = [(
         ),
         Unread(
             "atmega1284",
-            "stackcert 4\ndevice atmega1284p\nbound 16385\n",
+            "stackcert 5\ndevice atmega1284p\nbound 16385\n",
             Due::Malformed(31),
         ),
         // `pairs` behind another line
@@ -182,7 +200,7 @@ fn is_due(fault: &CertFault, due: &Due) -> bool {
     }
 }
 
-impl Worked for Unread {
+impl WorkedRow for Unread {
     fn holds(&self, alloc: Global) -> bool {
         let Some(device) = device_named(self.0.as_bytes()) else {
             return false;

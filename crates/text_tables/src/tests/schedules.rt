@@ -1,8 +1,8 @@
 //! Texts and the places of refusals. Offsets are counted by hand. Replays are in tests/end_to_end.
 
-use super::Worked;
 use avr_model::choice::Choice;
 use avr_model::device::Device;
+use row_tests::WorkedRow;
 use std::alloc::Global;
 use text_base::{LineReader, LineWriter};
 use witness_replay::{Schedule, ScheduleFault};
@@ -80,7 +80,7 @@ fn is_read(alloc: Global, reader: &mut LineReader<'_>, row: &Text) -> bool {
     }
 }
 
-impl Worked for Text {
+impl WorkedRow for Text {
     fn holds(&self, alloc: Global) -> bool {
         let mut reader = LineReader::new(self.0);
         is_read(alloc, &mut reader, self)

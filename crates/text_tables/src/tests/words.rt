@@ -1,6 +1,6 @@
 //! Each call with ample memory, and faults at chosen calls.
 
-use super::Worked;
+use row_tests::WorkedRow;
 use std::alloc::{AllocError, Global};
 use text_base::{
     DigitFault, FileFault, Files, LineReader, LineWriter, MemFiles, MemSink, Sink, SinkFault,
@@ -106,7 +106,7 @@ pub static HEXADECIMAL: [(&str, &[Hexadecimal]); 1] = [(
     ],
 )];
 
-impl Worked for Hexadecimal {
+impl WorkedRow for Hexadecimal {
     fn holds(&self, _alloc: Global) -> bool {
         self.1 >= 1 && self.1 <= 32 && read_hex(self.0, self.1) == self.2
     }
@@ -127,7 +127,7 @@ pub static DECIMAL: [(&str, &[Decimal]); 1] = [(
     ],
 )];
 
-impl Worked for Decimal {
+impl WorkedRow for Decimal {
     fn holds(&self, _alloc: Global) -> bool {
         read_dec(self.0, self.1) == self.2
     }

@@ -7,7 +7,6 @@
 
 ghost use Rattle.std.specs.Prelude.{◌<◌, ◌+◌, length};
 
-use super::Worked;
 use super::arithmetic::{
     ADIW, AND, ASR, COM, DEC, EOR, FMUL, FMULS, FMULSU, INC, LSR, MUL, MULS, MULSU, OR, Operation,
     ROR, SBC, SBIW, SUB,
@@ -15,6 +14,7 @@ use super::arithmetic::{
 use super::three_valued::tri;
 use abs_alu::{add, com, logic, mul, shift, step_one, sub, wide};
 use bit_domain::bytes::TriByte;
+use row_tests::WorkedRow;
 use std::alloc::Global;
 
 fn of_byte((byte, register): (TriByte, TriByte)) -> [u8; 6] {
@@ -176,7 +176,7 @@ pub static SUMS: [(&str, &[SumRow]); 1] = [(
 // Z by the result, and Z kept for a result of 0.
 static DIFFERENCES: [Operation; 2] = [SUB, SBC];
 
-impl Worked for SumRow {
+impl WorkedRow for SumRow {
     fn holds(&self, _alloc: Global) -> bool {
         let row = &self.0;
         let (a, b, s) = (bits(row, 0), bits(row, 2), bits(row, 6));
@@ -277,7 +277,7 @@ pub static BITWISE: [(&str, &[BitRow]); 1] = [(
 
 static OPERATIONS: [Operation; 9] = [AND, OR, EOR, COM, INC, DEC, LSR, ROR, ASR];
 
-impl Worked for BitRow {
+impl WorkedRow for BitRow {
     fn holds(&self, _alloc: Global) -> bool {
         let row = &self.0;
         let (a, b, s) = (bits(row, 0), bits(row, 2), bits(row, 4));
@@ -381,7 +381,7 @@ pub static WORDS: [(&str, &[WordRow]); 1] = [(
     ],
 )];
 
-impl Worked for WordRow {
+impl WorkedRow for WordRow {
     fn holds(&self, _alloc: Global) -> bool {
         let row = &self.0;
         let (low, high, s) = (bits(row, 0), bits(row, 2), bits(row, 5));
@@ -457,7 +457,7 @@ pub static PRODUCTS: [(&str, &[ProductRow]); 1] = [(
 
 static PRODUCT_OPERATIONS: [Operation; 6] = [MUL, MULS, MULSU, FMUL, FMULS, FMULSU];
 
-impl Worked for ProductRow {
+impl WorkedRow for ProductRow {
     fn holds(&self, _alloc: Global) -> bool {
         let row = &self.0;
         let (a, b, s) = (bits(row, 1), bits(row, 3), bits(row, 5));

@@ -3,9 +3,9 @@
 mod bits;
 mod sums;
 
-use super::Worked;
 use avr_alu::{Logic, Mul, Shift, Sreg, add, com, logic, mul, shift, step_one, sub, wide};
 pub use bits::TABLES as BITS;
+use row_tests::WorkedRow;
 use std::alloc::Global;
 pub use sums::TABLES as SUMS;
 
@@ -87,7 +87,7 @@ fn found(row: &Row, s: Sreg) -> [u16; 2] {
     }
 }
 
-impl Worked for Row {
+impl WorkedRow for Row {
     fn holds(&self, _alloc: Global) -> bool {
         found(self, Sreg(0x00)) == self.4 && found(self, Sreg(0xFF)) == self.5
     }

@@ -1,8 +1,8 @@
 //! What names of devices mean.
 
-use super::Worked;
 use avr_model::device::Device;
 use avr_model::naming::{class_of, device_named, device_of_class};
+use row_tests::WorkedRow;
 use std::alloc::Global;
 
 /// A name, the name in texts and the device's numbers; names that aren't known have none of these.
@@ -10,10 +10,11 @@ pub struct Named(&'static str, &'static str, Numbers);
 
 // Words, last I/O address, bytes of SRAM, last vector, watchdog, limit, depth; whether `jmp`, multiplication, `elpm` and `break` are
 // instructions, and the word at which vector 2 is entered; the bytes of a pushed word, whether there is SPH, and whether `movw`, and `lpm`
-// into a register that it names, are instructions.
-type Numbers = [u32; 16];
+// into a register that it names, are instructions; whether `elpm` into a register that it names, and `eijmp`, are, and the greatest numbers
+// of RAMPZ and EIND.
+type Numbers = [u32; 20];
 
-const NONE: Numbers = [0; 16];
+const NONE: Numbers = [0; 20];
 
 /// Names of devices. Source: the data sheets.
 pub static NAMES: [(&str, &[Named]); 1] = [(
@@ -23,105 +24,105 @@ pub static NAMES: [(&str, &[Named]); 1] = [(
             "atmega48pa",
             "atmega48pa",
             [
-                2048, 0xFF, 512, 26, 7, 16384, 2048, 0, 1, 0, 1, 1, 2, 1, 1, 1,
+                2048, 0xFF, 512, 26, 7, 16384, 2048, 0, 1, 0, 1, 1, 2, 1, 1, 1, 0, 0, 0, 0,
             ],
         ),
         Named(
             "atmega48",
             "atmega48pa",
             [
-                2048, 0xFF, 512, 26, 7, 16384, 2048, 0, 1, 0, 1, 1, 2, 1, 1, 1,
+                2048, 0xFF, 512, 26, 7, 16384, 2048, 0, 1, 0, 1, 1, 2, 1, 1, 1, 0, 0, 0, 0,
             ],
         ),
         Named(
             "atmega48p",
             "atmega48pa",
             [
-                2048, 0xFF, 512, 26, 7, 16384, 2048, 0, 1, 0, 1, 1, 2, 1, 1, 1,
+                2048, 0xFF, 512, 26, 7, 16384, 2048, 0, 1, 0, 1, 1, 2, 1, 1, 1, 0, 0, 0, 0,
             ],
         ),
         Named(
             "atmega328",
             "atmega328p",
             [
-                16384, 0xFF, 2048, 26, 7, 16384, 2048, 1, 1, 0, 1, 2, 2, 1, 1, 1,
+                16384, 0xFF, 2048, 26, 7, 16384, 2048, 1, 1, 0, 1, 2, 2, 1, 1, 1, 0, 0, 0, 0,
             ],
         ),
         Named(
             "atmega8",
             "atmega8",
             [
-                4096, 0x5F, 1024, 19, 0, 16384, 2048, 0, 1, 0, 0, 1, 2, 1, 1, 1,
+                4096, 0x5F, 1024, 19, 0, 16384, 2048, 0, 1, 0, 0, 1, 2, 1, 1, 1, 0, 0, 0, 0,
             ],
         ),
         Named(
             "atmega163",
             "atmega163",
             [
-                8192, 0x5F, 1024, 18, 0, 16384, 2048, 1, 1, 0, 0, 2, 2, 1, 1, 1,
+                8192, 0x5F, 1024, 18, 0, 16384, 2048, 1, 1, 0, 0, 2, 2, 1, 1, 1, 0, 0, 0, 0,
             ],
         ),
         Named(
             "attiny85",
             "attiny85",
             [
-                4096, 0x5F, 512, 15, 13, 16384, 2048, 0, 0, 0, 1, 1, 2, 1, 1, 1,
+                4096, 0x5F, 512, 15, 13, 16384, 2048, 0, 0, 0, 1, 1, 2, 1, 1, 1, 0, 0, 0, 0,
             ],
         ),
         Named(
             "attiny861a",
             "attiny861",
             [
-                4096, 0x5F, 512, 19, 13, 16384, 2048, 0, 0, 0, 1, 1, 2, 1, 1, 1,
+                4096, 0x5F, 512, 19, 13, 16384, 2048, 0, 0, 0, 1, 1, 2, 1, 1, 1, 0, 0, 0, 0,
             ],
         ),
         Named(
             "attiny1634",
             "attiny1634",
             [
-                8192, 0xFF, 1024, 28, 6, 16384, 2048, 1, 0, 0, 1, 2, 2, 1, 1, 1,
+                8192, 0xFF, 1024, 28, 6, 16384, 2048, 1, 0, 0, 1, 2, 2, 1, 1, 1, 0, 0, 0, 0,
             ],
         ),
         Named(
             "atmega16u2",
             "at90usb162",
             [
-                8192, 0xFF, 512, 29, 0, 16384, 2048, 1, 0, 0, 1, 2, 2, 1, 1, 1,
+                8192, 0xFF, 512, 29, 0, 16384, 2048, 1, 0, 0, 1, 2, 2, 1, 1, 1, 0, 0, 0, 0,
             ],
         ),
         Named(
             "atmega32u4",
             "atmega32u4",
             [
-                16384, 0xFF, 2560, 43, 13, 16384, 2560, 1, 1, 0, 1, 2, 2, 1, 1, 1,
+                16384, 0xFF, 2560, 43, 13, 16384, 2560, 1, 1, 0, 1, 2, 2, 1, 1, 1, 0, 0, 0, 0,
             ],
         ),
         Named(
             "atmega64a",
             "atmega64",
             [
-                32768, 0xFF, 4096, 35, 0, 32768, 4096, 1, 1, 0, 1, 2, 2, 1, 1, 1,
+                32768, 0xFF, 4096, 35, 0, 32768, 4096, 1, 1, 0, 1, 2, 2, 1, 1, 1, 0, 0, 0, 0,
             ],
         ),
         Named(
             "atmega128",
             "atmega128",
             [
-                65536, 0xFF, 4096, 35, 0, 65536, 4096, 1, 1, 1, 1, 2, 2, 1, 1, 1,
+                65536, 0xFF, 4096, 35, 0, 65536, 4096, 1, 1, 1, 1, 2, 2, 1, 1, 1, 1, 0, 1, 0,
             ],
         ),
         Named(
             "atmega1280",
             "atmega1280",
             [
-                65536, 0x1FF, 8192, 57, 13, 65536, 8192, 1, 1, 1, 1, 2, 2, 1, 1, 1,
+                65536, 0x1FF, 8192, 57, 13, 65536, 8192, 1, 1, 1, 1, 2, 2, 1, 1, 1, 1, 0, 1, 0,
             ],
         ),
         Named(
             "atmega1284",
             "atmega1284p",
             [
-                65536, 0xFF, 16384, 35, 9, 65536, 16384, 1, 1, 1, 1, 2, 2, 1, 1, 1,
+                65536, 0xFF, 16384, 35, 9, 65536, 16384, 1, 1, 1, 1, 2, 2, 1, 1, 1, 1, 0, 1, 0,
             ],
         ),
         // as long as a name of the table can be
@@ -129,7 +130,7 @@ pub static NAMES: [(&str, &[Named]); 1] = [(
             "atmega3290pa",
             "atmega3290p",
             [
-                16384, 0xFF, 2048, 25, 0, 16384, 2048, 1, 1, 0, 1, 2, 2, 1, 1, 1,
+                16384, 0xFF, 2048, 25, 0, 16384, 2048, 1, 1, 0, 1, 2, 2, 1, 1, 1, 0, 0, 0, 0,
             ],
         ),
         // the last of the table
@@ -137,33 +138,58 @@ pub static NAMES: [(&str, &[Named]); 1] = [(
             "attiny88",
             "attiny88",
             [
-                4096, 0xFF, 512, 20, 8, 16384, 2048, 0, 0, 0, 1, 1, 2, 1, 1, 1,
+                4096, 0xFF, 512, 20, 8, 16384, 2048, 0, 0, 0, 1, 1, 2, 1, 1, 1, 0, 0, 0, 0,
             ],
         ),
         Named(
             "atmega328pb",
             "atmega328pb",
             [
-                16384, 0xFF, 2048, 45, 7, 16384, 2048, 1, 1, 0, 1, 2, 2, 1, 1, 1,
+                16384, 0xFF, 2048, 45, 7, 16384, 2048, 1, 1, 0, 1, 2, 2, 1, 1, 1, 0, 0, 0, 0,
             ],
         ),
         Named(
             "attiny13a",
             "attiny13",
-            [512, 0x5F, 64, 10, 9, 16384, 2048, 0, 0, 0, 1, 1, 2, 0, 1, 1],
+            [
+                512, 0x5F, 64, 10, 9, 16384, 2048, 0, 0, 0, 1, 1, 2, 0, 1, 1, 0, 0, 0, 0,
+            ],
         ),
         Named(
             "at90s2343",
             "attiny22",
             [
-                1024, 0x5F, 128, 3, 0, 16384, 2048, 0, 0, 0, 0, 1, 2, 0, 0, 0,
+                1024, 0x5F, 128, 3, 0, 16384, 2048, 0, 0, 0, 0, 1, 2, 0, 0, 0, 0, 0, 0, 0,
             ],
         ),
         Named(
             "at90s8515",
             "at90s8515",
             [
-                4096, 0x5F, 512, 13, 0, 16384, 2048, 0, 0, 0, 0, 1, 2, 1, 0, 0,
+                4096, 0x5F, 512, 13, 0, 16384, 2048, 0, 0, 0, 0, 1, 2, 1, 0, 0, 0, 0, 0, 0,
+            ],
+        ),
+        // with RAMPZ but without `elpm` into a register that it names
+        Named(
+            "atmega103",
+            "atmega103",
+            [
+                65536, 0x5F, 4000, 24, 0, 65536, 4000, 1, 0, 1, 0, 2, 2, 1, 0, 0, 0, 0, 1, 0,
+            ],
+        ),
+        // with EIND
+        Named(
+            "atmega2560",
+            "atmega2560",
+            [
+                131072, 0x1FF, 8192, 57, 13, 131072, 8192, 1, 1, 1, 1, 2, 3, 1, 1, 1, 1, 1, 3, 1,
+            ],
+        ),
+        Named(
+            "atmega2564rfr2",
+            "atmega256rfr2",
+            [
+                131072, 0x1FF, 32768, 77, 13, 131072, 32768, 1, 1, 1, 1, 2, 3, 1, 1, 1, 1, 1, 3, 1,
             ],
         ),
         Named("", "", NONE),
@@ -174,7 +200,7 @@ pub static NAMES: [(&str, &[Named]); 1] = [(
         Named("atmega328p\0", "", NONE),
         Named("atmega328pbx", "", NONE),
         Named("ATmega328P", "", NONE),
-        Named("atmega2560", "", NONE),
+        Named("attiny10", "", NONE),
         Named("atmega3290pa\0", "", NONE),
     ],
 )];
@@ -197,10 +223,14 @@ fn numbers(device: Device) -> Numbers {
         u32::from(device.has_sph()),
         u32::from(device.has_movw()),
         u32::from(device.has_lpmx()),
+        u32::from(device.has_elpmx()),
+        u32::from(device.has_eijmp()),
+        u32::from(device.rampz_most()),
+        u32::from(device.eind_most()),
     ]
 }
 
-impl Worked for Named {
+impl WorkedRow for Named {
     // The device has this class, whose name in texts means it again; another name means none there.
     fn holds(&self, _alloc: Global) -> bool {
         let own = device_of_class(self.0.as_bytes());

@@ -1,12 +1,12 @@
 //! Enable bits of devices: where they lie, what writes leave of them, and splits against all written bytes. Worked by hand from the data
 //! sheets' places of the bits, with devices for each kind of place.
 
-use super::Worked;
 use super::three_valued::{Bits, byte};
 use avr_model::device::Device;
 use avr_model::naming::device_named;
 use bit_domain::TriByte;
 use node_keys::split;
+use row_tests::WorkedRow;
 use std::alloc::Global;
 use vector_table::{Masks, enable_of, held, write};
 
@@ -45,7 +45,7 @@ fn vector(device: Device, address: u16, bit: u8) -> u8 {
     enable_of(device, address, bit).unwrap_or(0)
 }
 
-impl Worked for EnableRow {
+impl WorkedRow for EnableRow {
     fn holds(&self, _alloc: Global) -> bool {
         let address = self.1;
         match device_named(self.0.as_bytes()) {
@@ -136,7 +136,7 @@ pub static WRITES: [(&str, &[Written]); 1] = [(
     ],
 )];
 
-impl Worked for Written {
+impl WorkedRow for Written {
     fn holds(&self, _alloc: Global) -> bool {
         match device_named(self.0.as_bytes()) {
             Some(device) => {
@@ -244,7 +244,7 @@ fn are_split(
     }
 }
 
-impl Worked for Address {
+impl WorkedRow for Address {
     // Each value is split so, and the unknown byte into this many.
     fn holds(&self, alloc: Global) -> bool {
         let address = self.1;
@@ -345,7 +345,7 @@ fn are_bits(all: &[Masks], bits: &[u128]) -> bool {
     all.len() == bits.len()
 }
 
-impl Worked for Split {
+impl WorkedRow for Split {
     fn holds(&self, alloc: Global) -> bool {
         match device_named(self.0.as_bytes()) {
             Some(device) => {

@@ -1,7 +1,7 @@
 //! The order on a table of keys.
 
-use super::Worked;
 use node_keys::{EdgeKind, High, InstKey, Kind, NodeKey, SpForm};
+use row_tests::WorkedRow;
 use std::alloc::Global;
 use std::cmp::Ordering;
 use vector_table::Masks;
@@ -47,7 +47,7 @@ fn is_order<K: Ord>(a: &K, b: &K, order: Ordering) -> bool {
     a.cmp(b) == order && a.partial_cmp(b) == Some(order) && (a == b) == order.is_eq()
 }
 
-impl Worked for InstPlace {
+impl WorkedRow for InstPlace {
     fn holds(&self, _alloc: Global) -> bool {
         let key = inst_of(&self.1);
         for other in ALL_INSTANCES {
@@ -134,7 +134,7 @@ const ALL_NODES: &[NodePlace] = &[
 /// Nodes, which ascend by instance and then by their fields.
 pub static NODES: [(&str, &[NodePlace]); 1] = [("node", ALL_NODES)];
 
-impl Worked for NodePlace {
+impl WorkedRow for NodePlace {
     fn holds(&self, _alloc: Global) -> bool {
         let key = node_of(self);
         for other in ALL_NODES {
@@ -161,7 +161,7 @@ const ALL_EDGES: &[EdgePlace] = &[
 /// Edges, which ascend by kind and then by vector.
 pub static EDGES: [(&str, &[EdgePlace]); 1] = [("edge", ALL_EDGES)];
 
-impl Worked for EdgePlace {
+impl WorkedRow for EdgePlace {
     fn holds(&self, _alloc: Global) -> bool {
         for other in ALL_EDGES {
             if !is_order(&self.1, &other.1, self.0.cmp(&other.0)) {

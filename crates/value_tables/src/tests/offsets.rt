@@ -1,6 +1,6 @@
 //! A compiler's frame set-up in tags and on bytes, all pairs of some tags, and lists of slots.
 
-use super::Worked;
+use row_tests::WorkedRow;
 use sp_domain::{
     CarryTag, Slot, Slots, Tag, add_byte, add_high, frame, move_high, move_pair, sub_byte,
     sub_high, sub_low,
@@ -34,7 +34,7 @@ fn is_nowhere(t: Tag) -> bool {
     frame(t, t).is_none() && frame(Tag::None, t).is_none() && frame(t, Tag::None).is_none()
 }
 
-impl Worked for TagRow {
+impl WorkedRow for TagRow {
     // Whether this tag is within itself and none alone.
     fn holds(&self, _alloc: Global) -> bool {
         for other in ALL_TAGS {
@@ -69,7 +69,7 @@ fn is_carry_pair(c: CarryTag, d: CarryTag, same: bool) -> bool {
     c.le(d) == (same || d == CarryTag::None) && c.join(d) == both
 }
 
-impl Worked for CarryRow {
+impl WorkedRow for CarryRow {
     fn holds(&self, _alloc: Global) -> bool {
         for other in ALL_CARRY_TAGS {
             if !is_carry_pair(self.1, other.1, self.0 == other.0) {
@@ -103,7 +103,7 @@ pub static FRAMES: [(&str, &[FrameRow]); 1] = [(
     ],
 )];
 
-impl Worked for FrameRow {
+impl WorkedRow for FrameRow {
     fn holds(&self, _alloc: Global) -> bool {
         frame(self.0, self.1) == self.2
     }
@@ -389,7 +389,7 @@ fn found(call: &Call, t: Tag, high: Tag) -> (Tag, Tag, CarryTag) {
     }
 }
 
-impl Worked for Row {
+impl WorkedRow for Row {
     fn holds(&self, _alloc: Global) -> bool {
         found(&self.0, self.1, self.2) == self.3
     }
@@ -427,7 +427,7 @@ fn is_moved(base: u16, k: u16, amount: u16) -> bool {
         && frame(higher, add_high(Tag::SpHi(k), pages, carry)) == Some(more)
 }
 
-impl Worked for BaseRow {
+impl WorkedRow for BaseRow {
     fn holds(&self, _alloc: Global) -> bool {
         for at in 0..49 {
             if !is_moved(self.0, WORDS[at / 7], WORDS[at % 7]) {

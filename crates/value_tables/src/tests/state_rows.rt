@@ -1,13 +1,14 @@
 //! Rows of two states and an operation on them.
 
 ghost use Rattle.std.specs.Prelude.{ℕ, ◌<◌};
+ghost use Rattle.avr_model.specs.State.{REGISTERS};
 ghost use Rattle.abs_state.specs.Values.{value_at};
 ghost use Rattle.abs_state.specs.Formed.{NamesRegister};
 
-use super::Worked;
 use super::pools::is_kept;
 use super::states::{ANY, Byte, Flags, Known, SLOT, X45, enters, is_join, returns_so, state_of};
 use abs_state::AbsState;
+use row_tests::WorkedRow;
 use sp_domain::{CarryTag, Slot, Tag};
 use std::alloc::Global;
 
@@ -213,7 +214,7 @@ pub static TABLES: [(&str, &[StateRow]); 4] = [
 
 // Whether the operation on the two states gives this.
 fn is_made(alloc: Global, first: &AbsState, second: &AbsState, what: &What) -> bool
-    requires { (r : ℕ) → r < 32 → NamesRegister (value_at second.now.registers r).tag }
+    requires { (r : ℕ) → r < REGISTERS → NamesRegister (value_at second.now.registers r).tag }
 {
     match what {
         What::Return(due) => returns_so(alloc, first, second, due),
@@ -230,7 +231,7 @@ fn holds_beside(alloc: Global, first: &AbsState, row: &StateRow) -> bool {
     }
 }
 
-impl Worked for StateRow {
+impl WorkedRow for StateRow {
     fn holds(&self, alloc: Global) -> bool {
         match state_of(alloc, &self.0) {
             Some(first) => holds_beside(alloc, &first, self),

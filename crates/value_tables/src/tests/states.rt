@@ -1,12 +1,13 @@
 //! Values and states worked by hand, each answer compared as a whole.
 
 ghost use Rattle.std.specs.Prelude.{ℕ, ◌≡◌, ◌<◌, length, IfSome, IsTrue};
+ghost use Rattle.avr_model.specs.State.{REGISTERS};
 ghost use Rattle.abs_state.specs.Values.{value_at};
 ghost use Rattle.abs_state.specs.Formed.{NamesRegister};
 
-use super::Worked;
-use abs_state::{AbsByte, AbsFlags, AbsState};
+use abs_state::{AbsByte, AbsFlags, AbsState, Registers};
 use bit_domain::TriByte;
+use row_tests::WorkedRow;
 use sp_domain::{CarryTag, Slot, Slots, Tag};
 use std::alloc::{AllocError, Global};
 
@@ -39,6 +40,9 @@ pub struct Known(pub Byte, pub Byte, pub Flags, pub &'static [Slot<Byte>]);
 pub const ANY: Byte = Byte(Tag::None, 0, 0, 0, 0xff);
 
 pub const X45: Byte = Byte(Tag::None, 0xff, 0x45, 0x45, 0x45);
+
+// RAMPZ and EIND after reset.
+const ZERO: Byte = Byte(Tag::None, 0xff, 0, 0, 0);
 
 /// A slot alone.
 pub const SLOT: &[Slot<Byte>] = &[Slot::Guarded(Byte(Tag::None, 0xff, 0x22, 0x22, 0x22))];
@@ -73,7 +77,7 @@ pub static VALUE_JOINS: [(&str, &[ValueJoin]); 1] = [(
     ],
 )];
 
-impl Worked for ValueJoin {
+impl WorkedRow for ValueJoin {
     // The join is as expected and above both, and the first, which isn't the join, is not above it.
     fn holds(&self, _alloc: Global) -> bool {
         let (v, w, both) = (byte_of(&self.0), byte_of(&self.1), byte_of(&self.2));
@@ -119,7 +123,7 @@ pub static FLAG_JOINS: [(&str, &[FlagJoin]); 1] = [(
     ],
 )];
 
-impl Worked for FlagJoin {
+impl WorkedRow for FlagJoin {
     fn holds(&self, _alloc: Global) -> bool {
         let (f, g, both) = (flags_of(&self.0), flags_of(&self.1), flags_of(&self.2));
         f.join(g) == both && f.le(both) && g.le(both) && !both.le(f)
@@ -150,7 +154,7 @@ pub fn are_untagged() -> bool {
 fn state(alloc: Global, first: AbsByte, last: AbsByte, flags: AbsFlags) -> AbsState
     requires first { NamesRegister first.tag }
     requires last { NamesRegister last.tag }
-    ensures { (r : ℕ) → r < 32 → NamesRegister (value_at result.registers r).tag }
+    ensures { (r : ℕ) → r < REGISTERS → NamesRegister (value_at result.registers r).tag }
 {
     let mut state = AbsState::root(alloc);
     state.registers[0] = first;
@@ -164,7 +168,7 @@ fn is_named(value: AbsByte) -> bool
     ensures { IsTrue result → NamesRegister value.tag }
 {
     match value.tag {
-        Tag::Entry(r) => r < 32,
+        Tag::Entry(r) => r < 34,
         _ => true,
     }
 }
@@ -188,7 +192,7 @@ fn push_all(slots: &mut Slots<AbsByte>, known: &[Slot<Byte>]) -> Result<(), Allo
 
 /// The state with these values. None also if memory runs out.
 pub fn state_of(alloc: Global, known: &Known) -> Option<AbsState>
-    ensures { IfSome result (λ s. (r : ℕ) → r < 32 → NamesRegister (value_at s.registers r).tag) }
+    ensures { IfSome result (λ s. (r : ℕ) → r < REGISTERS → NamesRegister (value_at s.registers r).tag) }
 {
     let (first, last) = (byte_of(&known.0), byte_of(&known.1));
     if !is_named(first) || !is_named(last) {
@@ -215,12 +219,13 @@ static FLAGS: [Flags; 2] = [
 ];
 
 fn knows_flags_alone(root: &AbsState) -> bool {
-    root.registers == [byte_of(&BYTES[0]); 32]
-        && root.flags == flags_of(&FLAGS[0])
-        && root.slots.len() == 0
+    let mut registers = [byte_of(&BYTES[0]); 34];
+    registers[32] = byte_of(&ZERO);
+    registers[33] = byte_of(&ZERO);
+    root.registers == registers && root.flags == flags_of(&FLAGS[0]) && root.slots.len() == 0
 }
 
-/// Whether only the flags are known in the root.
+/// Whether only RAMPZ, EIND and the flags are known in the root.
 pub fn is_root(alloc: Global) -> bool {
     knows_flags_alone(&AbsState::root(alloc))
 }
@@ -231,8 +236,8 @@ fn is_entry(entered: AbsByte, r: u8, was: AbsByte) -> bool {
     entered == AbsByte { tag, ..was }
 }
 
-fn are_entries(entered: &[AbsByte; 32], caller: &[AbsByte; 32]) -> bool {
-    for r in 0..32u8 {
+fn are_entries(entered: &Registers, caller: &Registers) -> bool {
+    for r in 0..34u8 {
         let at = usize::from(r);
         if !is_entry(entered[at], r, caller[at]) {
             return false;
@@ -272,7 +277,7 @@ fn is_due(alloc: Global, state: &AbsState, due: &Option<Known>) -> bool {
 
 /// Whether the state after a return has these values; none if no machine returns so.
 pub fn returns_so(alloc: Global, caller: &AbsState, exit: &AbsState, due: &Option<Known>) -> bool
-    requires { (r : ℕ) → r < 32 → NamesRegister (value_at exit.now.registers r).tag }
+    requires { (r : ℕ) → r < REGISTERS → NamesRegister (value_at exit.now.registers r).tag }
 {
     match caller.returned(alloc, exit) {
         Ok(Some(after)) => is_due(alloc, &after, due),

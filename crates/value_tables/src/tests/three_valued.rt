@@ -4,8 +4,8 @@
 //! to each choice as a whole number, and takes a bit or carry of the answer as known if all answers agree. Operands are pairs of known
 //! bits and value; bits are 0, 1, or 2 for either.
 
-use super::Worked;
 use bit_domain::{Sum, Tri, TriByte, add, and, eor, equal, not, or, sub};
+use row_tests::WorkedRow;
 use std::alloc::Global;
 
 /// Known bits and their values.
@@ -155,7 +155,7 @@ fn told(sum: Sum) -> [u8; 5] {
     ]
 }
 
-impl Worked for SumRow {
+impl WorkedRow for SumRow {
     fn holds(&self, _alloc: Global) -> bool {
         let row = &self.0;
         let (a, b) = (TriByte::new(row[0], row[1]), TriByte::new(row[2], row[3]));
@@ -282,7 +282,7 @@ pub static LOGIC: [(&str, &[LogicRow]); 1] = [(
     ],
 )];
 
-impl Worked for LogicRow {
+impl WorkedRow for LogicRow {
     fn holds(&self, _alloc: Global) -> bool {
         let row = &self.0;
         let (a, b) = (TriByte::new(row[0], row[1]), TriByte::new(row[2], row[3]));
@@ -356,7 +356,7 @@ fn met(meet: Option<TriByte>) -> [u8; 3] {
     }
 }
 
-impl Worked for LatticeRow {
+impl WorkedRow for LatticeRow {
     fn holds(&self, _alloc: Global) -> bool {
         let row = &self.0;
         let (a, b) = (TriByte::new(row[0], row[1]), TriByte::new(row[2], row[3]));

@@ -1,7 +1,7 @@
 use Rattle.std.proofs.Common.{sym, subst, Bool}
 use Rattle.abs_state.specs.PairBytes.{left_in}
 use Rattle.local_rules.specs.Raw.{moves_to}
-use Rattle.local_rules.specs.Local.{node_where}
+use Rattle.local_rules.specs.Settling.{node_where}
 use Rattle.abs_step.specs.Adding.{plain, AreNodesAdded}
 use Rattle.abs_step.proofs.Added.{none_added}
 use Rattle.abs_step.proofs.moves.put.Goals as goal

@@ -10,8 +10,8 @@ pub returns : goal.returns
 returns c =
     let write = c.args.write.now in
     subst (λ (t : AbsState). Adds c.args.nodes.now c.add.new.self c.add.result (one write.key t))
-    (is_register_written write.state.now c.in_ok-after.after c.args.d write.value c.of_bits-value.result c.set-registers.result c.forgotten.result c.set_of.result
-    c.end_facts.new.facts c.hull_written.new.facts
-    c.of_bits-value.ensures c.set-registers.ensures c.forgotten.ensures c.in_ok-after.ensures.ok c.set_of.ensures c.set_of.type_inv c.end_facts.ensures
-    (c.hull_written.ensures ∙ ap (λ (r : ℕ). written_hull c.set-registers.result r c.end_facts.new.facts) (c.from.ensures ∙ c.get.ensures.value)))
+    (is_register_written write.device write.state.now c.in_ok-after.after c.args.d write.value c.stored_value-value.result c.set_at-registers.result c.forgotten.result c.set_of.result
+    c.end_facts.new.facts c.end_hull.new.facts
+    c.stored_value-value.ensures c.set_at-registers.ensures c.forgotten.ensures c.in_ok-after.ensures.ok c.set_of.ensures c.set_of.type_inv c.end_facts.ensures
+    c.end_hull.ensures)
     c.add.ensures

@@ -5,6 +5,6 @@ use Rattle.cert_words.proofs.state.slots_of.Given as goal
 
 abbrev pub invariant-loop : goal.invariant-loop
 invariant-loop l = record {
-  same : words_from (slot_in l.version l.root) l.slots (l.count - l.counter) l.words ≡ words_from (slot_in l.version l.root) [] l.count l.initial.words;
+  same : words_from (slot_in l.form.device l.form.version l.root) l.slots (l.count - l.counter) l.words ≡ words_from (slot_in l.form.device l.form.version l.root) [] l.count l.initial.words;
   count : length l.slots ≡ l.counter;
 }

@@ -8,5 +8,5 @@ place-guess-requires-clause-there c = belongs_at c.args.insts.now c.args.nodes.n
 
 pub loop-node-preserved : goal.loop-node-preserved
 loop-node-preserved c =
-    lines_next (node_words c.args.device c.args.version c.args.insts.now) c.appending_laws.ensures c.args.out.now c.loop-node.out c.write_node.new.out c.args.nodes.now c.loop-node.node-index c.node-item.result c.loop-node-test.true c.node-item.is c.loop-node.invariant
+    lines_next (node_words c.args.form.device c.args.form.version c.args.insts.now) c.appending_laws.ensures c.args.out.now c.loop-node.out c.write_node.new.out c.args.nodes.now c.loop-node.node-index c.node-item.result c.loop-node-test.true c.node-item.is c.loop-node.invariant
     (rw c.place-guess.ensures at c.in_ok-write_node.ensures)

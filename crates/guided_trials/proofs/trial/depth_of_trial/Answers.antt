@@ -2,7 +2,7 @@ use Rattle.std.proofs.Common.{sym, ap, ◌∙◌, List}
 use Rattle.avr_model.specs.declared.choice.Choice.{Choice}
 use Rattle.avr_model.specs.Run.{depth_of}
 use Rattle.guided_trials.specs.Trials.{fill_of, initial}
-use Rattle.trial_runs.proofs.AllLaws.{depth_from_reset}
+use Rattle.stimulus.proofs.AllLaws.{depth_from_reset}
 use Rattle.guided_trials.proofs.Starts.{start_as, started}
 use Rattle.guided_trials.proofs.trial.depth_of_trial.Goals as goal
 

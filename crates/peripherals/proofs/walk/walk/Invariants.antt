@@ -1,5 +1,4 @@
-use Rattle.std.proofs.Common.{◌≡◌, length, true, List}
-use Rattle.avr_model.specs.declared.choice.Choice.{Choice}
+use Rattle.std.proofs.Common.{◌≡◌, length}
 use Rattle.peripherals.specs.Due.{begun}
 use Rattle.peripherals.specs.Traces.{Leads}
 use Rattle.peripherals.specs.Midway.{setting_of, IsProgressKnown}
@@ -9,6 +8,6 @@ abbrev pub invariant-loop-step : goal.invariant-loop-step
 invariant-loop-step g l = record {
   known : IsProgressKnown l.wiring.devices.now l.progress;
   at : l.progress.step ≡ l.step;
-  led : (cs : List Choice) × Leads (setting_of g.F.Fn g.G.Fn l.wiring) l.steps (begun l.wiring.devices.now) l.fn.machine cs l.progress l.machine
-      × (length cs ≡ l.step) × (l.keeps ≡ true → l.choices ≡ cs);
+  led : Leads (setting_of g.F.Fn g.G.Fn l.wiring) l.steps (begun l.wiring.devices.now) l.fn.machine l.choices l.progress l.machine;
+  count : length l.choices ≡ l.step;
 }

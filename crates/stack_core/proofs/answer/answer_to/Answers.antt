@@ -4,7 +4,7 @@ use Rattle.commands.specs.Views.{command_seen}
 use Rattle.replies.specs.declared.status.Status.TheVariants as exit
 use Rattle.replies.specs.Reply.{WorkReply}
 use Rattle.replies.specs.Headline.{HasWords}
-use Rattle.command_files.specs.Reading.{bytes_of}
+use Rattle.stack_core.specs.Reading.{bytes_of}
 use Rattle.stack_core.proofs.Answering.{worked_result}
 use Rattle.stack_core.proofs.answer.answer_to.Goals as goal
 

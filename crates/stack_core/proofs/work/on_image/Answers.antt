@@ -1,6 +1,6 @@
 use Rattle.std.proofs.Common.{subst}
 use Rattle.commands.specs.Views.{work_seen}
-use Rattle.command_files.specs.Reading.{bytes_of}
+use Rattle.stack_core.specs.Reading.{bytes_of}
 use Rattle.stack_core.specs.Answering.{LoadsOn}
 use Rattle.stack_core.proofs.Replies.{loaded_reply}
 use Rattle.stack_core.proofs.work.on_image.Goals as goal

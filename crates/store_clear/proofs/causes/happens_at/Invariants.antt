@@ -6,8 +6,8 @@ use Rattle.family_edges.specs.Tasks.{task_of}
 
 abbrev pub invariant-loop-at : goal.invariant-loop-at
 invariant-loop-at l =
-    (HappensAt (task_of l.task) l.bound l.other l.told.nodes.now l.told.asks.now l.site.pc l.site.instr.now l.at → ⊥)
-    × IsOnChain l.told.nodes.now l.told.asks.now l.site.pc l.at
+    (HappensAt (task_of l.task) l.bound l.other l.told.nodes.now l.told.conditions.now l.site.pc l.site.instr.now l.at → ⊥)
+    × IsOnChain l.told.nodes.now l.told.conditions.now l.site.pc l.at
 
 abbrev pub decreases-loop-at : goal.decreases-loop-at
-decreases-loop-at l = length l.told.asks.now - l.at
+decreases-loop-at l = length l.told.conditions.now - l.at

@@ -7,8 +7,8 @@ use Rattle.family_edges.specs.Tasks.{task_of}
 
 abbrev pub invariant-loop-at : goal.invariant-loop-at
 invariant-loop-at l =
-    AreMarkedBeside (IsProtectedAt (task_of l.task) l.told.nodes.now l.told.asks.now l.site.pc l.site.instr.now l.at) l.fn.marks l.marks
-    × IsOnChain l.told.nodes.now l.told.asks.now l.site.pc l.at
+    AreMarkedBeside (IsProtectedAt (task_of l.task) l.told.nodes.now l.told.conditions.now l.site.pc l.site.instr.now l.at) l.fn.marks l.marks
+    × IsOnChain l.told.nodes.now l.told.conditions.now l.site.pc l.at
 
 abbrev pub decreases-loop-at : goal.decreases-loop-at
-decreases-loop-at l = length l.told.asks.now - l.at
+decreases-loop-at l = length l.told.conditions.now - l.at

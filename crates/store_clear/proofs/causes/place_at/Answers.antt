@@ -13,21 +13,21 @@ use Rattle.family_edges.specs.Tasks.{task_of}
 pub returns-in-None-clause-exact : goal.returns-in-None-clause-exact
 returns-in-None-clause-exact c =
     subst (λ (xs : List ℕ). IsPlaceOf (task_of c.args.task.now) (family_of c.args.certificate.now c.args.told.now.nodes.now) (record { word = c.args.pc; protected = xs; live = false; transfer = false; moves = false })) (sym c.empty.ensures)
-    (nothing_there (task_of c.args.task.now) c.args.certificate.now c.args.told.now.nodes.now c.args.told.now.asks.now c.requires.told c.args.pc (sym c.instruction.ensures ∙ c.in-None.is))
+    (nothing_there (task_of c.args.task.now) c.args.certificate.now c.args.told.now.nodes.now c.args.told.now.conditions.now c.requires.told c.args.pc (sym c.instruction.ensures ∙ c.in-None.is))
 
 pub returns-in_ok-protected-in-Some-clause-exact : goal.returns-in_ok-protected-in-Some-clause-exact
 returns-in_ok-protected-in-Some-clause-exact c =
     let told = c.args.told.now in
     let task = task_of c.args.task.now in
     let alive =
-    subst (λ (b : ℕ). (c.happens_at-live.result ≡ true) ↔ HappensAt task b Live told.nodes.now told.asks.now c.args.pc c.in-Some.instr (length told.asks.now)) c.bound-bound.ensures c.happens_at-live.ensures in
+    subst (λ (b : ℕ). (c.happens_at-live.result ≡ true) ↔ HappensAt task b Live told.nodes.now told.conditions.now c.args.pc c.in-Some.instr (length told.conditions.now)) c.bound-bound.ensures c.happens_at-live.ensures in
     let moving =
-    subst (λ (b : ℕ). (c.happens_at-moves.result ≡ true) ↔ HappensAt task b Moves told.nodes.now told.asks.now c.args.pc c.in-Some.instr (length told.asks.now)) c.bound-bound.ensures c.happens_at-moves.ensures in
+    subst (λ (b : ℕ). (c.happens_at-moves.result ≡ true) ↔ HappensAt task b Moves told.nodes.now told.conditions.now c.args.pc c.in-Some.instr (length told.conditions.now)) c.bound-bound.ensures c.happens_at-moves.ensures in
     subst
     (λ (b : Bool). IsPlaceOf task (family_of c.args.certificate.now told.nodes.now)
     (record { word = c.args.pc; protected = c.in_ok-protected-in-Some.protected; live = c.happens_at-live.result; transfer = b; moves = c.happens_at-moves.result }))
     (sym c.is_transfer.ensures)
-    (place_given task c.args.certificate.now told.nodes.now told.asks.now c.requires.told c.args.pc c.in-Some.instr (sym c.instruction.ensures ∙ c.in-Some.is)
+    (place_given task c.args.certificate.now told.nodes.now told.conditions.now c.requires.told c.args.pc c.in-Some.instr (sym c.instruction.ensures ∙ c.in-Some.is)
     c.in_ok-protected-in-Some.protected c.happens_at-live.result c.happens_at-moves.result c.in_ok-protected-in-Some.ensures.exact c.in_ok-protected-in-Some.ensures.ascending
     alive moving c.requires.site)
 
@@ -43,7 +43,7 @@ protected_of-requires-clause-chain c =
     let told = c.args.told.now in
     let links = c.args.links.now in
     let small = word_of_flagged task c.args.certificate.now told.nodes.now c.args.pc c.count-count.ensures.shown c.requires.site in
-    chain_read told.nodes.now told.asks.now c.args.pc c.args.pc c.index.result.now links.first.items links.later.items c.as_slice.result.now small c.requires.linked refl c.index.ensures
+    chain_read told.nodes.now told.conditions.now c.args.pc c.args.pc c.index.result.now links.first.items links.later.items c.as_slice.result.now small c.requires.linked refl c.index.ensures
     c.as_slice.ensures.value
 
 pub happens_at-live-requires-clause-chain : goal.happens_at-live-requires-clause-chain
@@ -52,7 +52,7 @@ happens_at-live-requires-clause-chain c =
     let told = c.args.told.now in
     let links = c.args.links.now in
     let small = word_of_flagged task c.args.certificate.now told.nodes.now c.args.pc c.count-count.ensures.shown c.requires.site in
-    chain_read told.nodes.now told.asks.now c.args.pc c.args.pc c.index.result.now links.first.items links.later.items c.as_slice.result.now small c.requires.linked refl c.index.ensures
+    chain_read told.nodes.now told.conditions.now c.args.pc c.args.pc c.index.result.now links.first.items links.later.items c.as_slice.result.now small c.requires.linked refl c.index.ensures
     c.as_slice.ensures.value
 
 pub happens_at-moves-requires-clause-chain : goal.happens_at-moves-requires-clause-chain
@@ -61,5 +61,5 @@ happens_at-moves-requires-clause-chain c =
     let told = c.args.told.now in
     let links = c.args.links.now in
     let small = word_of_flagged task c.args.certificate.now told.nodes.now c.args.pc c.count-count.ensures.shown c.requires.site in
-    chain_read told.nodes.now told.asks.now c.args.pc c.args.pc c.index.result.now links.first.items links.later.items c.as_slice.result.now small c.requires.linked refl c.index.ensures
+    chain_read told.nodes.now told.conditions.now c.args.pc c.args.pc c.index.result.now links.first.items links.later.items c.as_slice.result.now small c.requires.linked refl c.index.ensures
     c.as_slice.ensures.value

@@ -16,7 +16,7 @@ returns-clause-exact c =
     IfOk-weaker c.addresses.result _ _
     (λ list are a.
     members_given
-    (IsProtectedAt (task_of c.args.task.now) told.nodes.now told.asks.now c.args.site.now.pc c.args.site.now.instr.now (length told.asks.now))
+    (IsProtectedAt (task_of c.args.task.now) told.nodes.now told.conditions.now c.args.site.now.pc c.args.site.now.instr.now (length told.conditions.now))
     c.in_ok-marks.marks.items c.as_mut_slice.result.now c.mark_nodes.new.marks c.deref.result.now _ list (c.in_ok-marks.ensures.items_if_clones_equal (λ y e. e)) c.as_mut_slice.ensures.value
     c.mark_nodes.ensures back are a)
     c.addresses.ensures

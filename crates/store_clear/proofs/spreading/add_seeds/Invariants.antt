@@ -1,5 +1,5 @@
 use Rattle.std.proofs.Common.{◌≡◌, ◌++◌, take}
-use Rattle.store_clear.specs.Settling.{seeds_by}
+use Rattle.store_clear.specs.Conditions.{seeds_by}
 use Rattle.store_clear.proofs.spreading.add_seeds.Given as goal
 
 abbrev pub invariant-loop-landing : goal.invariant-loop-landing

@@ -1,5 +1,5 @@
 use Rattle.std.proofs.Common.{◌≡◌, map, take}
-use Rattle.store_clear.specs.Settling.{links_by}
+use Rattle.store_clear.specs.Conditions.{links_by}
 use Rattle.store_clear.proofs.spreading.all_links.Given as goal
 
 abbrev pub invariant-loop-at : goal.invariant-loop-at

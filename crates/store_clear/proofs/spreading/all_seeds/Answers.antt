@@ -4,8 +4,8 @@ use Rattle.node_keys.specs.declared.keys.NodeKey.{NodeKey}
 use Rattle.node_keys.specs.Keys.{offset_of}
 use Rattle.family_edges.specs.declared.landing.Landing.{Landing}
 use Rattle.clear_laws.specs.Held.{is_guarded_push}
-use Rattle.store_clear.specs.Settling.{seeds_by, AreSeedsTo}
-use Rattle.store_clear.proofs.Askings.{key_is}
+use Rattle.store_clear.specs.Conditions.{seeds_by, AreSeedsTo}
+use Rattle.store_clear.proofs.Conditions.{key_is}
 use Rattle.store_clear.proofs.Spread.{seeds_none, seeds_same, seeds_more, landings_at}
 use Rattle.store_clear.proofs.spreading.all_seeds.Goals.{then-is_guarded_push+in_ok-add_seeds, else-is_guarded_push}
 use Rattle.store_clear.proofs.spreading.all_seeds.Goals as goal

@@ -1,4 +1,4 @@
-use Rattle.store_clear.specs.Settling.{AreSeedsTo}
+use Rattle.store_clear.specs.Conditions.{AreSeedsTo}
 use Rattle.store_clear.proofs.spreading.all_seeds.Given as goal
 use Rattle.family_edges.specs.Tasks.{task_of}
 

@@ -1,5 +1,5 @@
 use Rattle.std.proofs.Common.{◌∙◌, ap, map}
-use Rattle.store_clear.specs.Settling.{links_by}
+use Rattle.store_clear.specs.Conditions.{links_by}
 use Rattle.store_clear.proofs.Spread.{spreads}
 use Rattle.store_clear.proofs.spreading.frames_of.Goals as goal
 use Rattle.family_edges.specs.Tasks.{task_of}

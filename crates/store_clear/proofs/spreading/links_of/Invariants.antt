@@ -1,5 +1,5 @@
 use Rattle.std.proofs.Common.{◌≡◌, take}
-use Rattle.store_clear.specs.Settling.{links_by}
+use Rattle.store_clear.specs.Conditions.{links_by}
 use Rattle.store_clear.proofs.spreading.links_of.Given as goal
 
 abbrev pub invariant-loop-landing : goal.invariant-loop-landing

@@ -2,7 +2,7 @@ use Rattle.std.proofs.Common.{◌<◌, ◌≤◌, ◌∙◌, ap, sym, arith, len
 use Rattle.basics.specs.Lists.{get_inside}
 use Rattle.node_keys.specs.declared.keys.NodeKey.{NodeKey}
 use Rattle.node_keys.specs.Keys.{offset_of}
-use Rattle.store_clear.proofs.Askings.{key_is}
+use Rattle.store_clear.proofs.Conditions.{key_is}
 use Rattle.store_clear.proofs.Spread.{offsets_more, offsets_end}
 use Rattle.store_clear.proofs.spreading.offsets_of.Goals as goal
 

@@ -1,7 +1,7 @@
 use Rattle.std.proofs.Common.{◌≡◌, ◌∙◌, ◌+◌, ◌<◌, List, Bool, length, subst, sym, arith}
 use Rattle.basics.specs.Lists.{get_inside}
 use Rattle.store_clear.specs.Takes.{AreMarkedBeside, IsTakenAt}
-use Rattle.store_clear.proofs.Askings.{key_is}
+use Rattle.store_clear.proofs.Conditions.{key_is}
 use Rattle.store_clear.proofs.Taken.{takes_none, takes_marked, takes_same}
 use Rattle.store_clear.proofs.takes.mark_takes.Goals.{then-may_take, else-may_take}
 use Rattle.store_clear.proofs.takes.mark_takes.Goals as goal

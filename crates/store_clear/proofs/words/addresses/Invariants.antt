@@ -1,5 +1,5 @@
 use Rattle.std.proofs.Common.{◌≡◌, ◌++◌, drop}
-use Rattle.store_clear.specs.Settling.{places_from}
+use Rattle.store_clear.specs.Conditions.{places_from}
 use Rattle.store_clear.proofs.words.addresses.Given as goal
 
 abbrev pub invariant-loop-at : goal.invariant-loop-at

@@ -3,7 +3,7 @@ use Rattle.store_clear.proofs.Sites.{passing_more, passing_all}
 use Rattle.store_clear.proofs.words.first_unclear.Goals as goal
 
 pub loop-at-preserved : goal.loop-at-preserved
-loop-at-preserved c = passing_more c.args.asks.now c.loop-at.at c.loop-at.invariant (sym c.if-not-passes.ensures)
+loop-at-preserved c = passing_more c.args.conditions.now c.loop-at.at c.loop-at.invariant (sym c.if-not-is_discharged.ensures)
 
 pub returns : goal.returns
-returns c = passing_all c.args.asks.now c.loop-at.at c.loop-at.invariant c.loop-at-test.false
+returns c = passing_all c.args.conditions.now c.loop-at.at c.loop-at.invariant c.loop-at-test.false

@@ -1,5 +1,5 @@
-use Rattle.store_clear.specs.Settling.{AreWordsMarked}
+use Rattle.store_clear.specs.Conditions.{AreWordsMarked}
 use Rattle.store_clear.proofs.words.mark_words.Given as goal
 
 abbrev pub invariant-loop-at : goal.invariant-loop-at
-invariant-loop-at l = AreWordsMarked l.told.nodes.now l.told.asks.now l.at l.fn.marks l.marks
+invariant-loop-at l = AreWordsMarked l.told.nodes.now l.told.conditions.now l.at l.fn.marks l.marks

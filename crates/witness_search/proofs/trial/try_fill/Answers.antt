@@ -4,7 +4,7 @@ use Rattle.avr_model.specs.declared.device.Device.{Device}
 use Rattle.avr_model.specs.Devices.{device_of}
 use Rattle.witness_replay.specs.Spelling.{IsSchedule}
 use Rattle.witness_replay.specs.Tracing.{IsTaken}
-use Rattle.trial_runs.proofs.AllLaws.{run_taken}
+use Rattle.stimulus.proofs.AllLaws.{run_taken}
 use Rattle.witness_search.specs.Attempts.{IsAttempt, IsAttempted}
 use Rattle.witness_search.proofs.Found.{few_choices, attains, succeeds, fails, tried}
 use Rattle.witness_search.proofs.trial.try_fill.Goals as goal

@@ -4,7 +4,7 @@ use Rattle.avr_model.specs.State.{State}
 use Rattle.avr_model.specs.Text.{far}
 use Rattle.avr_model.specs.Step.{result_of, state_after}
 use Rattle.avr_machine.specs.Quiet.{protected_at}
-use Rattle.avr_machine.proofs.Loud.{std_row, sts_row, st_answer, out_answer, cbi_answer, sbi_answer, push_row, call_answer, rcall_answer, icall_answer, ijmp_row, none_left}
+use Rattle.avr_machine.proofs.Loud.{std_row, sts_row, st_answer, out_answer, cbi_answer, sbi_answer, push_row, call_answer, rcall_answer, icall_answer, ijmp_row, eicall_answer, eijmp_row, none_left}
 use Rattle.avr_machine.proofs.processor.Processor.execute_loud.Goals as goal
 
 pub returns-in-Std-clause-answer : goal.returns-in-Std-clause-answer
@@ -75,8 +75,20 @@ returns-in-Ijmp-clause-answer c first second loud = c.jump_computed.ensures.answ
 pub returns-in-Ijmp-clause-state : goal.returns-in-Ijmp-clause-state
 returns-in-Ijmp-clause-state c first second loud = c.jump_computed.ensures.state ∙ ap (state_after c.args.self.now) (ijmp_row c.args.flash.now c.args.assumptions.now c.args.self.now c.args.instr.now first second c.in-Ijmp.is)
 
+pub returns-in-Eicall-clause-answer : goal.returns-in-Eicall-clause-answer
+returns-in-Eicall-clause-answer c first second loud = c.call-in-Eicall.ensures.answer ∙ ap result_of (eicall_answer c.args.flash.now c.args.assumptions.now c.args.self.now c.args.instr.now first second _ _ _ c.in-Eicall.is c.computed-target-in-Eicall.ensures.unlisted c.further-in-Eicall.ensures.value c.computed-target-in-Eicall.ensures.target)
+
+pub returns-in-Eicall-clause-state : goal.returns-in-Eicall-clause-state
+returns-in-Eicall-clause-state c first second loud = c.call-in-Eicall.ensures.state ∙ ap (state_after c.args.self.now) (eicall_answer c.args.flash.now c.args.assumptions.now c.args.self.now c.args.instr.now first second _ _ _ c.in-Eicall.is c.computed-target-in-Eicall.ensures.unlisted c.further-in-Eicall.ensures.value c.computed-target-in-Eicall.ensures.target)
+
+pub returns-in-Eijmp-clause-answer : goal.returns-in-Eijmp-clause-answer
+returns-in-Eijmp-clause-answer c first second loud = c.jump_computed-in-Eijmp.ensures.answer ∙ ap result_of (eijmp_row c.args.flash.now c.args.assumptions.now c.args.self.now c.args.instr.now first second c.in-Eijmp.is)
+
+pub returns-in-Eijmp-clause-state : goal.returns-in-Eijmp-clause-state
+returns-in-Eijmp-clause-state c first second loud = c.jump_computed-in-Eijmp.ensures.state ∙ ap (state_after c.args.self.now) (eijmp_row c.args.flash.now c.args.assumptions.now c.args.self.now c.args.instr.now first second c.in-Eijmp.is)
+
 pub returns-in_default-clause-answer : goal.returns-in_default-clause-answer
-returns-in_default-clause-answer c first second loud = absurd (none_left c.args.instr.now loud c.in_default.not-Std c.in_default.not-Sts c.in_default.not-St c.in_default.not-Out c.in_default.not-Cbi c.in_default.not-Sbi c.in_default.not-Push c.in_default.not-Call c.in_default.not-Rcall c.in_default.not-Icall c.in_default.not-Ijmp)
+returns-in_default-clause-answer c first second loud = absurd (none_left c.args.instr.now loud c.in_default.not-Std c.in_default.not-Sts c.in_default.not-St c.in_default.not-Out c.in_default.not-Cbi c.in_default.not-Sbi c.in_default.not-Push c.in_default.not-Call c.in_default.not-Rcall c.in_default.not-Icall c.in_default.not-Ijmp c.in_default.not-Eicall c.in_default.not-Eijmp)
 
 pub returns-in_default-clause-state : goal.returns-in_default-clause-state
-returns-in_default-clause-state c first second loud = absurd (none_left c.args.instr.now loud c.in_default.not-Std c.in_default.not-Sts c.in_default.not-St c.in_default.not-Out c.in_default.not-Cbi c.in_default.not-Sbi c.in_default.not-Push c.in_default.not-Call c.in_default.not-Rcall c.in_default.not-Icall c.in_default.not-Ijmp)
+returns-in_default-clause-state c first second loud = absurd (none_left c.args.instr.now loud c.in_default.not-Std c.in_default.not-Sts c.in_default.not-St c.in_default.not-Out c.in_default.not-Cbi c.in_default.not-Sbi c.in_default.not-Push c.in_default.not-Call c.in_default.not-Rcall c.in_default.not-Icall c.in_default.not-Ijmp c.in_default.not-Eicall c.in_default.not-Eijmp)

@@ -8,7 +8,7 @@ use Rattle.edge_rules.specs.declared.seeded.NodeForm.{NodeForm}
 use Rattle.edge_rules.specs.declared.seeded.NodeForm.TheVariants.{State}
 use Rattle.edge_rules.specs.Expansion.{Seeds, AreSeeds}
 use Rattle.edge_laws.specs.Expansions.{AreSeedsAscending}
-use Rattle.family_tables.proofs.Growing.{with_root, pushed_ascending}
+use Rattle.family_tables.proofs.Growing.{with_first, pushed_ascending}
 use Rattle.family_tables.proofs.tests.seeds.add_own.Goals as goal
 
 pub returns-clause-seeds : goal.returns-clause-seeds
@@ -17,8 +17,8 @@ returns-clause-seeds c =
     let few = subst (λ (ys : Seeds). length ys < 65536) c.deref.ensures.value (c.may_follow.ensures.room c.if-not-may_follow.false) in
     let word : c.args.key.pc < limit_of c.args.device = omega (arith, c.if-key-limit.false, c.limit.ensures) in
     subst (AreSeeds c.args.device false) (sym c.in_ok-push.ensures.items)
-    (subst (λ (s : AbsState). AreSeeds c.args.device false (xs ++ (c.args.key, State s) ∷ [])) (sym (c.in_ok-held.ensures ∙ c.root.ensures))
-    (with_root c.args.device xs c.args.key c.requires.seeds few word c.requires.masks c.requires.closed c.requires.unpicked))
+    (subst (λ (s : AbsState). AreSeeds c.args.device false (xs ++ (c.args.key, State s) ∷ [])) (sym (c.in_ok-held.ensures ∙ c.in_ok-state.ensures))
+    (with_first c.args.device xs c.args.key c.requires.seeds few word c.requires.masks c.requires.closed c.requires.unpicked))
 
 pub returns-clause-ascending : goal.returns-clause-ascending
 returns-clause-ascending c =

@@ -1,5 +1,0 @@
-use Rattle.std.proofs.Common.{length}
-use Rattle.clap_words.proofs.words.+has_refused.Given as goal
-
-abbrev pub decreases-has_refused : goal.decreases-has_refused
-decreases-has_refused l = length l.words.now

@@ -1,5 +1,0 @@
-use Rattle.pair_cut_laws.proofs.AllLaws.{flags_are_cut}
-use Rattle.pair_cut_laws.proofs.laws.flags_are_cut.Goals as goal
-
-pub returns : goal.returns
-returns c = flags_are_cut

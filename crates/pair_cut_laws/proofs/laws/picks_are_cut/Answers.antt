@@ -1,5 +1,0 @@
-use Rattle.pair_cut_laws.proofs.AllLaws.{picks_are_cut}
-use Rattle.pair_cut_laws.proofs.laws.picks_are_cut.Goals as goal
-
-pub returns : goal.returns
-returns c = picks_are_cut

@@ -1,9 +1,0 @@
-use Rattle.std.proofs.Common.{◌≡◌, ◌-◌, length}
-use Rattle.peripherals.specs.Hooks.{stands_in}
-use Rattle.peripherals.specs.Due.{is_ready, first_ready, first_from}
-use Rattle.peripherals.proofs.hook.first_due.Given as goal
-
-abbrev pub invariant-loop-n : goal.invariant-loop-n
-invariant-loop-n l =
-    first_ready l.devices (stands_in l.menu) l.timers l.moment.taken.now l.moment.step
-    ≡ first_from (is_ready l.devices (stands_in l.menu) l.timers l.moment.taken.now l.moment.step) l.n (length l.devices.sources - l.n)

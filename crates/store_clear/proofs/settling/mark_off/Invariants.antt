@@ -1,5 +1,0 @@
-use Rattle.store_clear.specs.Settling.{AreMarkedOff}
-use Rattle.store_clear.proofs.settling.mark_off.Given as goal
-
-abbrev pub invariant-loop-at : goal.invariant-loop-at
-invariant-loop-at l = AreMarkedOff l.slot l.marks l.at l.fn.asks l.asks
