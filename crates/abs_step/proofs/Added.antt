@@ -29,7 +29,7 @@ refined_one : (by : Option Teller) (k : NodeKey) (o : Option AbsState) → refin
 refined_one None k None = refl
 refined_one None k (Some t) = refl
 refined_one (Some w) k None = refl
-refined_one (Some w) k (Some t) = append-nil (node_where k (refined (marks w.words) w.words w.instr w.state t))
+refined_one (Some w) k (Some t) = append-nil (node_where k (refined (marks w.image) w.image w.instr w.state t))
 
 pub through_one : (view : Option SpView) (by : Option Teller) (k : NodeKey) (s : AbsState)
     → through view by (record { key = k; state = s } ∷ []) ≡ node_where k (left_by view by s)
@@ -45,7 +45,7 @@ settled_all (Some v) ns ms = each_all (λ (n : Node). node_where n.key (settled_
 
 refined_all : (by : Option Teller) (ns ms : List Node) → refined_through by (ns ++ ms) ≡ refined_through by ns ++ refined_through by ms
 refined_all None ns ms = refl
-refined_all (Some w) ns ms = each_all (λ (n : Node). node_where n.key (refined (marks w.words) w.words w.instr w.state n.state)) ns ms
+refined_all (Some w) ns ms = each_all (λ (n : Node). node_where n.key (refined (marks w.image) w.image w.instr w.state n.state)) ns ms
 
 through_all : (view : Option SpView) (by : Option Teller) (ns ms : List Node) → through view by (ns ++ ms) ≡ through view by ns ++ through view by ms
 through_all view by ns ms = ap (refined_through by) (settled_all view ns ms) ∙ refined_all by (settled_through view ns) (settled_through view ms)

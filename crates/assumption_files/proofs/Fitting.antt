@@ -20,18 +20,18 @@ word_of_list d a h =
     let most = devices_are_alike.most_limit d in
     grind (arith, nat_tests)
 
--- each place is in I/O
+-- the byte of each enable bit is in I/O
 abbrev AreInIo : Device → List EnablePlace → Type 0
 AreInIo d rows = All (λ (p : EnablePlace). (is_vector d p.vector ≡ true) × ((is_core d p.address ≡ false) × ((p.address ≤ io_end d) × (p.mask < 256)))) rows
 
-some_place : (d : Device) (rows : List EnablePlace) (a : ℕ) → AreInIo d rows → list_any (λ (p : EnablePlace). eqb p.address a) rows ≡ true → a ≤ io_end d
-some_place d [] a h e = cc
-some_place d (p ∷ rows) a h e = elim (cases_Bool (eqb p.address a)) [
+some_enable : (d : Device) (rows : List EnablePlace) (a : ℕ) → AreInIo d rows → list_any (λ (p : EnablePlace). eqb p.address a) rows ≡ true → a ≤ io_end d
+some_enable d [] a h e = cc
+some_enable d (p ∷ rows) a h e = elim (cases_Bool (eqb p.address a)) [
   | inl same ↦
       let here = (h 0 p (omega arith)).1.1.0 in
       let is = eqb-true p.address a same in
       omega (arith, here, is)
-  | inr other ↦ some_place d rows a (λ k q lt. h (suc k) q (omega arith)) (rw other at e)
+  | inr other ↦ some_enable d rows a (λ k q lt. h (suc k) q (omega arith)) (rw other at e)
 ]
 
 or_false : (b : Bool) → b ≡ (b || false)
@@ -46,7 +46,7 @@ protected_io : (d : Device) (a : ℕ) → is_protected d a ≡ true → is_io a 
 unfolding has_enables
 protected_io d a h = elim (cases_Bool (has_enables d a)) [
   | inl held ↦
-      let small = some_place d (enable_places d) a (places_are_apart.each d) held in
+      let small = some_enable d (enable_places d) a (places_are_apart.each d) held in
       let most = devices_are_alike.most_io d in
       grind (arith, nat_tests)
   | inr none ↦ core_io (has_sph d) (has_elpm d) (has_eijmp d) a (let rest : (is_core d a || false) ≡ true = rw none at h in or_false (is_core d a) ∙ rest)

@@ -4,6 +4,7 @@
 mod arithmetic;
 mod bits;
 mod effects;
+mod firmware;
 mod flags;
 mod machine;
 mod marked_device;
@@ -18,6 +19,7 @@ mod transfers;
 
 pub use avr_alu::Sreg;
 pub use avr_model::choice::{Choice, Flag, StepResult, Stop};
+pub use firmware::Firmware;
 pub use flash_image::{Device, Flash};
 pub use machine::Machine;
 pub use menu::Menu;

@@ -10,6 +10,7 @@ ghost use Rattle.avr_model.specs.Effects.{set, way_back, further};
 ghost use Rattle.avr_model.specs.Step.{all_inside, unless_listed, unless_within, entering, take, result_of, state_after};
 ghost use Rattle.avr_machine.specs.Quiet.{push_answer, refused_at, computed_word, jump_answer};
 
+use crate::firmware::Firmware;
 use crate::flags::{flag_by, lists_word};
 use crate::processor::Processor;
 use crate::transfers::Z;
@@ -17,8 +18,14 @@ use avr_alu::Sreg;
 use avr_model::choice::StepResult;
 use avr_model::device::EIND;
 use avr_model::effect::{Write, Writes};
-use flash_image::Flash;
 use vector_table::Assumptions;
+
+// Bytes that are pushed, and the stack pointer after them.
+#[derive(Clone, Copy)]
+struct Pushed<'a> {
+    writes: &'a [Write],
+    sp: u16,
+}
 
 impl Processor {
     // Whether all writes go to SRAM.
@@ -42,22 +49,21 @@ impl Processor {
         &mut self,
         guarded: bool,
         transfer: Option<u32>,
-        pushes: &[Write],
-        sp: u16,
+        pushed: &Pushed<'_>,
         target: u32,
     ) -> StepResult
-        ensures answer { result ≡ result_of (push_answer guarded self.old transfer pushes.now sp target) }
-        ensures state { self.new ≡ state_after self.old (push_answer guarded self.old transfer pushes.now sp target) }
+        ensures answer { result ≡ result_of (push_answer guarded self.old transfer pushed.now.writes.now pushed.now.sp target) }
+        ensures state { self.new ≡ state_after self.old (push_answer guarded self.old transfer pushed.now.writes.now pushed.now.sp target) }
     {
-        if !self.all_inside(pushes) && transfer.is_none() {
+        if !self.all_inside(pushed.writes) && transfer.is_none() {
             return StepResult::Overflow(self.pc);
         }
-        let live = self.memory.live_write(pushes);
+        let live = self.memory.live_write(pushed.writes);
         match flag_by(self.pc, live, None, transfer, false) {
             Some(flag) => StepResult::Flagged(flag),
             None => {
-                self.memory.push(pushes, guarded);
-                self.sp = sp;
+                self.memory.push(pushed.writes, guarded);
+                self.sp = pushed.sp;
                 self.is_open = false;
                 self.go_to(target);
                 StepResult::Done
@@ -66,19 +72,23 @@ impl Processor {
     }
 
     /// `push`, guarded unless it makes a compiler's small frame or has a `scratch` line.
-    pub fn push(&mut self, flash: &Flash, assumptions: &Assumptions, r: u16) -> StepResult
+    pub fn push(&mut self, firmware: &Firmware<'_>, r: u16) -> StepResult
         requires { r < 32 }
-        ensures answer { result ≡ result_of (push_answer (not (is_scratch flash.now self.old.pc || has_scratch assumptions.now self.old.pc)) self.old None (set self.old.sp (register self.old r)) (minus_sp self.old.device self.old.sp 1) (further self.old 1)) }
-        ensures state { self.new ≡ state_after self.old (push_answer (not (is_scratch flash.now self.old.pc || has_scratch assumptions.now self.old.pc)) self.old None (set self.old.sp (register self.old r)) (minus_sp self.old.device self.old.sp 1) (further self.old 1)) }
+        ensures answer { result ≡ result_of (push_answer (not (is_scratch firmware.now.flash.now self.old.pc || has_scratch firmware.now.assumptions.now self.old.pc)) self.old None (set self.old.sp (register self.old r)) (minus_sp self.old.device self.old.sp 1) (further self.old 1)) }
+        ensures state { self.new ≡ state_after self.old (push_answer (not (is_scratch firmware.now.flash.now self.old.pc || has_scratch firmware.now.assumptions.now self.old.pc)) self.old None (set self.old.sp (register self.old r)) (minus_sp self.old.device self.old.sp 1) (further self.old 1)) }
     {
         let pushes = Writes::one(Write {
             address: self.sp,
             byte: self.register(r),
         });
-        let guarded = !(flash.is_scratch(self.pc) || assumptions.has_scratch(self.pc));
-        let sp = self.device.minus_sp(self.sp, 1);
+        let pc = self.pc;
+        let guarded = !(firmware.flash.is_scratch(pc) || firmware.assumptions.has_scratch(pc));
+        let pushed = Pushed {
+            writes: pushes.as_slice(),
+            sp: self.device.minus_sp(self.sp, 1),
+        };
         let next = self.further(1);
-        self.push_step(guarded, None, pushes.as_slice(), sp, next)
+        self.push_step(guarded, None, &pushed, next)
     }
 
     // The word that a call enters, if it has a `recur` line that permits no call so deep.
@@ -93,46 +103,36 @@ impl Processor {
 
     // The word that a call enters, if that is refused: it is unlisted, or called too deep. A call of the next word that makes a compiler's
     // small frame enters none.
-    fn refused(
-        &self,
-        flash: &Flash,
-        assumptions: &Assumptions,
-        unlisted: Option<u32>,
-        word: u32,
-    ) -> Option<u32>
-        ensures { result ≡ refused_at flash.now assumptions.now self.now unlisted word }
+    fn refused(&self, firmware: &Firmware<'_>, unlisted: Option<u32>, word: u32) -> Option<u32>
+        ensures { result ≡ refused_at firmware.now.flash.now firmware.now.assumptions.now self.now unlisted word }
     {
         match unlisted {
             Some(word) => Some(word),
-            None if flash.is_scratch(self.pc) => None,
-            None => self.deep_call(assumptions, word),
+            None if firmware.flash.is_scratch(self.pc) => None,
+            None => self.deep_call(firmware.assumptions, word),
         }
     }
 
     /// A call of a word, which `unlisted` is if the site does not list it; pushes the return address `back`.
     pub fn call(
         &mut self,
-        flash: &Flash,
-        assumptions: &Assumptions,
+        firmware: &Firmware<'_>,
         unlisted: Option<u32>,
         target: u32,
         back: u32,
     ) -> StepResult
-        ensures answer { result ≡ result_of (push_answer (not (is_scratch flash.now self.old.pc)) self.old (refused_at flash.now assumptions.now self.old unlisted (wrapped self.old.device target)) (way_back self.old.device self.old.sp back) (minus_sp self.old.device self.old.sp (back_of self.old.device)) target) }
-        ensures state { self.new ≡ state_after self.old (push_answer (not (is_scratch flash.now self.old.pc)) self.old (refused_at flash.now assumptions.now self.old unlisted (wrapped self.old.device target)) (way_back self.old.device self.old.sp back) (minus_sp self.old.device self.old.sp (back_of self.old.device)) target) }
+        ensures answer { result ≡ result_of (push_answer (not (is_scratch firmware.now.flash.now self.old.pc)) self.old (refused_at firmware.now.flash.now firmware.now.assumptions.now self.old unlisted (wrapped self.old.device target)) (way_back self.old.device self.old.sp back) (minus_sp self.old.device self.old.sp (back_of self.old.device)) target) }
+        ensures state { self.new ≡ state_after self.old (push_answer (not (is_scratch firmware.now.flash.now self.old.pc)) self.old (refused_at firmware.now.flash.now firmware.now.assumptions.now self.old unlisted (wrapped self.old.device target)) (way_back self.old.device self.old.sp back) (minus_sp self.old.device self.old.sp (back_of self.old.device)) target) }
     {
         let pushes = self.way_back(back);
         let count = self.device.back();
-        let sp = self.device.minus_sp(self.sp, count);
-        let is_scratch = flash.is_scratch(self.pc);
-        let refused = self.refused(flash, assumptions, unlisted, self.wrap(target));
-        self.push_step(
-            !is_scratch,
-            refused,
-            &pushes[..usize::from(count)],
-            sp,
-            target,
-        )
+        let pushed = Pushed {
+            writes: &pushes[..usize::from(count)],
+            sp: self.device.minus_sp(self.sp, count),
+        };
+        let is_scratch = firmware.flash.is_scratch(self.pc);
+        let refused = self.refused(firmware, unlisted, self.wrap(target));
+        self.push_step(!is_scratch, refused, &pushed, target)
     }
 
     // The word in Z; if `extended`, the one in EIND and Z.
@@ -191,8 +191,11 @@ impl Processor {
         };
         let pushes = self.way_back(self.pc);
         let count = self.device.back();
-        let sp = self.device.minus_sp(self.sp, count);
-        let answer = self.push_step(true, never, &pushes[..usize::from(count)], sp, target);
+        let pushed = Pushed {
+            writes: &pushes[..usize::from(count)],
+            sp: self.device.minus_sp(self.sp, count),
+        };
+        let answer = self.push_step(true, never, &pushed, target);
         if let StepResult::Done = answer {
             self.sreg = Sreg::from_bits_retain(self.sreg.bits() % 128);
             if clears {

@@ -11,6 +11,7 @@ ghost use Rattle.avr_model.specs.Step.{result_of, state_after};
 ghost use Rattle.avr_machine.specs.Quiet.{protected_at, moves_at, store_answer};
 
 use crate::bits::{has_bit, with_bit};
+use crate::firmware::Firmware;
 use crate::flags::{flag_by, moves_at, protected_at};
 use crate::processor::Processor;
 use crate::transfers::pointed;
@@ -19,8 +20,15 @@ use avr_model::choice::StepResult;
 use avr_model::device::{I, IO, SREG};
 use avr_model::effect::Write;
 use avr_model::instruction::Pointer;
-use flash_image::Flash;
-use vector_table::Assumptions;
+
+/// How a machine goes on after a store.
+#[derive(Clone, Copy)]
+pub struct Onward {
+    /// The next word.
+    pub pc: u32,
+    /// Whether one more instruction executes before any interrupt.
+    pub delay: bool,
+}
 
 impl Processor {
     /// Stores a byte at a data address and continues at a word, unless the step is flagged: the byte is live, `protected` is given, or the
@@ -29,26 +37,24 @@ impl Processor {
     #[inline(always)]
     pub fn store_step(
         &mut self,
-        flash: &Flash,
-        assumptions: &Assumptions,
+        firmware: &Firmware<'_>,
         protected: Option<u16>,
         write: Write,
-        next: u32,
-        delay: bool,
+        onward: Onward,
     ) -> StepResult
-        requires { next < words_of self.old.device }
-        ensures answer { result ≡ result_of (store_answer self.old protected (moves_at flash.now assumptions.now write) (record (storing self.old write.address write.byte) { pc = next; delay = delay })) }
-        ensures state { self.new ≡ state_after self.old (store_answer self.old protected (moves_at flash.now assumptions.now write) (record (storing self.old write.address write.byte) { pc = next; delay = delay })) }
+        requires { onward.pc < words_of self.old.device }
+        ensures answer { result ≡ result_of (store_answer self.old protected (moves_at firmware.now.flash.now firmware.now.assumptions.now write) (record (storing self.old write.address write.byte) { pc = onward.pc; delay = onward.delay })) }
+        ensures state { self.new ≡ state_after self.old (store_answer self.old protected (moves_at firmware.now.flash.now firmware.now.assumptions.now write) (record (storing self.old write.address write.byte) { pc = onward.pc; delay = onward.delay })) }
     {
         let live = self.memory.live_write(&[write]);
-        let moves = moves_at(flash, assumptions, write);
+        let moves = moves_at(firmware, write);
         match flag_by(self.pc, live, protected, None, moves) {
             Some(flag) => StepResult::Flagged(flag),
             None => {
                 self.store(&write);
-                self.go_to(next);
-                self.pc = next;
-                self.delay = delay;
+                self.go_to(onward.pc);
+                self.pc = onward.pc;
+                self.delay = onward.delay;
                 StepResult::Done
             }
         }
@@ -56,23 +62,17 @@ impl Processor {
 
     /// `st` through a pointer: reads the byte, moves the pointer, then stores the byte.
     #[tactic(auto, unfolding(avr_model::specs::Step::memory_after))]
-    pub fn store_through(
-        &mut self,
-        flash: &Flash,
-        assumptions: &Assumptions,
-        pointer: Pointer,
-        r: u16,
-    ) -> StepResult
+    pub fn store_through(&mut self, firmware: &Firmware<'_>, pointer: Pointer, r: u16) -> StepResult
         requires { r < 32 }
-        ensures answer { result ≡ result_of (store_answer self.old (protected_at flash.now assumptions.now self.old.pc (record { address = pointed pointer (pair self.old (pointer_register pointer)); byte = register self.old r })) (moves_at flash.now assumptions.now (record { address = pointed pointer (pair self.old (pointer_register pointer)); byte = register self.old r })) (store_effect self.old pointer r)) }
-        ensures state { self.new ≡ state_after self.old (store_answer self.old (protected_at flash.now assumptions.now self.old.pc (record { address = pointed pointer (pair self.old (pointer_register pointer)); byte = register self.old r })) (moves_at flash.now assumptions.now (record { address = pointed pointer (pair self.old (pointer_register pointer)); byte = register self.old r })) (store_effect self.old pointer r)) }
+        ensures answer { result ≡ result_of (store_answer self.old (protected_at firmware.now.flash.now firmware.now.assumptions.now self.old.pc (record { address = pointed pointer (pair self.old (pointer_register pointer)); byte = register self.old r })) (moves_at firmware.now.flash.now firmware.now.assumptions.now (record { address = pointed pointer (pair self.old (pointer_register pointer)); byte = register self.old r })) (store_effect self.old pointer r)) }
+        ensures state { self.new ≡ state_after self.old (store_answer self.old (protected_at firmware.now.flash.now firmware.now.assumptions.now self.old.pc (record { address = pointed pointer (pair self.old (pointer_register pointer)); byte = register self.old r })) (moves_at firmware.now.flash.now firmware.now.assumptions.now (record { address = pointed pointer (pair self.old (pointer_register pointer)); byte = register self.old r })) (store_effect self.old pointer r)) }
     {
         let at = self.pair(pointer_register(pointer));
         let address = pointed(pointer, at);
         let byte = self.register(r);
-        let protected = protected_at(flash, assumptions, self.pc, Write { address, byte });
+        let protected = protected_at(firmware, self.pc, Write { address, byte });
         let live = self.memory.live_write(&[Write { address, byte }]);
-        let moves = moves_at(flash, assumptions, Write { address, byte });
+        let moves = moves_at(firmware, Write { address, byte });
         match flag_by(self.pc, live, protected, None, moves) {
             Some(flag) => StepResult::Flagged(flag),
             None => {
@@ -92,56 +92,39 @@ impl Processor {
     }
 
     /// `out`. If it sets I, one more instruction executes before any interrupt (own for `out`).
-    pub fn output(
-        &mut self,
-        flash: &Flash,
-        assumptions: &Assumptions,
-        address: u16,
-        r: u16,
-    ) -> StepResult
+    pub fn output(&mut self, firmware: &Firmware<'_>, address: u16, r: u16) -> StepResult
         requires address { address < 64 }
         requires r { r < 32 }
-        ensures answer { result ≡ result_of (store_answer self.old None (moves_at flash.now assumptions.now (record { address = port address; byte = register self.old r })) (out_effect self.old (port address) (register self.old r))) }
-        ensures state { self.new ≡ state_after self.old (store_answer self.old None (moves_at flash.now assumptions.now (record { address = port address; byte = register self.old r })) (out_effect self.old (port address) (register self.old r))) }
+        ensures answer { result ≡ result_of (store_answer self.old None (moves_at firmware.now.flash.now firmware.now.assumptions.now (record { address = port address; byte = register self.old r })) (out_effect self.old (port address) (register self.old r))) }
+        ensures state { self.new ≡ state_after self.old (store_answer self.old None (moves_at firmware.now.flash.now firmware.now.assumptions.now (record { address = port address; byte = register self.old r })) (out_effect self.old (port address) (register self.old r))) }
     {
         let address = IO + address;
         let byte = self.register(r);
         let next = self.further(1);
         let delay = self.turns_on(address, byte);
-        self.store_step(
-            flash,
-            assumptions,
-            None,
-            Write { address, byte },
-            next,
-            delay,
-        )
+        let onward = Onward { pc: next, delay };
+        self.store_step(firmware, None, Write { address, byte }, onward)
     }
 
     /// `sbi` if `on`, else `cbi`: changes this bit, and leaves all other enable bits.
     pub fn change_bit(
         &mut self,
-        flash: &Flash,
-        assumptions: &Assumptions,
+        firmware: &Firmware<'_>,
         address: u16,
         index: u16,
         on: bool,
     ) -> StepResult
         requires address { address < 64 }
         requires index { index < 8 }
-        ensures answer { result ≡ result_of (store_answer self.old None (moves_at flash.now assumptions.now (record { address = port address; byte = with_bit (kept_byte self.old.device self.old.enables (port address)) index on })) (bit_effect self.old (port address) index on)) }
-        ensures state { self.new ≡ state_after self.old (store_answer self.old None (moves_at flash.now assumptions.now (record { address = port address; byte = with_bit (kept_byte self.old.device self.old.enables (port address)) index on })) (bit_effect self.old (port address) index on)) }
+        ensures answer { result ≡ result_of (store_answer self.old None (moves_at firmware.now.flash.now firmware.now.assumptions.now (record { address = port address; byte = with_bit (kept_byte self.old.device self.old.enables (port address)) index on })) (bit_effect self.old (port address) index on)) }
+        ensures state { self.new ≡ state_after self.old (store_answer self.old None (moves_at firmware.now.flash.now firmware.now.assumptions.now (record { address = port address; byte = with_bit (kept_byte self.old.device self.old.enables (port address)) index on })) (bit_effect self.old (port address) index on)) }
     {
         let address = IO + address;
         let byte = with_bit(self.kept_byte(address), index, on);
-        let next = self.further(1);
-        self.store_step(
-            flash,
-            assumptions,
-            None,
-            Write { address, byte },
-            next,
-            false,
-        )
+        let onward = Onward {
+            pc: self.further(1),
+            delay: false,
+        };
+        self.store_step(firmware, None, Write { address, byte }, onward)
     }
 }

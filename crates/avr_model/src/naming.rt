@@ -31,7 +31,7 @@ fn trimmed(text: &[u8; LONGEST]) -> &[u8]
 }
 
 // The index of the class with this name.
-fn place_of(name: &[u8]) -> Option<usize>
+fn index_of(name: &[u8]) -> Option<usize>
     ensures index { result ≡ position_from (λ class. bytes_eq (trimmed class) name.now) 0 CLASSES }
     ensures bound { IfSome result (λ index. index < 256) }
 {
@@ -61,7 +61,7 @@ pub fn class_of(device: Device) -> &'static [u8]
 pub fn device_of_class(name: &[u8]) -> Option<Device>
     ensures { result ≡ device_of_class name.now }
 {
-    match place_of(name) {
+    match index_of(name) {
         Some(index) => Some(Device::at(index as u8)),
         None => None,
     }

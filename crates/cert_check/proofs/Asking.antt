@@ -24,9 +24,9 @@ use Rattle.cert_check.specs.declared.verdict.Reason.TheVariants as reason
 use Rattle.cert_check.specs.declared.verdict.Judgement.{Judgement}
 use Rattle.cert_check.specs.declared.verdict.Judgement.TheVariants.{Accepted, Rejected}
 use Rattle.cert_check.specs.Verdict.{AllLanded, InstEnters, IsFirstRank, IsFirstNeed, HasReset, IsLeastReason}
-use Rattle.cert_check.specs.Demands.{AreInstances, place_in, rank_of, rank_at, need_of, need_at, demand_below, AsksFor, offset, entry, recur, IsAsked, AreDemands, AllBelong, IsLeastOffered, NumberPair, MeetsRank, LowRank, PairBelow, lesser_pair, MeetsNeed, LowNeed, NumberBelow, lesser_number, IsMost, more_asked, RanksFall, AllMet, IsWeighed, IsGathering, Decides}
+use Rattle.cert_check.specs.Demands.{AreInstances, number_in, rank_of, rank_at, need_of, need_at, demand_below, AsksFor, offset, entry, recur, IsAsked, AreDemands, AllBelong, IsLeastOffered, NumberPair, MeetsRank, LowRank, PairBelow, lesser_pair, MeetsNeed, LowNeed, NumberBelow, lesser_number, IsMost, more_asked, RanksFall, AllMet, IsWeighed, IsGathering, Decides}
 use Rattle.cert_check.proofs.Lists.{IsLesser}
-use Rattle.cert_check.proofs.Insts.{HasInstPlace, place_is, placed, rank_there, need_there}
+use Rattle.cert_check.proofs.Insts.{HasInstNumber, one_number, has_number, rank_there, need_there}
 use Rattle.cert_check.proofs.Demands.{owner, entered_belongs}
 use Rattle.local_rules.specs.Site.{Task}
 
@@ -153,23 +153,23 @@ no_demand = record { inst = 0; into = None; bytes = 0 }
 module _ (task : Task) (c : Claim) (nodes : List Node) (are : AreInstances c.instances) (belong : AllBelong c.instances nodes)
     (root : Contains (inst_keys c.instances) root_inst) (land : AllLanded task c.nodes nodes) (demands : List Demand) (asked : AreDemands task c.instances nodes demands) where
   offset_listed : (n : Node) (o : ℕ) → Contains nodes n → n.key.sp ≡ Closed o
-      → Contains demands (record { inst = place_in c.instances n.key.inst; into = None; bytes = o })
+      → Contains demands (record { inst = number_in c.instances n.key.inst; into = None; bytes = o })
   offset_listed n o h e = (asked _).1 (record { node = n; present = h; asks = offset o e })
 
   -- an edge of the nest is demanded
-  nest_listed : (i j : InstKey) (depth : ℕ) → NestEdge task (Contains nodes) i j depth → Contains demands (demand_below c.instances (place_in c.instances i) (depth + back_of (device_of task.flash)) j)
+  nest_listed : (i j : InstKey) (depth : ℕ) → NestEdge task (Contains nodes) i j depth → Contains demands (demand_below c.instances (number_in c.instances i) (depth + back_of (device_of task.flash)) j)
   nest_listed i j depth (by_node n way back h same at e whole) =
-      subst₂ (λ (k : InstKey) (o : ℕ). Contains demands (demand_below c.instances (place_in c.instances k) (o + back_of (device_of task.flash)) j)) same at
+      subst₂ (λ (k : InstKey) (o : ℕ). Contains demands (demand_below c.instances (number_in c.instances k) (o + back_of (device_of task.flash)) j)) same at
       ((asked _).1 (record { node = n; present = h; asks = entry way j back e whole }))
   nest_listed i j depth (recurs n h same cut top) =
-      subst₂ (λ (k l : InstKey). Contains demands (demand_below c.instances (place_in c.instances k) (depth + back_of (device_of task.flash)) l)) (sym top) same
+      subst₂ (λ (k l : InstKey). Contains demands (demand_below c.instances (number_in c.instances k) (depth + back_of (device_of task.flash)) l)) (sym top) same
       ((asked _).1 (record { node = n; present = h; asks = recur depth (subst (λ (k : InstKey). cut_at task.assumptions k ≡ Some depth) (sym same) cut) }))
 
   pub ranked : RanksFall c.instances demands → AreRanked task c nodes
   ranked falls i j depth edge =
       subst (λ r. rank_in c.instances j < r) (rank_there c.instances i)
-      (subst (λ r. r < rank_at c.instances (place_in c.instances i)) (rank_there c.instances j)
-      (falls _ (nest_listed i j depth edge) (place_in c.instances j) refl))
+      (subst (λ r. r < rank_at c.instances (number_in c.instances i)) (rank_there c.instances j)
+      (falls _ (nest_listed i j depth edge) (number_in c.instances j) refl))
 
   pub sufficient : AllMet c.instances demands → NeedsSuffice task c nodes
   sufficient met inst = record {
@@ -177,16 +177,16 @@ module _ (task : Task) (c : Claim) (nodes : List Node) (are : AreInstances c.ins
         subst (λ m. o ≤ m) (need_there c.instances n.key.inst ∙ ap (need_in c.instances) is) (met _ (offset_listed n o h form));
     entered = λ into depth edge.
         subst (λ m. depth + back_of (device_of task.flash) + m ≤ need_in c.instances inst) (need_there c.instances into)
-        (subst (λ m. depth + back_of (device_of task.flash) + need_at c.instances (place_in c.instances into) ≤ m) (need_there c.instances inst)
+        (subst (λ m. depth + back_of (device_of task.flash) + need_at c.instances (number_in c.instances into) ≤ m) (need_there c.instances inst)
         (met _ (nest_listed inst into depth edge)));
   }
 
   -- a listed instance by its number
-  own_place : (k : InstKey) (j : ℕ) → Contains (inst_keys c.instances) k → place_in c.instances k ≡ j → HasInstPlace c.instances k j
-  own_place k j h e = subst (HasInstPlace c.instances k) e (placed c.instances k are h)
+  has_own_number : (k : InstKey) (j : ℕ) → Contains (inst_keys c.instances) k → number_in c.instances k ≡ j → HasInstNumber c.instances k j
+  has_own_number k j h e = subst (HasInstNumber c.instances k) e (has_number c.instances k are h)
 
-  number_is : (k : InstKey) (j : ℕ) (x : Inst) → slice_get c.instances j ≡ Some x → k ≡ x.key → place_in c.instances k ≡ j
-  number_is k j x is same = place_is c.instances k j are (record { inst = x; is = is; same = sym same })
+  number_is : (k : InstKey) (j : ℕ) (x : Inst) → slice_get c.instances j ≡ Some x → k ≡ x.key → number_in c.instances k ≡ j
+  number_is k j x is same = one_number c.instances k j are (record { inst = x; is = is; same = sym same })
 
   enters_listed : (i m : ℕ) (x y : Inst) → slice_get c.instances i ≡ Some x → slice_get c.instances m ≡ Some y → InstEnters task nodes x y
       → (d : Demand) × (Contains demands d × (d.inst ≡ i) × (d.into ≡ Some m))
@@ -211,8 +211,8 @@ module _ (task : Task) (c : Claim) (nodes : List Node) (are : AreInstances c.ins
     inst : InstKey
     depth : ℕ
     edge : NestEdge task (Contains nodes) upper inst depth
-    from : place_in c.instances upper ≡ j
-    into : place_in c.instances inst ≡ l
+    from : number_in c.instances upper ≡ j
+    into : number_in c.instances inst ≡ l
     upper_there : Contains (inst_keys c.instances) upper
     there : Contains (inst_keys c.instances) inst
 
@@ -225,7 +225,7 @@ module _ (task : Task) (c : Claim) (nodes : List Node) (are : AreInstances c.ins
         depth = offset_of n.key.sp;
         edge = by_node n way back h refl refl e whole;
         from = is;
-        into = same_Some (place_in c.instances inst) l to;
+        into = same_Some (number_in c.instances inst) l to;
         upper_there = belong n h;
         there = entered_belongs task c.instances nodes are belong root (λ m d i k. (land m d i k).0) n way inst back h e;
       }
@@ -236,15 +236,15 @@ module _ (task : Task) (c : Claim) (nodes : List Node) (are : AreInstances c.ins
         depth = depth;
         edge = recurs n h refl cut refl;
         from = is;
-        into = same_Some (place_in c.instances n.key.inst) l to;
+        into = same_Some (number_in c.instances n.key.inst) l to;
         upper_there = root;
         there = belong n h;
       }
 
-  rank_at_place : (j l : ℕ) (w : IsWay j l) → rank_at c.instances j ≤ rank_at c.instances l
-      → ((d : Demand) (m : NumberPair) → Contains demands d → LowRank c.instances d m → PairBelow (j, l) m) → HasInstPlace c.instances w.upper j
-      → HasInstPlace c.instances w.inst l → IsFirstRank task c nodes j l
-  rank_at_place j l w low before p q = record {
+  rank_at_number : (j l : ℕ) (w : IsWay j l) → rank_at c.instances j ≤ rank_at c.instances l
+      → ((d : Demand) (m : NumberPair) → Contains demands d → LowRank c.instances d m → PairBelow (j, l) m) → HasInstNumber c.instances w.upper j
+      → HasInstNumber c.instances w.inst l → IsFirstRank task c nodes j l
+  rank_at_number j l w low before p q = record {
     from = p.inst;
     into = q.inst;
     is = p.is;
@@ -269,12 +269,12 @@ module _ (task : Task) (c : Claim) (nodes : List Node) (are : AreInstances c.ins
   first_rank j l h = by ((asked h.0.0).0 h.0.1.0)
     where
       at : IsWay j l → IsFirstRank task c nodes j l
-      at w = rank_at_place j l w h.0.1.1.2 h.1 (own_place w.upper j w.upper_there w.from) (own_place w.inst l w.there w.into)
+      at w = rank_at_number j l w h.0.1.1.2 h.1 (has_own_number w.upper j w.upper_there w.from) (has_own_number w.inst l w.there w.into)
 
       by : IsAsked task c.instances nodes h.0.0 → IsFirstRank task c nodes j l
       by a = at (way_of a.node h.0.0 j l a.present a.asks h.0.1.1.0 h.0.1.1.1)
 
-  own_number : (n : Node) (d : Demand) (a : AsksFor task c.instances n d) → d.inst ≡ place_in c.instances (owner n d a)
+  own_number : (n : Node) (d : Demand) (a : AsksFor task c.instances n d) → d.inst ≡ number_in c.instances (owner n d a)
   own_number n _ (offset o e) = refl
   own_number n _ (entry way inst back e whole) = refl
   own_number n _ (recur depth cut) = refl
@@ -307,22 +307,22 @@ module _ (task : Task) (c : Claim) (nodes : List Node) (are : AreInstances c.ins
       → d.bytes ≤ m
   above_asked x j m is s d h e = by ((asked d).0 h)
     where
-      from : (a : IsAsked task c.instances nodes d) → HasInstPlace c.instances (owner a.node d a.asks) j → d.bytes ≤ m
+      from : (a : IsAsked task c.instances nodes d) → HasInstNumber c.instances (owner a.node d a.asks) j → d.bytes ≤ m
       from a p =
           let same : owner a.node d a.asks ≡ x.key = sym p.same ∙ ap (λ (y : Inst). y.key) (one_at c.instances j p.inst x p.is is) in
           suffices_for a.node x.key d m a.present a.asks same s
 
       by : IsAsked task c.instances nodes d → d.bytes ≤ m
-      by a = from a (own_place (owner a.node d a.asks) j (owner_there a.node d a.present a.asks) (sym (own_number a.node d a.asks) ∙ e))
+      by a = from a (has_own_number (owner a.node d a.asks) j (owner_there a.node d a.present a.asks) (sym (own_number a.node d a.asks) ∙ e))
 
   above_most : (x : Inst) (j need m : ℕ) → slice_get c.instances j ≡ Some x → IsMost demands j need → Suffices task c nodes x.key m → need ≤ m
   above_most x j need m is most s =
       ⊎_elim (λ z. omega (arith, z)) (λ w. let le = above_asked x j m is s w.0 w.1.0 w.1.1 in omega (arith, le, w.1.2)) most.attained
 
   -- the first instance with an unmet demand
-  need_at_place : (j need : ℕ) (d : Demand) (k : InstKey) → Contains demands d → d.inst ≡ j → need_at c.instances j < d.bytes → IsMost demands j need
-      → ((e : Demand) (m : ℕ) → Contains demands e → LowNeed c.instances e m → j ≤ m) → HasInstPlace c.instances k j → IsFirstNeed task c nodes j need
-  need_at_place j need d k h is low most before p = record {
+  need_at_number : (j need : ℕ) (d : Demand) (k : InstKey) → Contains demands d → d.inst ≡ j → need_at c.instances j < d.bytes → IsMost demands j need
+      → ((e : Demand) (m : ℕ) → Contains demands e → LowNeed c.instances e m → j ≤ m) → HasInstNumber c.instances k j → IsFirstNeed task c nodes j need
+  need_at_number j need d k h is low most before p = record {
     inst = p.inst;
     is = p.is;
     enough = suffices_by p.inst j need p.is most.above;
@@ -342,8 +342,8 @@ module _ (task : Task) (c : Claim) (nodes : List Node) (are : AreInstances c.ins
     where
       by : IsAsked task c.instances nodes h.0.0 → IsFirstNeed task c nodes j need
       by a =
-          need_at_place j need h.0.0 (owner a.node h.0.0 a.asks) h.0.1.0 h.0.1.1.0 h.0.1.1.1 most h.1
-          (own_place (owner a.node h.0.0 a.asks) j (owner_there a.node h.0.0 a.present a.asks) (sym (own_number a.node h.0.0 a.asks) ∙ h.0.1.1.0))
+          need_at_number j need h.0.0 (owner a.node h.0.0 a.asks) h.0.1.0 h.0.1.1.0 h.0.1.1.1 most h.1
+          (has_own_number (owner a.node h.0.0 a.asks) j (owner_there a.node h.0.0 a.present a.asks) (sym (own_number a.node h.0.0 a.asks) ∙ h.0.1.1.0))
 
   pub decided : c.device ≡ device_of task.flash → HasReset task.assumptions c nodes → AreFaultless task nodes → (v : Judgement ℕ) → IsWeighed task.flash c task.assumptions demands v → Decides task c nodes v
   decided device reset clean (Accepted bound) h = (

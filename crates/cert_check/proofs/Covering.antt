@@ -17,7 +17,7 @@ use Rattle.node_keys.proofs.AllLaws.{keys_are_ordered}
 use Rattle.local_rules.specs.declared.local.Node.{Node}
 use Rattle.edge_rules.specs.Expansion.{Seeds}
 use Rattle.edge_rules.specs.Families.{IsCovered}
-use Rattle.edge_rules.specs.Views.{AreShown, state_of, place_of}
+use Rattle.edge_rules.specs.Views.{AreShown, state_of, index_of}
 use Rattle.cert_check.specs.Demands.{HasSlots, GapAt, LeadsToNode, KeyBelow, lesser_key}
 use Rattle.cert_check.proofs.Lists.{IsLesser}
 
@@ -26,7 +26,7 @@ use Rattle.cert_check.proofs.Lists.{IsLesser}
 state_is : (nodes : List Node) (at : ℕ) (n : Node) (t : AbsState) → slice_get nodes at ≡ Some n → option_map state_of (slice_get nodes at) ≡ Some t → n.state ≡ t
 state_is nodes at n t is e = same_Some n.state t (sym (ap (option_map state_of) is) ∙ e)
 
-module _ (nodes : List Node) (k : NodeKey) (s : AbsState) (at : ℕ) (t : AbsState) {device : Device} (shown : AreShown device nodes) (found : place_of k nodes ≡ Some at)
+module _ (nodes : List Node) (k : NodeKey) (s : AbsState) (at : ℕ) (t : AbsState) {device : Device} (shown : AreShown device nodes) (found : index_of k nodes ≡ Some at)
     (is : option_map state_of (slice_get nodes at) ≡ Some t) where
   held : Contains nodes (record { key = k; state = t })
   held =
@@ -44,7 +44,7 @@ module _ (nodes : List Node) (k : NodeKey) (s : AbsState) (at : ℕ) (t : AbsSta
   pub same_slots : HasSlots k s → length s.slots ≡ length t.slots
   same_slots slots = slots ∙ sym (shown.all (record { key = k; state = t }) held).formed.count_slots
 
-pub not_covered : (nodes : List Node) (k : NodeKey) (s : AbsState) → place_of k nodes ≡ None → IsCovered nodes (record { key = k; state = s }) → ⊥
+pub not_covered : (nodes : List Node) (k : NodeKey) (s : AbsState) → index_of k nodes ≡ None → IsCovered nodes (record { key = k; state = s }) → ⊥
 not_covered nodes k s none h = none_from k nodes 0 none (record { key = k; state = h.state }) h.present refl
 
 -- ---- the lesser key

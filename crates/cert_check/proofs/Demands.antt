@@ -18,13 +18,13 @@ use Rattle.certificate.specs.declared.instance.Inst.{Inst}
 use Rattle.certificate.specs.Insts.{inst_keys}
 use Rattle.certificate.specs.Valid.{AllLand}
 use Rattle.cert_check.specs.declared.demand.Demand.{Demand}
-use Rattle.cert_check.specs.Demands.{AreInstances, place_in, demand_below, offset_demand, recur_demand, unless_cut, entry_demand, demands_of, AsksFor, offset, entry, recur, AreDemands, AllBelong, IsInside, AreDemandsInside}
-use Rattle.cert_check.proofs.Insts.{placed}
+use Rattle.cert_check.specs.Demands.{AreInstances, number_in, demand_below, offset_demand, recur_demand, unless_cut, entry_demand, demands_of, AsksFor, offset, entry, recur, AreDemands, AllBelong, IsInside, AreDemandsInside}
+use Rattle.cert_check.proofs.Insts.{has_number}
 use Rattle.local_rules.specs.Site.{Task}
 
 module _ (task : Task) (insts : List Inst) (n : Node) where
-  from_offset : (form : SpForm) → n.key.sp ≡ form → (d : Demand) → Contains (offset_demand (place_in insts n.key.inst) form) d → AsksFor task insts n d
-  from_offset (Closed o) e d h = subst (AsksFor task insts n) (sym (only_one_in (record { inst = place_in insts n.key.inst; into = None; bytes = o }) d h)) (offset o e)
+  from_offset : (form : SpForm) → n.key.sp ≡ form → (d : Demand) → Contains (offset_demand (number_in insts n.key.inst) form) d → AsksFor task insts n d
+  from_offset (Closed o) e d h = subst (AsksFor task insts n) (sym (only_one_in (record { inst = number_in insts n.key.inst; into = None; bytes = o }) d h)) (offset o e)
   from_offset (Open o high) e d h = absurd (none_in d h)
 
   -- an edge into another instance is an entry of it
@@ -46,7 +46,7 @@ module _ (task : Task) (insts : List Inst) (n : Node) where
 
   -- the demand of an entry of this instance
   abbrev below : InstKey → Demand
-  below inst = demand_below insts (place_in insts n.key.inst) (offset_of n.key.sp + back_of (device_of task.flash)) inst
+  below inst = demand_below insts (number_in insts n.key.inst) (offset_of n.key.sp + back_of (device_of task.flash)) inst
 
   whole_by : (e : Edge) → WayIn e → (cut : Option ℕ) → cut_at task.assumptions e.to.inst ≡ cut → (d : Demand) → Contains (unless_cut cut (below e.to.inst ∷ [])) d → AsksFor task insts n d
   whole_by e w (Some depth) is d h = absurd (none_in d h)
@@ -66,13 +66,13 @@ module _ (task : Task) (insts : List Inst) (n : Node) where
 
   module _ (nodes : List Node) (edges : List Edge) (are : AreEdges task nodes n edges) where
     abbrev own : List Demand
-    own = offset_demand (place_in insts n.key.inst) n.key.sp
+    own = offset_demand (number_in insts n.key.inst) n.key.sp
 
     abbrev root_own : List Demand
     root_own = recur_demand (back_of (device_of task.flash)) insts n.key.inst (cut_at task.assumptions n.key.inst)
 
     abbrev by_edge : Edge → List Demand
-    by_edge = entry_demand task.assumptions insts (place_in insts n.key.inst) (offset_of n.key.sp + back_of (device_of task.flash))
+    by_edge = entry_demand task.assumptions insts (number_in insts n.key.inst) (offset_of n.key.sp + back_of (device_of task.flash))
 
     pub listed_asks : (d : Demand) → Contains (demands_of task insts n.key edges) d → AsksFor task insts n d
     listed_asks d h =
@@ -84,11 +84,11 @@ module _ (task : Task) (insts : List Inst) (n : Node) where
 
     pub asked_listed : (d : Demand) → AsksFor task insts n d → Contains (demands_of task insts n.key edges) d
     asked_listed _ (offset o e) =
-        let d : Demand = record { inst = place_in insts n.key.inst; into = None; bytes = o } in
+        let d : Demand = record { inst = number_in insts n.key.inst; into = None; bytes = o } in
         Contains-append_left own (root_own ++ flat_map by_edge edges) d
-        (subst (λ form. Contains (offset_demand (place_in insts n.key.inst) form) d) (sym e) (first_in d []))
+        (subst (λ form. Contains (offset_demand (number_in insts n.key.inst) form) d) (sym e) (first_in d []))
     asked_listed _ (recur depth cut) =
-        let d : Demand = demand_below insts (place_in insts root_inst) (depth + back_of (device_of task.flash)) n.key.inst in
+        let d : Demand = demand_below insts (number_in insts root_inst) (depth + back_of (device_of task.flash)) n.key.inst in
         Contains-append_right own (root_own ++ flat_map by_edge edges) d
         (Contains-append_left root_own (flat_map by_edge edges) d
         (subst (λ (o : Option ℕ). Contains (recur_demand (back_of (device_of task.flash)) insts n.key.inst o) d) (sym cut) (first_in d [])))
@@ -115,20 +115,20 @@ module _ (task : Task) (insts : List Inst) (nodes : List Node) (are : AreInstanc
       → Contains (inst_keys insts) inst
   entered_belongs n way inst back h enters = landed_belongs insts nodes _ belong (land n _ h (entering way inst back enters))
 
-  place_inside : (k : InstKey) → Contains (inst_keys insts) k → place_in insts k < length insts
-  place_inside k h = let p = placed insts k are h in slice_get_within insts (place_in insts k) p.inst p.is
+  number_inside : (k : InstKey) → Contains (inst_keys insts) k → number_in insts k < length insts
+  number_inside k h = let p = has_number insts k are h in slice_get_within insts (number_in insts k) p.inst p.is
 
   asks_inside : (n : Node) (d : Demand) → Contains nodes n → AsksFor task insts n d → IsInside insts d
-  asks_inside n _ h (offset o e) = (place_inside n.key.inst (belong n h), λ l is. absurd (cc))
+  asks_inside n _ h (offset o e) = (number_inside n.key.inst (belong n h), λ l is. absurd (cc))
   asks_inside n _ h (entry way inst back enters whole) = (
-    place_inside n.key.inst (belong n h),
-    λ l is. let same : place_in insts inst ≡ l = cc in
-        subst (λ x. x < length insts) same (place_inside inst (entered_belongs n way inst back h enters)),
+    number_inside n.key.inst (belong n h),
+    λ l is. let same : number_in insts inst ≡ l = cc in
+        subst (λ x. x < length insts) same (number_inside inst (entered_belongs n way inst back h enters)),
   )
   asks_inside n _ h (recur depth cut) = (
-    place_inside root_inst root,
-    λ l is. let same : place_in insts n.key.inst ≡ l = cc in
-        subst (λ x. x < length insts) same (place_inside n.key.inst (belong n h)),
+    number_inside root_inst root,
+    λ l is. let same : number_in insts n.key.inst ≡ l = cc in
+        subst (λ x. x < length insts) same (number_inside n.key.inst (belong n h)),
   )
 
   pub all_inside : (demands : List Demand) → AreDemands task insts nodes demands → AreDemandsInside insts demands

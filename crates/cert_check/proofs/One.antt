@@ -42,7 +42,7 @@ use Rattle.cert_check.specs.Verdict.{AllLanded, InstEnters, IsFirstFaultOfCause,
 use Rattle.cert_check.specs.Laws.{VerdictsAreOne, SoundCertificatesBoundEveryRun}
 use Rattle.cert_check.specs.Demands.{HasSmallNeed, AreInstances, Decides, need_at, rank_at, rank_of, need_of}
 use Rattle.cert_check.proofs.ReadAs.{own_is_read, own_is_open}
-use Rattle.cert_check.proofs.Insts.{place_is, rank_there, need_there}
+use Rattle.cert_check.proofs.Insts.{one_number, rank_there, need_there}
 use Rattle.cert_check.proofs.Covering.{key_antisymmetric}
 use Rattle.local_rules.specs.Site.{Task}
 
@@ -72,12 +72,12 @@ module _ (task : Task) (c : Claim) (claim : IsClaim c) (nodes : List Node) where
   rank_is : (j : ℕ) (x : Inst) → slice_get c.instances j ≡ Some x → rank_in c.instances x.key ≡ x.rank
   rank_is j x e =
       sym (rank_there c.instances x.key)
-      ∙ (ap (rank_at c.instances) (place_is c.instances x.key j (are_instances c claim) (record { inst = x; is = e; same = refl })) ∙ ap rank_of e)
+      ∙ (ap (rank_at c.instances) (one_number c.instances x.key j (are_instances c claim) (record { inst = x; is = e; same = refl })) ∙ ap rank_of e)
 
   need_is : (j : ℕ) (x : Inst) → slice_get c.instances j ≡ Some x → need_in c.instances x.key ≡ x.need
   need_is j x e =
       sym (need_there c.instances x.key)
-      ∙ (ap (need_at c.instances) (place_is c.instances x.key j (are_instances c claim) (record { inst = x; is = e; same = refl })) ∙ ap need_of e)
+      ∙ (ap (need_at c.instances) (one_number c.instances x.key j (are_instances c claim) (record { inst = x; is = e; same = refl })) ∙ ap need_of e)
 
   -- ---- a reason excludes the condition that it tells of
 

@@ -29,7 +29,7 @@ use Rattle.edge_rules.specs.declared.seeded.NodeForm.{NodeForm}
 use Rattle.edge_rules.specs.declared.seeded.NodeForm.TheVariants.{State, From}
 use Rattle.edge_rules.specs.Expansion.{Seeds, AreSeeds, IsFilled, HasKeyAt}
 use Rattle.edge_rules.specs.Seeds.{HasFormAt}
-use Rattle.edge_rules.specs.Views.{place_of}
+use Rattle.edge_rules.specs.Views.{index_of}
 use Rattle.edge_rules.specs.Places.{not_itself, found_at}
 use Rattle.edge_laws.specs.Expansions.{AreSeedsAscending}
 use Rattle.edge_laws.proofs.ExpansionLaws.{filled_or_missing}
@@ -228,7 +228,7 @@ key_beside own nodes at n beside is = by (slice_get own at) refl (sym (slice_get
     by None e key = absurd (none-some n.key key)
     by (Some d) e key = (d.1, e ∙ ap (λ k. Some (k, d.1)) (same_Some d.0 n.key key))
 
-pub key_found : (own : Seeds) (nodes : List Node) (k : NodeKey) (at : ℕ) → AreBeside own nodes → place_of k nodes ≡ Some at → HasKeyAt own at k
+pub key_found : (own : Seeds) (nodes : List Node) (k : NodeKey) (at : ℕ) → AreBeside own nodes → index_of k nodes ≡ Some at → HasKeyAt own at k
 key_found own nodes k at beside found =
     let w = found_at k nodes at found in
     subst (HasKeyAt own at) w.same (key_beside own nodes at w.node beside w.is)

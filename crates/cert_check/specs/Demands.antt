@@ -88,9 +88,9 @@ pub record AreInstances (insts : List Inst) : Type 0 where
   pub few : length insts ≤ most_instances
 
 -- the number of a key's instance
-abbrev pub place_in : List Inst → InstKey → ℕ
-place_in [] key = 0
-place_in (x ∷ xs) key = if same_inst x.key key then 0 else suc (place_in xs key)
+abbrev pub number_in : List Inst → InstKey → ℕ
+number_in [] key = 0
+number_in (x ∷ xs) key = if same_inst x.key key then 0 else suc (number_in xs key)
 
 abbrev pub rank_of : Option Inst → ℕ
 rank_of None = 0
@@ -115,7 +115,7 @@ offset_demand j (Open offset high) = []
 
 -- what instance j must have if another lies below it, whose base is so many bytes below its own
 abbrev pub demand_below : List Inst → ℕ → ℕ → InstKey → Demand
-demand_below insts j fall into = record { inst = j; into = Some (place_in insts into); bytes = fall + need_at insts (place_in insts into) }
+demand_below insts j fall into = record { inst = j; into = Some (number_in insts into); bytes = fall + need_at insts (number_in insts into) }
 
 abbrev pub below_demand : List Inst → ℕ → ℕ → InstKey → List Demand
 below_demand insts j fall into = demand_below insts j fall into ∷ []
@@ -123,7 +123,7 @@ below_demand insts j fall into = demand_below insts j fall into ∷ []
 -- `back` is how many bytes a return address has
 abbrev pub recur_demand : ℕ → List Inst → InstKey → Option ℕ → List Demand
 recur_demand back insts inst None = []
-recur_demand back insts inst (Some depth) = below_demand insts (place_in insts root_inst) (depth + back) inst
+recur_demand back insts inst (Some depth) = below_demand insts (number_in insts root_inst) (depth + back) inst
 
 abbrev pub unless_cut : Option ℕ → List Demand → List Demand
 unless_cut None demands = demands
@@ -135,18 +135,18 @@ entry_demand A insts j fall e = if is_entry e.kind then unless_cut (cut_at A e.t
 -- the demands of a node with this key and these edges
 abbrev pub demands_of : Task → List Inst → NodeKey → List Edge → List Demand
 demands_of task insts k edges =
-    offset_demand (place_in insts k.inst) k.sp
+    offset_demand (number_in insts k.inst) k.sp
     ++ (recur_demand (back_of (device_of task.flash)) insts k.inst (cut_at task.assumptions k.inst)
-    ++ flat_map (entry_demand task.assumptions insts (place_in insts k.inst) (offset_of k.sp + back_of (device_of task.flash))) edges)
+    ++ flat_map (entry_demand task.assumptions insts (number_in insts k.inst) (offset_of k.sp + back_of (device_of task.flash))) edges)
 
 -- A node demands a closed offset of its instance. For each entry of another instance that isn't cut it demands a higher rank, and that
 -- instance's need plus the offset and the bytes of a return address. A node of a cut instance demands the same of the root, at the depth of the line.
 pub data AsksFor (task : Task) (insts : List Inst) (n : Node) : Demand → Type 0 where
-  offset : (o : ℕ) → n.key.sp ≡ Closed o → AsksFor task insts n (record { inst = place_in insts n.key.inst; into = None; bytes = o })
+  offset : (o : ℕ) → n.key.sp ≡ Closed o → AsksFor task insts n (record { inst = number_in insts n.key.inst; into = None; bytes = o })
   entry : (way : EdgeKind) (inst : InstKey) (back : ℕ) → Enters task n way inst back → cut_at task.assumptions inst ≡ None
-      → AsksFor task insts n (demand_below insts (place_in insts n.key.inst) (offset_of n.key.sp + back_of (device_of task.flash)) inst)
+      → AsksFor task insts n (demand_below insts (number_in insts n.key.inst) (offset_of n.key.sp + back_of (device_of task.flash)) inst)
   recur : (depth : ℕ) → cut_at task.assumptions n.key.inst ≡ Some depth
-      → AsksFor task insts n (demand_below insts (place_in insts root_inst) (depth + back_of (device_of task.flash)) n.key.inst)
+      → AsksFor task insts n (demand_below insts (number_in insts root_inst) (depth + back_of (device_of task.flash)) n.key.inst)
 
 -- some of these nodes makes this demand
 pub record IsAsked (task : Task) (insts : List Inst) (nodes : List Node) (d : Demand) : Type 0 where
@@ -240,7 +240,7 @@ abbrev pub Decides : Task → Claim → List Node → Judgement ℕ → Type 0
 Decides task c nodes (Accepted bound) = MeetsConditions task c nodes × (bound ≡ c.bound)
 Decides task c nodes (Rejected r) = IsLeastReason task c nodes r
 
--- the verdict on the expanded nodes, with the landings of each node in place of the bound
+-- the verdict on the expanded nodes, with the landings of each node instead of the bound
 abbrev pub SettlesClaim : Task → Claim → List Node → Judgement (List (List Landing)) → Type 0
 SettlesClaim task c nodes (Accepted landings) = MeetsConditions task c nodes × AreLandings task nodes landings
 SettlesClaim task c nodes (Rejected r) = IsLeastReason task c nodes r

@@ -6,7 +6,7 @@ ghost use Rattle.std.specs.List.{flat_map};
 ghost use Rattle.edge_rules.specs.declared.edge.Edge as edge_type;
 ghost use Rattle.node_keys.specs.Keys.{root_inst, cut_at};
 ghost use Rattle.certificate.specs.Insts.{inst_keys};
-ghost use Rattle.cert_check.specs.Demands.{AreInstances, place_in, rank_at, need_at, offset_demand, below_demand, recur_demand, entry_demand, demands_of};
+ghost use Rattle.cert_check.specs.Demands.{AreInstances, number_in, rank_at, need_at, offset_demand, below_demand, recur_demand, entry_demand, demands_of};
 ghost use Rattle.family_edges.specs.Clauses.{Grows};
 ghost use Rattle.family_edges.specs.Tasks.{task_of};
 
@@ -27,6 +27,15 @@ pub(crate) struct Demand {
     pub into: Option<usize>,
     // The least need of the instance, in bytes.
     pub bytes: u32,
+}
+
+// An instance from which others are entered.
+#[derive(Clone, Copy)]
+struct Outer {
+    // Its number.
+    inst: usize,
+    // How many bytes the bases of the others lie below its own.
+    fall: u32,
 }
 
 // The rank of the instance of this number.
@@ -51,7 +60,7 @@ pub(crate) fn need_at(instances: &[Inst], j: usize) -> u32
 pub(crate) fn number_of(instances: &[Inst], key: &InstKey) -> usize
     requires instances { AreInstances instances.now }
     requires there { Contains (inst_keys instances.now) key.now }
-    ensures value { result ≡ place_in instances.now key.now }
+    ensures value { result ≡ number_in instances.now key.now }
     ensures inside { result < length instances.now }
 {
     instances.partition_point(|inst| inst.key.cmp(key).is_lt())
@@ -71,24 +80,23 @@ fn add_offset(demands: &mut Vec<Demand>, inst: usize, form: &SpForm) -> Result<(
     Ok(())
 }
 
-// The demand of an instance that lies below another one, whose base is so many bytes below its own.
+// The demand of an instance that is entered from another one.
 fn add_below(
     demands: &mut Vec<Demand>,
     instances: &[Inst],
-    inst: usize,
-    fall: u32,
+    outer: Outer,
     into: &InstKey,
 ) -> Result<(), AllocError>
     requires instances { AreInstances instances.now }
     requires there { Contains (inst_keys instances.now) into.now }
-    requires low { fall < 131072 }
-    ensures { Grows result demands.old.items demands.new.items (below_demand instances.now inst fall into.now) }
+    requires low { outer.fall < 131072 }
+    ensures { Grows result demands.old.items demands.new.items (below_demand instances.now outer.inst outer.fall into.now) }
 {
     let into = number_of(instances, into);
     demands.push(Demand {
-        inst,
+        inst: outer.inst,
         into: Some(into),
-        bytes: fall + need_at(instances, into),
+        bytes: outer.fall + need_at(instances, into),
     })?;
     Ok(())
 }
@@ -109,14 +117,11 @@ fn add_recur(
     match inst.cut(assumptions) {
         None => Ok(()),
         Some(depth) => {
-            let root = number_of(instances, &InstKey::root());
-            add_below(
-                demands,
-                instances,
-                root,
-                u32::from(depth) + u32::from(back),
-                inst,
-            )
+            let root = Outer {
+                inst: number_of(instances, &InstKey::root()),
+                fall: u32::from(depth) + u32::from(back),
+            };
+            add_below(demands, instances, root, inst)
         }
     }
 }
@@ -125,19 +130,18 @@ fn add_recur(
 fn add_entry(
     demands: &mut Vec<Demand>,
     instances: &[Inst],
-    inst: usize,
-    fall: u32,
+    outer: Outer,
     edge: &Edge,
     assumptions: &Assumptions,
 ) -> Result<(), AllocError>
     requires instances { AreInstances instances.now }
     requires there { Contains (inst_keys instances.now) edge.now.to.inst }
-    requires low { fall < 131072 }
-    ensures { Grows result demands.old.items demands.new.items (entry_demand assumptions.now instances.now inst fall edge.now) }
+    requires low { outer.fall < 131072 }
+    ensures { Grows result demands.old.items demands.new.items (entry_demand assumptions.now instances.now outer.inst outer.fall edge.now) }
 {
     if is_entry(edge.kind) {
         return match edge.to.inst.cut(assumptions) {
-            None => add_below(demands, instances, inst, fall, &edge.to.inst),
+            None => add_below(demands, instances, outer, &edge.to.inst),
             Some(_) => Ok(()),
         };
     }
@@ -148,18 +152,17 @@ fn add_entry(
 fn add_entries(
     demands: &mut Vec<Demand>,
     instances: &[Inst],
-    inst: usize,
-    fall: u32,
+    outer: Outer,
     edges: &[Edge],
     assumptions: &Assumptions,
 ) -> Result<(), AllocError>
     requires instances { AreInstances instances.now }
     requires there { (e : edge_type.Edge) → Contains edges.now e → Contains (inst_keys instances.now) e.to.inst }
-    requires low { fall < 131072 }
-    ensures { Grows result demands.old.items demands.new.items (flat_map (entry_demand assumptions.now instances.now inst fall) edges.now) }
+    requires low { outer.fall < 131072 }
+    ensures { Grows result demands.old.items demands.new.items (flat_map (entry_demand assumptions.now instances.now outer.inst outer.fall) edges.now) }
 {
     for at in 0..edges.len() {
-        add_entry(demands, instances, inst, fall, &edges[at], assumptions)?;
+        add_entry(demands, instances, outer, &edges[at], assumptions)?;
     }
     Ok(())
 }
@@ -182,6 +185,9 @@ pub(crate) fn add_demands(
     add_offset(demands, inst, &key.sp)?;
     let back = task.flash.device().back();
     add_recur(demands, instances, &key.inst, task.assumptions, back)?;
-    let fall = u32::from(key.offset()) + u32::from(back);
-    add_entries(demands, instances, inst, fall, edges, task.assumptions)
+    let outer = Outer {
+        inst,
+        fall: u32::from(key.offset()) + u32::from(back),
+    };
+    add_entries(demands, instances, outer, edges, task.assumptions)
 }

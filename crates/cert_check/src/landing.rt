@@ -1,7 +1,7 @@
 //! Landings of edges.
 
 ghost use Rattle.std.specs.Prelude.{◌≡◌, ◌≤◌, ◌<◌, ◌↔◌, length, IsTrue, IfOk, OnOk};
-ghost use Rattle.edge_rules.specs.Views.{place_of};
+ghost use Rattle.edge_rules.specs.Views.{index_of};
 ghost use Rattle.edge_rules.specs.Expansion.{HasKeyAt};
 ghost use Rattle.edge_laws.specs.Expansions.{AreSeedsAscending};
 ghost use Rattle.family_edges.specs.Landings.{landing_of, landings_by};
@@ -51,17 +51,17 @@ fn is_open(followed: bool, certificate: &Certificate, at: usize) -> bool
 // Whether an edge with this state lands at the node of this key and number: the node exists, is open, and has a state above this one.
 pub(crate) fn lands(
     site: &LandingSite<'_, '_>,
-    place: Option<usize>,
+    index: Option<usize>,
     key: &NodeKey,
     state: &AbsState,
 ) -> bool
-    requires place { place ≡ place_of key.now site.now.nodes.now }
+    requires index { index ≡ index_of key.now site.now.nodes.now }
     requires slots { HasSlots key.now state.now }
     requires beside { AreBeside site.now.certificate.now.nodes site.now.nodes.now }
     ensures { IsTrue result ↔ LandsAt site.now (record { key = key.now; state = state.now }) }
 {
     let count = site.nodes.count();
-    match place {
+    match index {
         Some(at) => {
             prove!(at < count);
             state.le(site.nodes.state(at)) && is_open(site.followed, site.certificate, at)
@@ -93,14 +93,14 @@ fn note(
     ensures gap { OnOk result (IsOfferNoted (LeadsAt site.now) (MissesAt site.now) lesser_key landed.old.gap edge.now landed.new.gap) }
     ensures landings { Grows result landed.old.landings landed.new.landings (landing_of site.now.nodes.now edge.now) }
 {
-    let place = site.nodes.find_from(first, &edge.to);
-    if let Some(at) = place {
+    let index = site.nodes.find_from(first, &edge.to);
+    if let Some(at) = index {
         landed.landings.push(Landing {
             kind: edge.kind,
             at: at as u32,
         })?;
     }
-    if !lands(site, place, &edge.to, &edge.state) {
+    if !lands(site, index, &edge.to, &edge.state) {
         landed.gap = Some(lesser(landed.gap, &edge.to));
     }
     Ok(())

@@ -24,8 +24,8 @@ use Rattle.cert_format.proofs.Parts.{first_line, name_words, decided}
 -- ---- names
 
 -- the first index of the name
-abbrev place_of : List ℕ → Option ℕ
-place_of name = position_from (λ class. bytes_eq (trimmed class) name) 0 CLASSES
+abbrev index_of : List ℕ → Option ℕ
+index_of name = position_from (λ class. bytes_eq (trimmed class) name) 0 CLASSES
 
 abbrev is_at : ℕ → Option ℕ → Bool
 is_at k None = false
@@ -37,7 +37,7 @@ at_is k (Some n) e = ap (λ (m : ℕ). Some m) (grind (arith, nat_tests, e))
 
 -- the device's text doesn't say it, or no device before it has its name
 abbrev is_first_named : ℕ → Bool
-is_first_named k = not (slice_index_or ROWS k LAST).reads_masks || is_at k (place_of (trimmed (slice_index_or CLASSES k LAST_CLASS)))
+is_first_named k = not (slice_index_or ROWS k LAST).reads_masks || is_at k (index_of (trimmed (slice_index_or CLASSES k LAST_CLASS)))
 
 abbrev each_below : ℕ → (ℕ → Bool) → Bool
 each_below zero p = true
@@ -79,19 +79,19 @@ all_first : each_below (length ROWS) is_first_named ≡ true
 unfolding trimmed
 all_first = refl
 
-first_named : (device : Device) → says_device device ≡ true → place_of (class_of device) ≡ Some device.index
+first_named : (device : Device) → says_device device ≡ true → index_of (class_of device) ≡ Some device.index
 unfolding class_of device_row
 first_named device h =
     let name = trimmed (slice_index_or CLASSES device.index LAST_CLASS) in
     let either = one_below (length ROWS) is_first_named device.index all_first (told_inside device h) in
-    at_is device.index (place_of name) (ap (λ (b : Bool). not b || is_at device.index (place_of name)) (sym h) ∙ either)
+    at_is device.index (index_of name) (ap (λ (b : Bool). not b || is_at device.index (index_of name)) (sym h) ∙ either)
 
 abbrev at_index : ℕ → Device
 at_index k = record { index = k }
 
 -- devices that their texts say have names of their own
 pub class_apart : (a b : Device) → says_device a ≡ true → says_device b ≡ true → class_of a ≡ class_of b → a ≡ b
-class_apart a b h g e = ap at_index (same_Some a.index b.index (sym (first_named a h) ∙ ap place_of e ∙ first_named b g))
+class_apart a b h g e = ap at_index (same_Some a.index b.index (sym (first_named a h) ∙ ap index_of e ∙ first_named b g))
 
 -- ---- first lines
 

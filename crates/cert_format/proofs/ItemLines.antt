@@ -20,12 +20,12 @@ use Rattle.certificate.specs.declared.version.Version.{Version}
 use Rattle.certificate.specs.Insts.{IsInst}
 use Rattle.certificate.specs.Claims.{FitsAt}
 use Rattle.certificate.specs.Versions.{NodeIsOf, is_third}
-use Rattle.cert_words.specs.KeySpelling.{inst_key_words, place_words, form_words}
+use Rattle.cert_words.specs.KeySpelling.{inst_key_words, point_words, form_words}
 use Rattle.cert_words.specs.Text.{inst_words, node_words_at}
 use Rattle.cert_words.specs.KeyReading.{inst_key_at, form_at}
 use Rattle.cert_words.specs.KeyLaws.{KeyWords}
 use Rattle.cert_words.proofs.AllLaws.{depth_room, word_take, dec_take, joined_words, cons}
-use Rattle.cert_format.specs.LineReading.{inst_in, place_at, whole_key_at, node_in}
+use Rattle.cert_format.specs.LineReading.{inst_in, instance_at, whole_key_at, node_in}
 use Rattle.cert_format.specs.LineLaws.{InstLines, IsInstanceOf, IsNodeLine, NodeLines}
 
 over_end : {A : Type 0} (x y : A) (ws : List (List ℕ)) → cond (is_over ws) (Some x) None ≡ Some y → (ws ≡ []) × (x ≡ y)
@@ -81,50 +81,50 @@ inst_lines k v = record { spelled = λ d. inst_take d k v; read = λ d. inst_aga
 
 -- ---- nodes
 
-record PlaceRead (insts : List Inst) (ws : List (List ℕ)) (z : InstKey × List (List ℕ)) : Type 0 where
-  pub place : ℕ
+record InstanceRead (insts : List Inst) (ws : List (List ℕ)) (z : InstKey × List (List ℕ)) : Type 0 where
+  pub number : ℕ
   pub inst : Inst
-  pub there : slice_get insts place ≡ Some inst
+  pub there : slice_get insts number ≡ Some inst
   pub same : inst.key ≡ z.0
-  pub words : ws ≡ codes "node" ∷ decimal place ∷ z.1
+  pub words : ws ≡ codes "node" ∷ decimal number ∷ z.1
 
-place_take : WordLaws → (insts : List Inst) (ws : List (List ℕ)) (z : InstKey × List (List ℕ)) → place_at insts ws ≡ Some z → PlaceRead insts ws z
-unfolding place_at
-place_take k insts ws z e =
+instance_take : WordLaws → (insts : List Inst) (ws : List (List ℕ)) (z : InstKey × List (List ℕ)) → instance_at insts ws ≡ Some z → InstanceRead insts ws z
+unfolding instance_at
+instance_take k insts ws z e =
     let h = bind_some (word_at (codes "node") ws) _ z e in
     let j = bind_some (dec_at 65535 h.0.1) _ z h.2 in
     let x = map_some (slice_get insts j.0.0) (λ x. (x.key, j.0.1)) z j.2 in
     let d = dec_take k 65535 h.0.1 j.0 (lit< tt) j.1 in
     record {
-      place = j.0.0;
+      number = j.0.0;
       inst = x.0;
       there = x.1;
       same = ap (λ (y : InstKey × List (List ℕ)). y.0) x.2;
       words = word_take (codes "node") ws h.0 h.1 ∙ ap (cons (codes "node")) (d.0 ∙ ap (λ (y : InstKey × List (List ℕ)). decimal j.0.0 ∷ y.1) x.2);
     }
 
-place_again : WordLaws → (insts : List Inst) (place : ℕ) (x : Inst) (rest : List (List ℕ)) → place < 65536 → slice_get insts place ≡ Some x → place_at insts (codes "node" ∷ decimal place ∷ rest) ≡ Some (x.key, rest)
-unfolding place_at
-place_again k insts place x rest small there =
-    let d = k.dec_taken 65535 place rest (lit< tt) (omega (arith, small)) in
+instance_again : WordLaws → (insts : List Inst) (number : ℕ) (x : Inst) (rest : List (List ℕ)) → number < 65536 → slice_get insts number ≡ Some x → instance_at insts (codes "node" ∷ decimal number ∷ rest) ≡ Some (x.key, rest)
+unfolding instance_at
+instance_again k insts number x rest small there =
+    let d = k.dec_taken 65535 number rest (lit< tt) (omega (arith, small)) in
     rw (d, there) refl
 
 node_take : (device : Device) → WordLaws → KeyWords → (version : Version) (insts : List Inst) (at : ℕ) (ws : List (List ℕ)) (n : NodeKey × NodeForm) → node_in device version insts at ws ≡ Some n → IsNodeLine device version insts at ws n
 unfolding node_in whole_key_at
 node_take device k v version insts at ws n e =
     let key = bind_some (whole_key_at device version insts ws) _ n e in
-    let x = bind_some (place_at insts ws) _ key.0 key.1 in
+    let x = bind_some (instance_at insts ws) _ key.0 key.1 in
     let s = bind_some (form_at device version (is_root key.0.0.inst.kind) (offset_of key.0.0.sp) at key.0.1) _ n key.2 in
     let last = over_end {A = NodeKey × NodeForm} (key.0.0, s.0.0) n s.0.1 s.2 in
-    let place = place_take k insts ws x.0 x.1 in
-    let front = v.places.spelled device version x.0.0 x.0.1 key.0.1 key.0.0 x.2 in
+    let read = instance_take k insts ws x.0 x.1 in
+    let front = v.points.spelled device version x.0.0 x.0.1 key.0.1 key.0.0 x.2 in
     let form = v.forms.spelled device version at key.0.0 key.0.1 s.0.1 s.0.0 front.key_fits s.1 in
     let behind : key.0.1 ≡ form_words device version s.0.0 = form.0 ∙ ap (λ (xs : List (List ℕ)). form_words device version s.0.0 ++ xs) last.0 ∙ append-nil (form_words device version s.0.0) in
     let P : NodeKey × NodeForm → Type 0 = λ y. IsNodeLine device version insts at ws y in
     subst P last.1 (record {
-      place = place.place;
-      words = place.words ∙ ap (λ (xs : List (List ℕ)). codes "node" ∷ decimal place.place ∷ xs) (front.words ∙ ap (λ (xs : List (List ℕ)). place_words device version key.0.0 ++ xs) behind);
-      inst = record { inst = place.inst; there = place.there; same = place.same ∙ front.same };
+      number = read.number;
+      words = read.words ∙ ap (λ (xs : List (List ℕ)). codes "node" ∷ decimal read.number ∷ xs) (front.words ∙ ap (λ (xs : List (List ℕ)). point_words device version key.0.0 ++ xs) behind);
+      inst = record { inst = read.inst; there = read.there; same = read.same ∙ front.same };
       fits = form.1;
       of_version = record { key = front.of_version; form = form.2 };
     })
@@ -133,22 +133,22 @@ key_of : (device : Device) (followed : Bool) (at : ℕ) (key : NodeKey) (form : 
 key_of device followed at key (State s) h = record { word = h.word; small = h.small; masks = h.masks; fits = h.fits; pick = h.pick }
 key_of device followed at key (From m) h = h.0
 
-node_again : (device : Device) → WordLaws → KeyWords → (version : Version) (insts : List Inst) (at place : ℕ) (n : NodeKey × NodeForm) → at ≤ 65536 → place < 65536 → IsInstanceOf insts place n.0 → FitsAt device (is_third version) at n.0 n.1 → NodeIsOf version n
-    → node_in device version insts at (node_words_at device version place n) ≡ Some n
+node_again : (device : Device) → WordLaws → KeyWords → (version : Version) (insts : List Inst) (at number : ℕ) (n : NodeKey × NodeForm) → at ≤ 65536 → number < 65536 → IsInstanceOf insts number n.0 → FitsAt device (is_third version) at n.0 n.1 → NodeIsOf version n
+    → node_in device version insts at (node_words_at device version number n) ≡ Some n
 unfolding node_in whole_key_at
-node_again device k v version insts at place n few small i h o =
-    let rest : List (List ℕ) = place_words device version n.0 ++ form_words device version n.1 in
-    let first : place_at insts (node_words_at device version place n) ≡ Some (n.0.inst, rest) = place_again k insts place i.inst rest small i.there ∙ ap (λ (x : InstKey). Some (x, rest)) i.same in
-    let key = v.places.read device version n.0 (form_words device version n.1) (key_of device (is_third version) at n.0 n.1 h) o.key in
+node_again device k v version insts at number n few small i h o =
+    let rest : List (List ℕ) = point_words device version n.0 ++ form_words device version n.1 in
+    let first : instance_at insts (node_words_at device version number n) ≡ Some (n.0.inst, rest) = instance_again k insts number i.inst rest small i.there ∙ ap (λ (x : InstKey). Some (x, rest)) i.same in
+    let key = v.points.read device version n.0 (form_words device version n.1) (key_of device (is_third version) at n.0 n.1 h) o.key in
     let form = v.forms.read device version at n.0 n.1 few h o.form in
     rw (first, key, form) refl
 
-node_plain : (device : Device) → WordLaws → KeyWords → (version : Version) (at place : ℕ) (n : NodeKey × NodeForm) → at ≤ 65536 → place < 65536 → FitsAt device (is_third version) at n.0 n.1 → NodeIsOf version n → AllByRecursion IsWord (node_words_at device version place n)
-node_plain device k v version at place n few small h o = (
+node_plain : (device : Device) → WordLaws → KeyWords → (version : Version) (at number : ℕ) (n : NodeKey × NodeForm) → at ≤ 65536 → number < 65536 → FitsAt device (is_third version) at n.0 n.1 → NodeIsOf version n → AllByRecursion IsWord (node_words_at device version number n)
+node_plain device k v version at number n few small h o = (
   ((refl, (refl, (refl, (refl, tt)))), (refl, (refl, (refl, (refl, tt))))),
   (
-    k.dec_word place (omega (arith, small)),
-    joined_words (place_words device version n.0) (form_words device version n.1) (v.places.words device version n.0 (key_of device (is_third version) at n.0 n.1 h)) (v.forms.words device version at n.0 n.1 few h o.form),
+    k.dec_word number (omega (arith, small)),
+    joined_words (point_words device version n.0) (form_words device version n.1) (v.points.words device version n.0 (key_of device (is_third version) at n.0 n.1 h)) (v.forms.words device version at n.0 n.1 few h o.form),
   ),
 )
 

@@ -37,7 +37,7 @@ use Rattle.cert_format.specs.Reading.{is_admitted, entry_by, inst_by, node_by, l
 use Rattle.cert_format.proofs.Items.{cells_more}
 use Rattle.cert_format.proofs.Lists.{Admitted, Steady, Spells, Reads, AllFrom, any_of_all, kept_by, admitted_by, is_after, sorted_push, sorted_at}
 use Rattle.certificate.proofs.Instances.{key_at}
-use Rattle.cert_words.proofs.AllLaws.{place_unique, has_place}
+use Rattle.cert_words.proofs.AllLaws.{number_unique, has_number}
 use Rattle.std.proofs.lemmas.Option.{slice_get_within, cond_some}
 use Rattle.line_reading.proofs.AllLaws.{bind_some}
 use Rattle.avr_model.specs.Assumptions.{has_pairs}
@@ -245,16 +245,16 @@ nodes_admitted device version insts ns h all = admitted_by (FitsNode device vers
 pub node_spells : (device : Device) → WordLaws → NodeLines → KeysAreOrdered → (version : Version) (insts : List Inst) → IsStrictlySortedBy inst_cmp (inst_keys insts) → Spells (node_by device version insts) (node_words device version insts) (FitsNode device version insts)
 node_spells device k l o version insts ascend at text n e =
     let t = l.spelled device version insts at (words_of text) n e in
-    let own = place_unique o insts t.place t.inst.inst ascend t.inst.there in
-    let place : inst_number n.0.inst insts ≡ t.place = ap (λ (key : InstKey). inst_number key insts) (sym t.inst.same) ∙ own in
+    let own = number_unique o insts t.number t.inst.inst ascend t.inst.there in
+    let number : inst_number n.0.inst insts ≡ t.number = ap (λ (key : InstKey). inst_number key insts) (sym t.inst.same) ∙ own in
     let P : InstKey → Type 0 = λ key. Contains (inst_keys insts) key in (
-      sym (k.line_words text) ∙ ap spaced (t.words ∙ ap (λ (i : ℕ). node_words_at device version i n) (sym place)),
-      (t.fits, subst P t.inst.same (key_at insts t.place t.inst.inst t.inst.there), t.of_version),
+      sym (k.line_words text) ∙ ap spaced (t.words ∙ ap (λ (i : ℕ). node_words_at device version i n) (sym number)),
+      (t.fits, subst P t.inst.same (key_at insts t.number t.inst.inst t.inst.there), t.of_version),
     )
 
 pub node_reads : (device : Device) → WordLaws → NodeLines → KeysAreOrdered → (version : Version) (insts : List Inst) → length insts ≤ most_instances → Reads (node_by device version insts) (node_words device version insts) (FitsNode device version insts)
 node_reads device k l o version insts few at n most h =
-    let t = has_place o insts n.0.inst h.1 in
+    let t = has_number o insts n.0.inst h.1 in
     let within = slice_get_within insts (inst_number n.0.inst insts) t.inst t.there in
     let small : inst_number n.0.inst insts < 65536 = omega (arith, within, few) in
     let inst : IsInstanceOf insts (inst_number n.0.inst insts) n.0 = record { inst = t.inst; there = t.there; same = t.same } in
@@ -262,7 +262,7 @@ node_reads device k l o version insts few at n most h =
 
 pub node_is_plain : (device : Device) → NodeLines → KeysAreOrdered → (version : Version) (insts : List Inst) → length insts ≤ most_instances → (at : ℕ) (n : NodeKey × NodeForm) → at ≤ 65536 → FitsNode device version insts at n → AllByRecursion IsWord (node_words device version insts n)
 node_is_plain device l o version insts few at n most h =
-    let t = has_place o insts n.0.inst h.1 in
+    let t = has_number o insts n.0.inst h.1 in
     let within = slice_get_within insts (inst_number n.0.inst insts) t.inst t.there in
     l.words device version at (inst_number n.0.inst insts) n most (omega (arith, within, few)) h.0 h.2
 

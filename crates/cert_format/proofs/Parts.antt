@@ -37,7 +37,7 @@ use Rattle.cert_words.proofs.AllLaws.{depth_room, same_text, word_take, dec_take
 use Rattle.cert_format.proofs.FirstEntries.{version_read}
 use Rattle.cert_format.proofs.Lists.{ok_is, err_ok, then_ok, formed_ok, Admitted, Steady, Spells, Reads, items_take, items_again}
 
--- ---- places
+-- ---- positions
 
 abbrev pub Stand : Position → List (List (List ℕ)) → Position → Type 0
 Stand p wss q = Passes p (map whole wss) q
@@ -54,11 +54,11 @@ stand_cut p q xs bs h =
       record { lines = refl; offset = omega (arith, g.offset, sizes_append (map whole xs) (map whole bs)) },
     )
 
--- the place of a reader before a text
+-- the position of a reader before a text
 abbrev pub before : ℕ → List ℕ → Position
 before at text = record { at = at; rest = lines_of text }
 
--- lines of words are at a place exactly when their text is
+-- lines of words are at a position exactly when their text is
 pub stand : WordLaws → (wss : List (List (List ℕ))) (at : ℕ) (text : List ℕ) → AllByRecursion (AllByRecursion IsWord) wss → Stand (before at (flat_map line wss ++ text)) wss (before (at + length (flat_map line wss)) text)
 stand k wss at text h =
     k.text_lines (before at (flat_map line wss ++ text)) wss (before (at + length (flat_map line wss)) text) h (k.are_lines (flat_map line wss ++ text)) (k.are_lines text)

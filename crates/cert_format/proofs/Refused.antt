@@ -153,7 +153,7 @@ device_stops device k true is version p v g later lines e =
           ] in
           subst P (sym m.3) (record {
             claim = c;
-            place = v;
+            position = v;
             words = words_of l.text;
             stands = stands;
             next = is_next v (words_of l.text) m.0 (as_words (device_by device) v (Some m.1) m.0 l (words_of l.text) (sym (k.line_words l.text)));
@@ -214,7 +214,7 @@ inst_low xs x at g h = low_by (is_inst_above (last_in xs) x) (fault.Order at) g 
 out_of_order : (device : Device) (p : Position) (c : Claim) (part : CertPart) (q : Position) (ws : List (List ℕ)) (g : CertFault) → StandsBefore device p c part q → IsNextLine q.rest ws → IsLow c part ws → g ≡ fault.Order q.at → IsCertificateRefused device p g
 out_of_order device p c part q ws g h next low e =
     let P : CertFault → Type 0 = λ f. IsCertificateRefused device p f in
-    subst P (sym e) (record { claim = c; part = part; place = q; words = ws; stands = h; offset = refl; next = next; low = low })
+    subst P (sym e) (record { claim = c; part = part; position = q; words = ws; stands = h; offset = refl; next = next; low = low })
 
 -- ---- assumptions
 
@@ -264,13 +264,13 @@ further_stops device b version p a m f n count g small later h k least most firs
     let all : List Entry = firsts version ++ s.items in
     let number : length all < count = omega (arith, length-append (firsts version) s.items, firsts_count version, s.fewer, least) in
     let settled = version_with says version all in
-    let some = some_stand device version m f s.place s.items first s.passes in
-    entry_stops device b p (claim_to device settled n all [] [] None) (is_paired device version) count s.place g (paired_settled says version all)
+    let some = some_stand device version m f s.position s.items first s.passes in
+    entry_stops device b p (claim_to device settled n all [] [] None) (is_paired device version) count s.position g (paired_settled says version all)
     (record {
       is = refl;
       fits = with_entries device settled n all small (some_keep device version s.items s.fit (omega (arith, number, most))) (some_mode device version s.items s.fit) (with_later says version all);
       room = (number, most);
-      lines = behind (entry_words device) (codes "assume") (heading device settled n) p a m s.place count all (settled_heading device version n all p a h) k some;
+      lines = behind (entry_words device) (codes "assume") (heading device settled n) p a m s.position count all (settled_heading device version n all p a h) k some;
     }) s.stop
 
 entries_stops : (device : Device) → LowerLaws → (version : Version) (p a : Position) (n : ℕ) (g : CertFault) → n ≤ depth_of device → (says_device device ≡ true → version ≡ Two) → Stand p (heading device version n) a → entries_at device version a ≡ Err g → IsCertificateRefused device p g
@@ -321,13 +321,13 @@ insts_stops device b version p a d n es g small he mode later h k e =
           let count = number_take b.words (codes "instances") 0 most_instances d m.0 (lit< tt) m.1 in
           let s = items_stop (λ at. inst_by device) (inst_words device) (AnyInst device) refused_inst (inst_spells device b.words b.insts) inst_steady [] m.0.0 m.0.1 g m.2 in
           let fit = all_of_any (IsInst device) 0 s.items (admitted_all (AnyInst device) refused_inst [] s.items s.fit) in
-          let some = behind (inst_words device) (codes "instances") (entry_lines device es) a d m.0.1 s.place m.0.0 s.items k count.0 s.passes in
-          inst_stops device b p (claim_to device version n es s.items [] None) m.0.0 s.place g
+          let some = behind (inst_words device) (codes "instances") (entry_lines device es) a d m.0.1 s.position m.0.0 s.items k count.0 s.passes in
+          inst_stops device b p (claim_to device version n es s.items [] None) m.0.0 s.position g
           (record {
             is = refl;
             fits = with_insts device version n es s.items small he mode later fit (insts_kept device b.keys s.items s.fit) (omega (arith, s.fewer, count.2));
             room = (s.fewer, count.2);
-            lines = stand_more p a s.place (heading device version n) (entry_lines device es ++ numbered (codes "instances") m.0.0 ∷ map (inst_words device) s.items) h some;
+            lines = stand_more p a s.position (heading device version n) (entry_lines device es ++ numbered (codes "instances") m.0.0 ∷ map (inst_words device) s.items) h some;
           }) s.stop
     ]
 
@@ -361,7 +361,7 @@ node_refused device b p c n q g h r =
       | inr full ↦ subst P (sym full.2) (record {
         claim = c;
         part = ANode n;
-        place = q;
+        position = q;
         words = node_words c.device c.version c.instances r.item;
         stands = h;
         next = r.next;
@@ -400,7 +400,7 @@ count_stops device b p c q g h e =
           subst P (sym m.2) (record {
             claim = c;
             part = Nodes;
-            place = q;
+            position = q;
             words = words_of l.text;
             stands = h;
             next = is_next q (words_of l.text) m.0 (as_words count_by q None m.0 l (words_of l.text) (sym (b.words.line_words l.text)));
@@ -418,14 +418,14 @@ nodes_stops device b version p a d f n es xs g small he mode later hx ax few h k
       | inr m ↦
           let count = nodes_take b.words f m.0 m.1 in
           let s = items_stop (node_by device version xs) (node_words device version xs) (FitsNode device version xs) refused_node (node_spells device b.words b.nodes b.keys version xs ax) node_steady [] m.0.0 m.0.1 g m.2 in
-          let some = behind (node_words device version xs) (codes "nodes") (inst_lines device xs) d f m.0.1 s.place m.0.0 s.items j count.0 s.passes in
-          node_stops device b p (claim_to device version n es xs s.items None) m.0.0 s.place g
+          let some = behind (node_words device version xs) (codes "nodes") (inst_lines device xs) d f m.0.1 s.position m.0.0 s.items j count.0 s.passes in
+          node_stops device b p (claim_to device version n es xs s.items None) m.0.0 s.position g
           (record {
             is = refl;
             fits = certificate_of device version n es xs s.items small he mode later hx ax few (admitted_all (FitsNode device version xs) refused_node [] s.items s.fit) (nodes_kept device b.keys version xs s.items s.fit) (omega (arith, s.fewer, count.1));
             room = (s.fewer, count.1);
-            lines = stand_more p a s.place (heading device version n) (entry_lines device es ++ (inst_lines device xs ++ numbered (codes "nodes") m.0.0 ∷ map (node_words device version xs) s.items)) h
-                (stand_more a d s.place (entry_lines device es) (inst_lines device xs ++ numbered (codes "nodes") m.0.0 ∷ map (node_words device version xs) s.items) k some);
+            lines = stand_more p a s.position (heading device version n) (entry_lines device es ++ (inst_lines device xs ++ numbered (codes "nodes") m.0.0 ∷ map (node_words device version xs) s.items)) h
+                (stand_more a d s.position (entry_lines device es) (inst_lines device xs ++ numbered (codes "nodes") m.0.0 ∷ map (node_words device version xs) s.items) k some);
           }) s.stop
     ]
 

@@ -87,9 +87,9 @@ pub record ItemsStop {A : Type 0} (by : ℕ → List ℕ → Option A) (words : 
   pub items : List A
   pub fewer : length items < n
   pub fit : Admitted P refused xs items
-  pub place : Position
-  pub passes : Passes p (lines words items) place
-  pub stop : Stop by words P refused (xs ++ items) place g
+  pub position : Position
+  pub passes : Passes p (lines words items) position
+  pub stop : Stop by words P refused (xs ++ items) position g
 
 pub items_stop : {A : Type 0} (by : ℕ → List ℕ → Option A) (words : A → List (List ℕ)) (P : ℕ → A → Type 0) (refused : List A → A → ℕ → Option CertFault) → Spells by words P → Steady refused
     → (xs : List A) (n : ℕ) (p : Position) (g : CertFault) → items_from by refused xs n p ≡ Err g → ItemsStop by words P refused xs n p g
@@ -98,18 +98,18 @@ items_stop {A} by words P refused spells steady xs zero p g e = absurd (err_ok {
 items_stop {A} by words P refused spells steady xs (suc n) p g e =
     let Q : List A → Type 0 = λ ys. Stop by words P refused ys p g in
     elim (then_stop (longer_at by refused xs p) _ g e) [
-      | inl h ↦ record { items = []; fewer = omega arith; fit = tt; place = p; passes = passes_none p; stop = subst Q (sym (append-nil xs)) (longer_stop by words P refused spells xs p g h) }
+      | inl h ↦ record { items = []; fewer = omega arith; fit = tt; position = p; passes = passes_none p; stop = subst Q (sym (append-nil xs)) (longer_stop by words P refused spells xs p g h) }
       | inr y ↦
           let one = longer_take by words P refused spells xs p y.0 y.1 in
           let more = items_stop by words P refused spells steady y.0.0 n y.0.1 g y.2 in
           let R : List A → Type 0 = λ front. Admitted P refused front more.items in
-          let S : List A → Type 0 = λ ys. Stop by words P refused ys more.place g in
+          let S : List A → Type 0 = λ ys. Stop by words P refused ys more.position g in
           record {
             items = one.item ∷ more.items;
             fewer = omega (arith, more.fewer);
             fit = (one.fits, (λ at. steady xs one.item p.at at one.none), subst R (sym one.all) more.fit);
-            place = more.place;
-            passes = passes_more p y.0.1 more.place (whole (words one.item) ∷ []) (lines words more.items) one.passes more.passes;
+            position = more.position;
+            passes = passes_more p y.0.1 more.position (whole (words one.item) ∷ []) (lines words more.items) one.passes more.passes;
             stop = subst S (ap (λ (front : List A). front ++ more.items) (sym one.all) ∙ append_assoc xs (one.item ∷ []) more.items) more.stop;
           }
     ]

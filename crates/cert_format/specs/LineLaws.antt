@@ -19,21 +19,21 @@ pub record InstLines : Type 0 where
   pub words : (device : Device) (x : Inst) → IsInst device x → AllByRecursion IsWord (inst_words device x)
 
 -- The instance whose line has this number exists, and is the node's.
-pub record IsInstanceOf (insts : List Inst) (place : ℕ) (key : NodeKey) : Type 0 where
+pub record IsInstanceOf (insts : List Inst) (number : ℕ) (key : NodeKey) : Type 0 where
   pub inst : Inst
-  pub there : slice_get insts place ≡ Some inst
+  pub there : slice_get insts number ≡ Some inst
   pub same : inst.key ≡ key.inst
 
 -- The words are those of the line of this node, number `at`, with the number of its instance.
 pub record IsNodeLine (device : Device) (version : Version) (insts : List Inst) (at : ℕ) (ws : List (List ℕ)) (n : NodeKey × NodeForm) : Type 0 where
-  pub place : ℕ
-  pub words : ws ≡ node_words_at device version place n
-  pub inst : IsInstanceOf insts place n.0
+  pub number : ℕ
+  pub words : ws ≡ node_words_at device version number n
+  pub inst : IsInstanceOf insts number n.0
   pub fits : FitsAt device (is_third version) at n.0 n.1
   pub of_version : NodeIsOf version n
 
 pub record NodeLines : Type 0 where
   pub spelled : (device : Device) (version : Version) (insts : List Inst) (at : ℕ) (ws : List (List ℕ)) (n : NodeKey × NodeForm) → node_in device version insts at ws ≡ Some n → IsNodeLine device version insts at ws n
-  pub read : (device : Device) (version : Version) (insts : List Inst) (at place : ℕ) (n : NodeKey × NodeForm) → at ≤ 65536 → place < 65536 → IsInstanceOf insts place n.0 → FitsAt device (is_third version) at n.0 n.1 → NodeIsOf version n
-      → node_in device version insts at (node_words_at device version place n) ≡ Some n
-  pub words : (device : Device) (version : Version) (at place : ℕ) (n : NodeKey × NodeForm) → at ≤ 65536 → place < 65536 → FitsAt device (is_third version) at n.0 n.1 → NodeIsOf version n → AllByRecursion IsWord (node_words_at device version place n)
+  pub read : (device : Device) (version : Version) (insts : List Inst) (at number : ℕ) (n : NodeKey × NodeForm) → at ≤ 65536 → number < 65536 → IsInstanceOf insts number n.0 → FitsAt device (is_third version) at n.0 n.1 → NodeIsOf version n
+      → node_in device version insts at (node_words_at device version number n) ≡ Some n
+  pub words : (device : Device) (version : Version) (at number : ℕ) (n : NodeKey × NodeForm) → at ≤ 65536 → number < 65536 → FitsAt device (is_third version) at n.0 n.1 → NodeIsOf version n → AllByRecursion IsWord (node_words_at device version number n)

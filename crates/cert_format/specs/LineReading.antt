@@ -23,14 +23,14 @@ inst_in device ws = do
   if is_over need.1 then Some (record { key = key.0; rank = rank.0; need = need.0 }) else None
 
 -- the instance of a node, by the number of its line
-unfoldable pub place_at : List Inst → List (List ℕ) → Option (InstKey × List (List ℕ))
-place_at insts ws = do
+unfoldable pub instance_at : List Inst → List (List ℕ) → Option (InstKey × List (List ℕ))
+instance_at insts ws = do
   h ← word_at (codes "node") ws
   j ← dec_at 65535 h.1
   option_map (λ x. (x.key, j.1)) (slice_get insts j.0)
 
 unfoldable pub whole_key_at : Device → Version → List Inst → List (List ℕ) → Option (NodeKey × List (List ℕ))
-whole_key_at device version insts ws = place_at insts ws >>= λ x. node_key_at device version x.0 x.1
+whole_key_at device version insts ws = instance_at insts ws >>= λ x. node_key_at device version x.0 x.1
 
 -- the node of this number
 unfoldable pub node_in : Device → Version → List Inst → ℕ → List (List ℕ) → Option (NodeKey × NodeForm)

@@ -35,12 +35,12 @@ use Rattle.cert_format.specs.LineReading.{inst_in, node_in}
 
 -- ---- the answer of a call that reads
 
--- What is read up to this place, seen by `view`, is what is due, or memory ran out.
+-- What is read up to this position, seen by `view`, is what is due, or memory ran out.
 abbrev pub ReadsAs : {X Y : Type 0} → (X → Y) → Position → Result X CertFault → Result (Y × Position) CertFault → Type 0
-ReadsAs view place answer due = Answers (λ x. (view x, place)) fault.Memory answer due
+ReadsAs view position answer due = Answers (λ x. (view x, position)) fault.Memory answer due
 
 abbrev pub Reads : {X : Type 0} → Position → Result X CertFault → Result (X × Position) CertFault → Type 0
-Reads place answer due = Answers (λ x. (x, place)) fault.Memory answer due
+Reads position answer due = Answers (λ x. (x, position)) fault.Memory answer due
 
 -- ---- one line
 
@@ -198,7 +198,7 @@ Gathering S A = (S → List A) × (S → ℕ → List ℕ → Option A) × (List
 abbrev pub AddsText : {S A : Type 0} → Gathering S A → S → S → List ℕ × ℕ → Result (Unit {0}) CertFault → Type 0
 AddsText g old new text answer = Answers (λ u. g.0 new) fault.Memory answer (with_text (g.1 old) g.2 (g.0 old) text.0 text.1)
 
--- the same for the next line; a list and the place of the next line are a pair
+-- the same for the next line; a list and the position of the next line are a pair
 abbrev pub AddsLine : {S A : Type 0} → Gathering S A → S × Position → S × Position → Result (Unit {0}) CertFault → Type 0
 AddsLine g old new answer = Answers (λ u. (g.0 new.0, new.1)) fault.Memory answer (longer_at (g.1 old.0) g.2 (g.0 old.0) old.1)
 

@@ -74,7 +74,7 @@ HasRoomFor c (AnInst n) = (length c.instances < n) × (n ≤ most_instances)
 HasRoomFor c (ANode n) = (length c.nodes < n) × (n ≤ most_nodes)
 HasRoomFor c part = ⊤
 
--- The certificate is for the device. Its lines before the part are at the first place, and the second place is after them.
+-- The certificate is for the device. Its lines before the part are at the first position, and the second position is after them.
 pub record StandsBefore (device : Device) (p : Position) (c : Claim) (part : CertPart) (q : Position) : Type 0 where
   pub is : c.device ≡ device
   pub fits : IsCertificate c
@@ -180,32 +180,32 @@ IsCertificateMalformed device p at = (q : Position) × (q.at ≡ at) × (StopsAt
 pub record IsCertificateOutOfOrder (device : Device) (p : Position) (at : ℕ) : Type 0 where
   pub claim : Claim
   pub part : CertPart
-  pub place : Position
+  pub position : Position
   pub words : List (List ℕ)
-  pub stands : StandsBefore device p claim part place
-  pub offset : place.at ≡ at
-  pub next : IsNextLine place.rest words
+  pub stands : StandsBefore device p claim part position
+  pub offset : position.at ≡ at
+  pub next : IsNextLine position.rest words
   pub low : IsLow claim part words
 
 pub record IsOverLimit (device : Device) (p : Position) (l : Limit) : Type 0 where
   pub claim : Claim
   pub part : CertPart
-  pub place : Position
+  pub position : Position
   pub words : List (List ℕ)
-  pub stands : StandsBefore device p claim part place
-  pub next : IsNextLine place.rest words
+  pub stands : StandsBefore device p claim part position
+  pub next : IsNextLine position.rest words
   pub past : IsPast claim part l words
 
 -- the line that says the device says another one
 pub record IsForOther (device : Device) (p : Position) (other : Device) : Type 0 where
   pub claim : Claim
-  pub place : Position
+  pub position : Position
   pub words : List (List ℕ)
-  pub stands : StandsBefore device p claim Named place
-  pub next : IsNextLine place.rest words
+  pub stands : StandsBefore device p claim Named position
+  pub next : IsNextLine position.rest words
   pub names : IsNaming (λ name named. (named ≡ other) × (name ≢ class_of device)) words
 
--- the due refusal from this place on
+-- the due refusal from this position on
 abbrev pub IsCertificateRefused : Device → Position → CertFault → Type 0
 IsCertificateRefused device p (fault.Malformed at) = IsCertificateMalformed device p at
 IsCertificateRefused device p (fault.Order at) = IsCertificateOutOfOrder device p at

@@ -7,7 +7,7 @@ use std::alloc::AllocError;
 use std::fmt;
 use thiserror::Error;
 
-/// Why a text is not read as a certificate. Places are offsets of lines.
+/// Why a text is not read as a certificate. Positions are offsets of lines.
 #[derive(Clone, Copy, PartialEq, Eq, Drop, Error)]
 pub enum CertFault {
     /// The first line with the wrong form is at this offset; or a line is missing, and this is the text's length.

@@ -8,8 +8,8 @@ ghost use Rattle.node_keys.specs.Keys.{offset_of};
 ghost use Rattle.cert_format.specs.LineReading.{inst_in, whole_key_at, node_in};
 
 use avr_model::device::Device;
-use cert_words::{Form, inst_key_of, node_form_of, node_key_of};
-use certificate::Inst;
+use cert_words::{inst_key_of, node_form_of, node_key_of};
+use certificate::{Form, Inst};
 use edge_rules::NodeForm;
 use line_reading::{dec_word, expect_word, is_over};
 use node_keys::NodeKey;
@@ -43,16 +43,16 @@ pub(crate) fn instance_of(device: Device, text: &[u8]) -> Option<Inst>
     }
 }
 
-// A node's key: its place, and its instance by number.
-#[tactic(auto, unfolding(crate::specs::LineReading::whole_key_at, crate::specs::LineReading::place_at))]
+// A node's key: its instance by number, and its program point.
+#[tactic(auto, unfolding(crate::specs::LineReading::whole_key_at, crate::specs::LineReading::instance_at))]
 fn whole_key_of(form: Form, words: &mut Words<'_>, instances: &[Inst]) -> Option<NodeKey>
     ensures exact { option_map (λ k. (k, words.new)) result ≡ whole_key_at form.device form.version instances.now words.old }
     ensures small { IfSome result (λ k. offset_of k.sp ≤ depth_of form.device) }
 {
-    let (Some(()), Some(place)) = (expect_word(words, b"node"), dec_word(words, 65_535)) else {
+    let (Some(()), Some(number)) = (expect_word(words, b"node"), dec_word(words, 65_535)) else {
         return None;
     };
-    let instance = instances.get(place as usize)?;
+    let instance = instances.get(number as usize)?;
     node_key_of(form, words, &instance.key)
 }
 

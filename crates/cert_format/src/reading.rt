@@ -21,9 +21,9 @@ use crate::laws::certificate_texts;
 use assumption_files::MOST_ENTRIES;
 use avr_model::device::Device;
 use avr_model::naming::{class_of, device_of_class};
-use cert_words::Form;
 use certificate::{
-    Certificate, Inst, Limit, MOST_INSTANCES, MOST_NODES, Version, says_device, written_version,
+    Certificate, Form, Inst, Limit, MOST_INSTANCES, MOST_NODES, Version, says_device,
+    written_version,
 };
 use edge_rules::NodeForm;
 use line_reading::{dec_word, expect_word, is_over, peek_text, take_line, take_text};
@@ -358,17 +358,11 @@ fn read_claim(
     let assumptions = read_entries(alloc, entries_form, reader)?;
     let instances = read_instances(alloc, device, reader)?;
     let version = version_with(device, first, &assumptions);
-    let nodes = read_nodes(alloc, Form { device, version }, reader, &instances)?;
+    let form = Form { device, version };
+    let nodes = read_nodes(alloc, form, reader, &instances)?;
     let witness = read_witness(alloc, device, reader)?;
     read_end(reader)?;
-    let claim = Certificate::of_version(
-        device,
-        version,
-        bound as u16,
-        assumptions,
-        instances,
-        nodes,
-    );
+    let claim = Certificate::of_version(form, bound as u16, assumptions, instances, nodes);
     Ok(claim.with_witness(witness))
 }
 

@@ -19,7 +19,7 @@ long : SaysAny Two (codes "000000FF")
 unfolding digits_at bits_at ends_at packed
 long tag = refl
 
--- this many letters, by place
+-- this many letters, by index
 four : (bs : List ℕ) → length bs ≡ 4 → bs ≡ get_or bs 0 0 ∷ get_or bs 1 0 ∷ get_or bs 2 0 ∷ get_or bs 3 0 ∷ []
 four [] h = absurd (omega arith)
 four (a ∷ []) h = absurd (omega arith)

@@ -176,7 +176,7 @@ are_kept g device version root registers h =
     subst P (sym h.are)
     (all_kept g device version root h.front h.rampz h.eind h.fit (bank_kept g device version root RAMPZ h.rampz (omega arith) h.rampz_fits) (bank_kept g device version root EIND h.eind (omega arith) h.eind_fits))
 
--- by place
+-- by index
 
 front_at : (P : AbsByte → Type 0) (xs ys : List AbsByte) (r : ℕ) → AllByRecursion P xs → r < length xs → P (value_at (xs ++ ys) r)
 front_at P [] ys r h lt = absurd (omega (arith, lt))

@@ -60,16 +60,16 @@ class_short device =
     let t = and_parts (lacks 32 name && lacks 10 name) (nat_le (length name) 14) (class_passes device) in
     grind (arith, nat_tests, t.1)
 
-at_first : (p : List ℕ → Bool) (k : ℕ) (xs : List (List ℕ)) (place : ℕ) (d : List ℕ) → position_from p k xs ≡ Some place → (k ≤ place) × (p (slice_index_or xs (place - k) d) ≡ true)
-at_first p k [] place d e = absurd (none-some place e)
-at_first p k (x ∷ xs) place d e = elim (chosen (p x) _ _ (Some place) e) [
+at_first : (p : List ℕ → Bool) (k : ℕ) (xs : List (List ℕ)) (index : ℕ) (d : List ℕ) → position_from p k xs ≡ Some index → (k ≤ index) × (p (slice_index_or xs (index - k) d) ≡ true)
+at_first p k [] index d e = absurd (none-some index e)
+at_first p k (x ∷ xs) index d e = elim (chosen (p x) _ _ (Some index) e) [
   | inl h ↦
-      let same : k ≡ place = same_Some k place h.1 in
-      let none : place - k ≡ 0 = omega (arith, same) in
+      let same : k ≡ index = same_Some k index h.1 in
+      let none : index - k ≡ 0 = omega (arith, same) in
       (omega (arith, same), ap (λ (n : ℕ). p (slice_index_or (x ∷ xs) n d)) none ∙ h.0)
   | inr h ↦
-      let t = at_first p (k + 1) xs place d h.1 in
-      let more : place - k ≡ suc (place - (k + 1)) = omega (arith, t.0) in
+      let t = at_first p (k + 1) xs index d h.1 in
+      let more : index - k ≡ suc (index - (k + 1)) = omega (arith, t.0) in
       (omega (arith, t.0), ap (λ (n : ℕ). p (slice_index_or (x ∷ xs) n d)) more ∙ t.1)
 ]
 

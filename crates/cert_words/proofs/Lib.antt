@@ -11,5 +11,5 @@ pub mod InstKeys
 pub mod NodeKeys
 pub mod Banks
 pub mod States
-pub mod Places
+pub mod InstNumbers
 pub mod AllLaws

@@ -1,4 +1,4 @@
--- Reading and spelling of a node's place in its instance are inverse.
+-- Reading and spelling of a node's program point are inverse.
 use Rattle.std.proofs.Common.{ℕ, ◌<◌, ◌≤◌, ◌≡◌, inl, inr, List, [], ◌∷◌, ◌++◌, length, codes, Bool, true, false, refl, ap, ap₂, sym, ◌∙◌, arith, Option, Some, None, nat_lt, subst}
 use Rattle.std.specs.List.{AllByRecursion}
 use Rattle.std.specs.Str.{bytes_eq}
@@ -30,12 +30,12 @@ use Rattle.certificate.specs.declared.version.Version.{Version}
 use Rattle.certificate.specs.declared.version.Version.TheVariants.{One, Two, Three}
 use Rattle.certificate.specs.Versions.{PickIsOf}
 use Rattle.cert_words.specs.Spelling.{form_word}
-use Rattle.cert_words.specs.KeySpelling.{masks_digits, pick_word, pick_words, place_words}
+use Rattle.cert_words.specs.KeySpelling.{masks_digits, pick_word, pick_words, point_words}
 use Rattle.cert_words.specs.Reading.{form_in}
 use Rattle.cert_words.specs.KeyReading.{masks_at, flag_at, pick_in, pick_at, node_key_at}
 use Rattle.cert_words.specs.Fits.{IsHigh, IsSpForm}
 use Rattle.cert_words.specs.Laws.{ValueWords}
-use Rattle.cert_words.specs.KeyLaws.{IsPlaceSpelled, PlaceWords}
+use Rattle.cert_words.specs.KeyLaws.{IsPointSpelled, PointWords}
 use Rattle.cert_words.proofs.Limits.{word_fits, masks_fit}
 use Rattle.cert_words.proofs.Fields.{hex_take, masks_take, masks_again, flag_take, flag_again, word_by_take}
 use Rattle.cert_words.proofs.InstKeys.{cons}
@@ -128,7 +128,7 @@ pick_plain k Three pick h = (pick_is_word k pick h, tt)
 
 -- ---- the key
 
-key_take : WordLaws → ValueWords → (device : Device) (version : Version) (inst : InstKey) (ws : List (List ℕ)) (z : NodeKey × List (List ℕ)) → node_key_at device version inst ws ≡ Some z → IsPlaceSpelled device version inst ws z.1 z.0
+key_take : WordLaws → ValueWords → (device : Device) (version : Version) (inst : InstKey) (ws : List (List ℕ)) (z : NodeKey × List (List ℕ)) → node_key_at device version inst ws ≡ Some z → IsPointSpelled device version inst ws z.1 z.0
 unfolding node_key_at
 key_take k v device version inst ws z e =
     let pc = bind_some (word_address_at device ws) _ z e in
@@ -144,7 +144,7 @@ key_take k v device version inst ws z e =
     let pick = pick_at_take k version f.0.1 p.0 p.1 in
     let masks = masks_take k device pc.0.1 m.0 m.1 in
     let below : pc.0.0 < limit_of device = less_from_test pc.0.0 (limit_of device) last.0 in
-    let P : NodeKey × List (List ℕ) → Type 0 = λ y. IsPlaceSpelled device version inst ws y.1 y.0 in
+    let P : NodeKey × List (List ℕ) → Type 0 = λ y. IsPointSpelled device version inst ws y.1 y.0 in
     subst P last.1 (record {
       words = (hex_take k (word_digits device) ws pc.0 pc.1).0 ∙ ap (cons (word_address_text device pc.0.0)) (masks.0 ∙ ap (cons (hex_digits m.0.0 (masks_digits device))) (flag_take k m.0.1 i.0 i.1
           ∙ ap (cons (bit i.0.0)) (flag_take k i.0.1 d.0 d.1 ∙ ap (cons (bit d.0.0)) (w.1 ∙ ap₂ cons form.0 pick.words))));
@@ -153,10 +153,10 @@ key_take k v device version inst ws z e =
       same = refl;
     })
 
-key_spelled : WordLaws → ValueWords → (device : Device) (version : Version) (inst : InstKey) (ws rest : List (List ℕ)) (key : NodeKey) → node_key_at device version inst ws ≡ Some (key, rest) → IsPlaceSpelled device version inst ws rest key
+key_spelled : WordLaws → ValueWords → (device : Device) (version : Version) (inst : InstKey) (ws rest : List (List ℕ)) (key : NodeKey) → node_key_at device version inst ws ≡ Some (key, rest) → IsPointSpelled device version inst ws rest key
 key_spelled k v device version inst ws rest key e = key_take k v device version inst ws (key, rest) e
 
-key_again : WordLaws → ValueWords → (device : Device) (version : Version) (key : NodeKey) (rest : List (List ℕ)) → IsKey device key → PickIsOf version key.pick → node_key_at device version key.inst (place_words device version key ++ rest) ≡ Some (key, rest)
+key_again : WordLaws → ValueWords → (device : Device) (version : Version) (key : NodeKey) (rest : List (List ℕ)) → IsKey device key → PickIsOf version key.pick → node_key_at device version key.inst (point_words device version key ++ rest) ≡ Some (key, rest)
 unfolding node_key_at
 key_again k v device version key rest h g =
     let behind : List (List ℕ) = pick_words version key.pick ++ rest in
@@ -169,7 +169,7 @@ key_again k v device version key rest h g =
     let below : nat_lt key.pc (limit_of device) ≡ true = test_from_less key.pc (limit_of device) h.word in
     rw (pc, m, i, d, f, p, below) refl
 
-key_plain : WordLaws → ValueWords → (device : Device) (version : Version) (key : NodeKey) → IsKey device key → AllByRecursion IsWord (place_words device version key)
+key_plain : WordLaws → ValueWords → (device : Device) (version : Version) (key : NodeKey) → IsKey device key → AllByRecursion IsWord (point_words device version key)
 key_plain k v device version key h = (
   k.hex_word key.pc (word_digits device) (word_fits device key.pc h.word),
   (
@@ -181,5 +181,5 @@ key_plain k v device version key h = (
   ),
 )
 
-pub places : WordLaws → ValueWords → PlaceWords
-places k v = record { spelled = key_spelled k v; read = key_again k v; words = key_plain k v }
+pub points : WordLaws → ValueWords → PointWords
+points k v = record { spelled = key_spelled k v; read = key_again k v; words = key_plain k v }

@@ -482,10 +482,10 @@ open_again k device root n h small fits =
     let size = high_length root h fits in
     let all = length-append ds hs in
     let long : nat_lt (length (ds ++ hs)) (high_size root) ≡ false = grind (arith, nat_tests, size, all) in
-    let place : length (ds ++ hs) - high_size root ≡ length ds = omega (arith, size, all) in
+    let seam : length (ds ++ hs) - high_size root ≡ length ds = omega (arith, size, all) in
     let first : take (length ds) (ds ++ hs) ≡ ds = take-append_seam ds hs in
     let back : drop (length ds) (ds ++ hs) ≡ hs = drop-append_seam ds hs in
-    rw (long, place, first, back, offset_again k device n small, high_again k root h fits) refl
+    rw (long, seam, first, back, offset_again k device n small, high_again k root h fits) refl
 
 form_take : WordLaws → (device : Device) (root : Bool) (w : List ℕ) (f : SpForm) → form_in device root w ≡ Some f → (w ≡ form_word f) × IsSpForm device root f
 unfolding form_in

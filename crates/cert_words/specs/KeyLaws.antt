@@ -13,7 +13,7 @@ use Rattle.certificate.specs.Insts.{fits_kind}
 use Rattle.certificate.specs.Claims.{FitsAt}
 use Rattle.certificate.specs.declared.version.Version.{Version}
 use Rattle.certificate.specs.Versions.{PickIsOf, FormIsOf, is_third}
-use Rattle.cert_words.specs.KeySpelling.{inst_key_words, place_words, form_words}
+use Rattle.cert_words.specs.KeySpelling.{inst_key_words, point_words, form_words}
 use Rattle.cert_words.specs.KeyReading.{inst_key_at, node_key_at, form_at}
 
 -- a key of an instance that is valid for the device
@@ -27,16 +27,16 @@ pub record InstKeyWords : Type 0 where
   pub words : (device : Device) (key : InstKey) → IsInstKey device key → AllByRecursion IsWord (inst_key_words device key)
 
 -- the words are those of this node of the instance for the device, followed by the rest
-pub record IsPlaceSpelled (device : Device) (version : Version) (inst : InstKey) (ws rest : List (List ℕ)) (key : NodeKey) : Type 0 where
-  pub words : ws ≡ place_words device version key ++ rest
+pub record IsPointSpelled (device : Device) (version : Version) (inst : InstKey) (ws rest : List (List ℕ)) (key : NodeKey) : Type 0 where
+  pub words : ws ≡ point_words device version key ++ rest
   pub key_fits : IsKey device key
   pub of_version : PickIsOf version key.pick
   pub same : inst ≡ key.inst
 
-pub record PlaceWords : Type 0 where
-  pub spelled : (device : Device) (version : Version) (inst : InstKey) (ws rest : List (List ℕ)) (key : NodeKey) → node_key_at device version inst ws ≡ Some (key, rest) → IsPlaceSpelled device version inst ws rest key
-  pub read : (device : Device) (version : Version) (key : NodeKey) (rest : List (List ℕ)) → IsKey device key → PickIsOf version key.pick → node_key_at device version key.inst (place_words device version key ++ rest) ≡ Some (key, rest)
-  pub words : (device : Device) (version : Version) (key : NodeKey) → IsKey device key → AllByRecursion IsWord (place_words device version key)
+pub record PointWords : Type 0 where
+  pub spelled : (device : Device) (version : Version) (inst : InstKey) (ws rest : List (List ℕ)) (key : NodeKey) → node_key_at device version inst ws ≡ Some (key, rest) → IsPointSpelled device version inst ws rest key
+  pub read : (device : Device) (version : Version) (key : NodeKey) (rest : List (List ℕ)) → IsKey device key → PickIsOf version key.pick → node_key_at device version key.inst (point_words device version key ++ rest) ≡ Some (key, rest)
+  pub words : (device : Device) (version : Version) (key : NodeKey) → IsKey device key → AllByRecursion IsWord (point_words device version key)
 
 -- the form of the node of this number and key; its state follows pairs exactly in the third version
 pub record FormWords : Type 0 where
@@ -48,5 +48,5 @@ pub record FormWords : Type 0 where
 
 pub record KeyWords : Type 0 where
   pub insts : InstKeyWords
-  pub places : PlaceWords
+  pub points : PointWords
   pub forms : FormWords

@@ -48,14 +48,14 @@ pick_words One pick = []
 pick_words Two pick = pick_word pick ∷ []
 pick_words Three pick = pick_word pick ∷ []
 
--- a node within its instance: word, enable bits, I, delay, form of the stack pointer and pick
-abbrev pub place_words : Device → Version → NodeKey → List (List ℕ)
-place_words device version key =
+-- the program point of a node within its instance: word, enable bits, I, delay, form of the stack pointer and pick
+abbrev pub point_words : Device → Version → NodeKey → List (List ℕ)
+point_words device version key =
     word_address_text device key.pc ∷ hex_digits key.masks (masks_digits device) ∷ bit key.i ∷ bit key.delay ∷ form_word key.sp ∷ pick_words version key.pick
 
 -- a node with its instance; it ends with the pick in every version
 abbrev pub node_key_words : Device → NodeKey → List (List ℕ)
-node_key_words device key = inst_key_words device key.inst ++ place_words device Two key
+node_key_words device key = inst_key_words device key.inst ++ point_words device Two key
 
 -- ---- what is known at a node
 

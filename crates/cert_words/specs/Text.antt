@@ -19,7 +19,7 @@ use Rattle.certificate.specs.Claims.{Claim}
 use Rattle.certificate.specs.Versions.{says_device}
 use Rattle.certificate.specs.declared.version.Version.{Version}
 use Rattle.certificate.specs.declared.version.Version.TheVariants.{One, Two, Three}
-use Rattle.cert_words.specs.KeySpelling.{inst_key_words, place_words, form_words}
+use Rattle.cert_words.specs.KeySpelling.{inst_key_words, point_words, form_words}
 
 -- ---- lines
 
@@ -38,7 +38,7 @@ inst_number key (x ∷ xs) = if same_inst x.key key then 0 else inst_number key 
 
 -- the words of the line of a node whose instance has this number
 abbrev pub node_words_at : Device → Version → ℕ → NodeKey × NodeForm → List (List ℕ)
-node_words_at device version place n = codes "node" ∷ decimal place ∷ place_words device version n.0 ++ form_words device version n.1
+node_words_at device version number n = codes "node" ∷ decimal number ∷ point_words device version n.0 ++ form_words device version n.1
 
 abbrev pub node_words : Device → Version → List Inst → NodeKey × NodeForm → List (List ℕ)
 node_words device version insts n = node_words_at device version (inst_number n.0.inst insts) n

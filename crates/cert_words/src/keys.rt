@@ -9,11 +9,10 @@ ghost use Rattle.certificate.specs.Insts.{is_vector_word, fits_kind};
 ghost use Rattle.cert_words.specs.KeySpelling.{masks_digits};
 ghost use Rattle.cert_words.specs.KeyReading.{masks_at, flag_at, kind_in, inst_key_at, pick_at, node_key_at};
 
-use crate::form::Form;
 use crate::values::sp_form_of;
 use assumption_files::word_address_of;
 use avr_model::device::Device;
-use certificate::{Version, says_device};
+use certificate::{Form, Version, says_device};
 use line_reading::{Letters, dec_word, hex_word};
 use node_keys::{InstKey, Kind, NodeKey};
 use text_base::{Words, read_dec, read_hex};

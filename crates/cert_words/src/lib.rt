@@ -2,12 +2,10 @@
 //! words. Source: own. Tests: `text_tables`.
 #![tactic(auto)]
 
-pub mod form;
 mod keys;
 pub mod laws;
 mod state;
 mod values;
 
-pub use form::Form;
 pub use keys::{inst_key_of, masks_digits, node_key_of};
 pub use state::node_form_of;

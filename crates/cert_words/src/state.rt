@@ -8,13 +8,12 @@ ghost use Rattle.line_reading.specs.Reading.{word_by};
 ghost use Rattle.abs_state.specs.Banks.{absent};
 ghost use Rattle.cert_words.specs.KeyReading.{words_from, bank_at, registers_behind, flags_at, state_behind, pairs_at, form_at};
 
-use crate::form::Form;
 use crate::keys::is_root;
 use crate::values::{bank_of, carry_of, flags_of, has_register, slot_of, value_of};
 use abs_state::{AbsByte, AbsFlags, AbsState, Registers};
 use avr_model::device::{EIND, RAMPZ};
 use bit_domain::TriByte;
-use certificate::{Version, hulls_of};
+use certificate::{Form, Version, hulls_of};
 use edge_rules::{HeldState, NodeForm};
 use line_reading::dec_word;
 use node_keys::NodeKey;

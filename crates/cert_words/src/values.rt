@@ -12,11 +12,10 @@ ghost use Rattle.node_keys.specs.Keys.{offset_of};
 ghost use Rattle.line_reading.specs.Reading.{word_by};
 ghost use Rattle.cert_words.specs.Reading.{tri_byte, bits_at, tag_by, tag_at, range_at, value_behind, value_in, bank_in, slot_in, flags_in, bytes_in, tagged_by, carry_in, offset_in, marked_in, open_in, form_in};
 
-use crate::form::Form;
 use abs_state::AbsByte;
 use avr_model::device::{Device, EIND, RAMPZ};
 use bit_domain::{Range, TriByte};
-use certificate::Version;
+use certificate::{Form, Version};
 use line_reading::Letters;
 use node_keys::{High, SpForm};
 use pair_words::register_of;

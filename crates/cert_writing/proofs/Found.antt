@@ -1,4 +1,4 @@
--- The place of an instance in a list.
+-- The number of an instance in a list.
 use Rattle.std.proofs.Common.{ℕ, zero, suc, ◌+◌, ◌<◌, ◌≤◌, ◌≡◌, List, [], ◌∷◌, length, get_or, Bool, true, false, refl, ap, sym, ◌∙◌, arith, Option, Some, None, nat_lt, subst}
 use Rattle.std.specs.Prelude.{IfSome, IfNone, Contains, slice_get}
 use Rattle.std.specs.Option.{unwrap_or}
@@ -16,8 +16,8 @@ use Rattle.certificate.specs.declared.instance.Inst.{Inst}
 use Rattle.certificate.specs.Insts.{inst_keys}
 use Rattle.certificate.specs.Claims.{Belongs, seed_keys}
 use Rattle.cert_words.specs.Text.{inst_number}
-use Rattle.cert_words.proofs.AllLaws.{place_unique, has_place}
-use Rattle.cert_writing.specs.Places.{IsAt, IsNowhereFrom}
+use Rattle.cert_words.proofs.AllLaws.{number_unique, has_number}
+use Rattle.cert_writing.specs.Numbers.{IsAt, IsNowhereFrom}
 
 abbrev pub NoneBefore : List Inst → InstKey → ℕ → ℕ → Type 0
 NoneBefore insts key from j = (i : ℕ) → from ≤ i → i < j → IsAt insts key i → ⊥
@@ -36,14 +36,14 @@ none_more insts key from j x before lt is other = λ i low less at.
 pub nowhere : (insts : List Inst) (key : InstKey) (from j : ℕ) → NoneBefore insts key from j → length insts ≤ j → IsNowhereFrom insts key from
 nowhere insts key from j before all = λ i low at. before i low (omega (arith, all, slice_get_within insts i at.0 at.1)) at
 
-pub place_at : KeysAreOrdered → (insts : List Inst) (key : InstKey) (j : ℕ) → IsStrictlySortedBy inst_cmp (inst_keys insts) → IsAt insts key j → j ≡ inst_number key insts
-place_at o insts key j sorted at = sym (place_unique o insts j at.0 sorted at.1) ∙ ap (λ (k : InstKey). inst_number k insts) at.2
+pub number_at : KeysAreOrdered → (insts : List Inst) (key : InstKey) (j : ℕ) → IsStrictlySortedBy inst_cmp (inst_keys insts) → IsAt insts key j → j ≡ inst_number key insts
+number_at o insts key j sorted at = sym (number_unique o insts j at.0 sorted at.1) ∙ ap (λ (k : InstKey). inst_number k insts) at.2
 
-pub place_found : KeysAreOrdered → (insts : List Inst) (key : InstKey) (r : Option ℕ) → IsStrictlySortedBy inst_cmp (inst_keys insts) → Contains (inst_keys insts) key → IfSome r (λ j. IsAt insts key j) → IfNone r (IsNowhereFrom insts key 0)
+pub number_found : KeysAreOrdered → (insts : List Inst) (key : InstKey) (r : Option ℕ) → IsStrictlySortedBy inst_cmp (inst_keys insts) → Contains (inst_keys insts) key → IfSome r (λ j. IsAt insts key j) → IfNone r (IsNowhereFrom insts key 0)
     → unwrap_or r 0 ≡ inst_number key insts
-place_found o insts key (Some j) sorted there found none = place_at o insts key j sorted found
-place_found o insts key None sorted there found none =
-    let t = has_place o insts key there in
+number_found o insts key (Some j) sorted there found none = number_at o insts key j sorted found
+number_found o insts key None sorted there found none =
+    let t = has_number o insts key there in
     absurd (none (inst_number key insts) (omega arith) (t.inst, t.there, t.same))
 
 pub belongs_at : (insts : List Inst) (ns : Seeds) (i : ℕ) (n : NodeKey × NodeForm) → AllByRecursion (Belongs insts) (seed_keys ns) → i < length ns → n ≡ get_or ns i n → Belongs insts n.0

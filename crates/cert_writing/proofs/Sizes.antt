@@ -61,7 +61,7 @@ use Rattle.certificate.specs.Insts.{is_vector_word, fits_kind, IsInst}
 use Rattle.certificate.specs.Claims.{Claim, IsClaim, FitsAt, AreFrom, cells_of, seed_keys}
 use Rattle.cert_words.specs.Spelling.{bits_text, tag_text, range_text, value_word, flags_word, carry_word, slot_word, high_text, form_word}
 use Rattle.certificate.specs.Hulls.{hulls_of}
-use Rattle.cert_words.specs.KeySpelling.{masks_digits, register_count, kind_word, pick_word, pick_words, place_words, pairs_words, state_words, form_words}
+use Rattle.cert_words.specs.KeySpelling.{masks_digits, register_count, kind_word, pick_word, pick_words, point_words, pairs_words, state_words, form_words}
 use Rattle.cert_words.specs.Text.{numbered, version_word, version_line, device_line, device_lines, heading, entry_lines, inst_words, inst_lines, inst_number, node_words, node_lines, attained_line, witness_lines, end_line, front_lines}
 use Rattle.line_reading.proofs.AllLaws.{length_hex}
 use Rattle.cert_writing.specs.Sizes.{HasFewChoices, TextsFit}
@@ -190,8 +190,8 @@ masks_short device masks = omega (arith, length_hex masks (masks_digits device),
 address_short : (device : Device) (address : ℕ) → length (word_address_text device address) ≤ 5
 address_short device address = omega (arith, length_hex address (word_digits device), most_digits device)
 
-place_short : (device : Device) (version : Version) (key : NodeKey) → offset_of key.sp ≤ 32768 → taken (place_words device version key) ≤ 51
-place_short device version key h =
+point_short : (device : Device) (version : Version) (key : NodeKey) → offset_of key.sp ≤ 32768 → taken (point_words device version key) ≤ 51
+point_short device version key h =
     omega (arith, address_short device key.pc, masks_short device key.masks, bit_short key.i, bit_short key.delay, form_short key.sp h, picks_short version key.pick)
 
 -- ---- nodes
@@ -204,24 +204,24 @@ body_short : (device : Device) (followed : Bool) (version : Version) (at : ℕ) 
 body_short device followed version at key (State s) few h = omega (arith, state_short device version s h.formed.facts, h.formed.count_registers, h.formed.count_slots)
 body_short device followed version at key (From m) few h = omega (arith, number_short m (omega (arith, few, h.1)))
 
-place_by : (b : Bool) (p n : ℕ) → p ≤ n → cond b 0 (p + 1) ≤ n + 1
-place_by true p n h = omega arith
-place_by false p n h = omega (arith, h)
+number_by : (b : Bool) (p n : ℕ) → p ≤ n → cond b 0 (p + 1) ≤ n + 1
+number_by true p n h = omega arith
+number_by false p n h = omega (arith, h)
 
-place_few : (key : InstKey) (insts : List Inst) → inst_number key insts ≤ length insts
-place_few key [] = omega arith
-place_few key (x ∷ xs) = omega (arith, place_by (same_inst x.key key) (inst_number key xs) (length xs) (place_few key xs))
+number_few : (key : InstKey) (insts : List Inst) → inst_number key insts ≤ length insts
+number_few key [] = omega arith
+number_few key (x ∷ xs) = omega (arith, number_by (same_inst x.key key) (inst_number key xs) (length xs) (number_few key xs))
 
 nodes_short : (device : Device) (followed : Bool) (version : Version) (insts : List Inst) (at : ℕ) (ns : Seeds) → length insts ≤ 65536 → at + length ns ≤ 65536 → AreFrom device followed at ns
     → text (node_words device version insts) ns ≤ 768 * length ns + 14 * cells_of (seed_keys ns)
 unfolding cells_of
 nodes_short device followed version insts at [] few most h = omega arith
 nodes_short device followed version insts at (n ∷ ns) few most h =
-    let front = place_short device version n.0 (key_small device followed at n.0 n.1 h.0) in
+    let front = point_short device version n.0 (key_small device followed at n.0 n.1 h.0) in
     let body = body_short device followed version at n.0 n.1 (omega (arith, most)) h.0 in
     let behind = nodes_short device followed version insts (at + 1) ns few (omega (arith, most)) h.1 in
-    let own = number_short (inst_number n.0.inst insts) (omega (arith, place_few n.0.inst insts, few)) in
-    omega (arith, text_more (node_words device version insts) n ns, taken_both (place_words device version n.0) (form_words device version n.1), front, body, own, behind)
+    let own = number_short (inst_number n.0.inst insts) (omega (arith, number_few n.0.inst insts, few)) in
+    omega (arith, text_more (node_words device version insts) n ns, taken_both (point_words device version n.0) (form_words device version n.1), front, body, own, behind)
 
 -- ---- instances
 

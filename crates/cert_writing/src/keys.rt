@@ -5,12 +5,12 @@ ghost use Rattle.text_base.specs.Digits.{hex_digits};
 ghost use Rattle.text_base.specs.Writing.{with_word, with_words};
 ghost use Rattle.witness_replay.specs.Spelling.{bit};
 ghost use Rattle.cert_words.specs.Spelling.{form_word};
-ghost use Rattle.cert_words.specs.KeySpelling.{masks_digits, kind_word, inst_key_words, pick_words, place_words, node_key_words};
+ghost use Rattle.cert_words.specs.KeySpelling.{masks_digits, kind_word, inst_key_words, pick_words, point_words, node_key_words};
 
 use assumption_files::write_word_address;
 use avr_model::device::Device;
-use cert_words::{Form, masks_digits};
-use certificate::Version;
+use cert_words::masks_digits;
+use certificate::{Form, Version};
 use node_keys::{High, InstKey, Kind, NodeKey, SpForm};
 use pair_words::{four_digits, two_digits};
 use std::alloc::{AllocError, Global};
@@ -114,13 +114,13 @@ fn write_pick(out: &mut LineWriter, version: Version, pick: Option<u8>) -> Resul
 }
 
 // Writes a node within its instance: word, enable bits, I, delay, form of the stack pointer and, except in the first version, pick.
-pub(crate) fn write_place(
+pub(crate) fn write_point(
     out: &mut LineWriter,
     alloc: Global,
     form: Form,
     key: &NodeKey,
 ) -> Result<(), AllocError>
-    ensures { OnOk result (out.new ≡ with_words out.old (place_words form.device form.version key.now)) }
+    ensures { OnOk result (out.new ≡ with_words out.old (point_words form.device form.version key.now)) }
 {
     write_word_address(out, form.device, key.pc)?;
     write_masks(out, form.device, key.masks)?;
@@ -145,5 +145,5 @@ pub fn write_key(
         device,
         version: Version::Two,
     };
-    write_place(out, alloc, form, key)
+    write_point(out, alloc, form, key)
 }

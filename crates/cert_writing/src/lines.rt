@@ -12,13 +12,12 @@ ghost use Rattle.certificate.specs.Insts.{inst_keys};
 ghost use Rattle.certificate.specs.Claims.{seed_keys, Belongs};
 ghost use Rattle.std.specs.List.{AllByRecursion};
 ghost use Rattle.cert_words.specs.Text.{inst_words, node_words_at, node_words, inst_number};
-ghost use Rattle.cert_writing.specs.Places.{IsAt, IsNowhereFrom};
+ghost use Rattle.cert_writing.specs.Numbers.{IsAt, IsNowhereFrom};
 
-use crate::keys::{write_inst_key, write_place};
+use crate::keys::{write_inst_key, write_point};
 use crate::state::write_form;
 use avr_model::device::Device;
-use cert_words::Form;
-use certificate::Inst;
+use certificate::{Form, Inst};
 use edge_rules::NodeForm;
 use line_reading::laws::appending_laws;
 use node_keys::laws::keys_are_ordered;
@@ -62,7 +61,7 @@ pub(crate) fn write_insts(
 }
 
 // The number of the instance, from a number on.
-fn place_from(insts: &[Inst], from: usize, key: &InstKey) -> Option<usize>
+fn number_from(insts: &[Inst], from: usize, key: &InstKey) -> Option<usize>
     ensures found { IfSome result (λ j. IsAt insts.now key.now j) }
     ensures none { IfNone result (IsNowhereFrom insts.now key.now from) }
 {
@@ -75,15 +74,15 @@ fn place_from(insts: &[Inst], from: usize, key: &InstKey) -> Option<usize>
 }
 
 // The number of the instance, which must be in the list. The search begins at the guess.
-fn place(insts: &[Inst], guess: usize, key: &InstKey) -> usize
+fn number_of(insts: &[Inst], guess: usize, key: &InstKey) -> usize
     requires sorted { IsStrictlySortedBy inst_cmp (inst_keys insts.now) }
     requires there { Contains (inst_keys insts.now) key.now }
     ensures { result ≡ inst_number key.now insts.now }
 {
     keys_are_ordered();
-    match place_from(insts, guess, key) {
-        Some(place) => place,
-        None => place_from(insts, 0, key).unwrap_or(0),
+    match number_from(insts, guess, key) {
+        Some(number) => number,
+        None => number_from(insts, 0, key).unwrap_or(0),
     }
 }
 
@@ -92,14 +91,14 @@ fn write_node(
     out: &mut LineWriter,
     alloc: Global,
     form: Form,
-    place: usize,
+    number: usize,
     node: &(NodeKey, NodeForm),
 ) -> Result<(), AllocError>
-    ensures { OnOk result (out.new ≡ with_end (with_words out.old (node_words_at form.device form.version place node.now))) }
+    ensures { OnOk result (out.new ≡ with_end (with_words out.old (node_words_at form.device form.version number node.now))) }
 {
     out.word(b"node")?;
-    out.dec(place as u64)?;
-    write_place(out, alloc, form, &node.0)?;
+    out.dec(number as u64)?;
+    write_point(out, alloc, form, &node.0)?;
     write_form(out, alloc, form, &node.1)?;
     out.end_line()
 }
@@ -120,7 +119,7 @@ pub(crate) fn write_nodes(
     appending_laws();
     let mut guess = 0;
     for node in nodes {
-        guess = place(insts, guess, &node.0.inst);
+        guess = number_of(insts, guess, &node.0.inst);
         write_node(out, alloc, form, guess, node)?;
     }
     Ok(())

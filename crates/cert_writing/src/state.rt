@@ -8,8 +8,7 @@ ghost use Rattle.cert_words.specs.KeySpelling.{register_count, pairs_words, stat
 use crate::values::{write_flags, write_slot, write_value};
 use abs_state::{AbsByte, AbsState};
 use avr_model::device::Device;
-use cert_words::Form;
-use certificate::{Version, hulls_of};
+use certificate::{Form, Version, hulls_of};
 use edge_rules::NodeForm;
 use pair_words::write_facts;
 use sp_domain::Slot;

@@ -10,8 +10,7 @@ ghost use Rattle.cert_words.specs.Text.{numbered, version_line, device_lines, he
 use crate::lines::{write_insts, write_nodes};
 use avr_model::device::Device;
 use avr_model::naming::class_of;
-use cert_words::Form;
-use certificate::{Certificate, Version, says_device};
+use certificate::{Certificate, Form, Version, says_device};
 use line_reading::laws::appending_laws;
 use std::alloc::{AllocError, Global};
 use text_base::LineWriter;

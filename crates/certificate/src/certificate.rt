@@ -6,6 +6,7 @@ ghost use Rattle.witness_replay.specs.Spelling.{IsSchedule};
 ghost use Rattle.certificate.specs.Versions.{written_version};
 ghost use Rattle.certificate.specs.Claims.{IsClaim, IsCertificate};
 
+use crate::form::Form;
 use crate::instance::Inst;
 use crate::version::{Version, written_version};
 use avr_model::device::Device;
@@ -54,26 +55,26 @@ impl Certificate {
         ensures { result ≡ record { device = device; version = written_version assumptions; bound = bound; assumptions = assumptions; instances = instances.items; nodes = nodes.items; witness = None } }
     {
         let version = written_version(&assumptions);
-        Certificate::of_version(device, version, bound, assumptions, instances, nodes)
+        let form = Form { device, version };
+        Certificate::of_version(form, bound, assumptions, instances, nodes)
     }
 
-    /// The certificate of this version and these parts for a device, which must be in range, in order, within the limits, and in the
+    /// The certificate of this form and these parts, which must be in range for the device, in order, within the limits, and in the
     /// version. It has no schedule.
     #[tactic(auto, using(crate::proofs::Kept::without_witness))]
     pub fn of_version(
-        device: Device,
-        version: Version,
+        form: Form,
         bound: u16,
         assumptions: Assumptions,
         instances: Vec<Inst>,
         nodes: Vec<(NodeKey, NodeForm)>,
     ) -> Certificate
-        requires { IsClaim (record { device = device; version = version; bound = bound; assumptions = assumptions; instances = instances.items; nodes = nodes.items; witness = None }) }
-        ensures { result ≡ record { device = device; version = version; bound = bound; assumptions = assumptions; instances = instances.items; nodes = nodes.items; witness = None } }
+        requires { IsClaim (record { device = form.device; version = form.version; bound = bound; assumptions = assumptions; instances = instances.items; nodes = nodes.items; witness = None }) }
+        ensures { result ≡ record { device = form.device; version = form.version; bound = bound; assumptions = assumptions; instances = instances.items; nodes = nodes.items; witness = None } }
     {
         Certificate {
-            device,
-            version,
+            device: form.device,
+            version: form.version,
             bound,
             assumptions,
             instances,

@@ -2,6 +2,7 @@
 #![tactic(auto)]
 
 pub mod certificate;
+pub mod form;
 pub mod hulls;
 pub mod instance;
 pub mod laws;
@@ -10,6 +11,7 @@ pub mod version;
 
 pub use certificate::Certificate;
 pub use edge_rules::{HeldState, NodeForm, Seed, Seeded};
+pub use form::Form;
 pub use hulls::hulls_of;
 pub use instance::Inst;
 pub use limit::{Limit, MOST_CELLS, MOST_INSTANCES, MOST_NODES};

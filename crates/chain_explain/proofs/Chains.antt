@@ -26,9 +26,9 @@ use Rattle.family_graph.specs.Chains.{IsDeepest, BeginsAtRoot}
 use Rattle.chain_explain.specs.declared.explanation.Explanation.{Explanation}
 use Rattle.chain_explain.specs.declared.explanation.Part.{Part}
 use Rattle.chain_explain.specs.Walks.{IsWay}
-use Rattle.chain_explain.specs.declared.explanation.PartPlace.TheVariants as place
+use Rattle.chain_explain.specs.declared.explanation.PartPoint.TheVariants as point
 use Rattle.chain_explain.specs.Explanation.{adds_by, IsNodePart, entry_at, entry_next, IsRecurPart, IsPartBy, IsPart, AreParts, Explains}
-use Rattle.chain_explain.specs.Told.{sum_of, IsPlace, GoOn, Nest}
+use Rattle.chain_explain.specs.Told.{sum_of, IsPoint, GoOn, Nest}
 use Rattle.chain_explain.specs.Moves.{IsThere, AreThere}
 use Rattle.local_rules.specs.Site.{Task}
 
@@ -64,8 +64,8 @@ module _ (task : Task) (nodes reached : List Node) (gs : List GraphInst) (needs 
   -- the family has each link's node
   there_from : (i above : ℕ) (links : List Link) → above + slice_index needs i ≤ SIZE → IsChainFrom back gs needs i above links → AreThere reached links
   there_from i above links low (ends _ _ p first) =
-      let h = (family.places i p).0 first.is.0 in
-      (slice_get_within reached p.node h.place.node h.place.at, tt)
+      let h = (family.closed i p).0 first.is.0 in
+      (slice_get_within reached p.node h.of.node h.of.at, tt)
   there_from i above links low (goes _ _ e rest no_end first chain) =
       let h = (family.entered i e).0 first.is.0 in
       let link : Link = record { inst = i; node = e.node; depth = above + e.offset; way = Some e.way } in (
@@ -117,8 +117,8 @@ module _ (task : Task) (nodes reached : List Node) (gs : List GraphInst) (needs 
       → sum_of parts ≡ slice_index needs i
   sums_from i above links [] top (ends _ _ p first) h = absurd h
   sums_from i above links (part ∷ []) top (ends _ _ p first) h =
-      let at = (family.places i p).0 first.is.0 in
-      let o = offset_is _ part h.0 at.place.node p.offset at.place.at at.place.closed in
+      let at = (family.closed i p).0 first.is.0 in
+      let o = offset_is _ part h.0 at.of.node p.offset at.of.at at.of.closed in
       let a : part.adds ≡ offset_of h.0.node.key.sp = h.0.adds in
       let d = first.is.1 in
       let s : sum_of (part ∷ []) ≡ part.adds + 0 = sum_by-cons (λ (p : Part). p.adds) part [] in
@@ -133,17 +133,17 @@ module _ (task : Task) (nodes reached : List Node) (gs : List GraphInst) (needs 
       let s : sum_of (part ∷ parts) ≡ part.adds + sum_of parts = sum_by-cons (λ (p : Part). p.adds) part parts in
       omega (arith, a, d, below, s)
 
-  -- the part's place is the link's node
-  place_is : (link : Link) (part : Part) (is : IsNodePart task nodes reached link part) (n : Node) (offset : ℕ) → slice_get reached link.node ≡ Some n → n.key.sp ≡ Closed offset
-      → IsPlace task nodes part n offset
-  place_is link part is n offset at closed =
+  -- the part's point is the link's node
+  point_is : (link : Link) (part : Part) (is : IsNodePart task nodes reached link part) (n : Node) (offset : ℕ) → slice_get reached link.node ≡ Some n → n.key.sp ≡ Closed offset
+      → IsPoint task nodes part n offset
+  point_is link part is n offset at closed =
       let same : is.node ≡ n = one_at reached link.node is.node n is.at at in
       record {
         number = is.target;
         at = subst (λ (x : Node). slice_get nodes is.target ≡ Some x) same is.is;
         inst = sym (is.inst ∙ ap (λ (x : Node). x.key.inst) same);
         walk = is.walk;
-        place = is.place ∙ ap (λ (x : Node). place.Node x.key.pc is.walk) same;
+        point = is.point ∙ ap (λ (x : Node). point.Node x.key.pc is.walk) same;
         closed = closed;
         way = subst (λ (inst : InstKey). IsWay task nodes inst is.target is.walk) (sym is.inst) is.way;
       }
@@ -152,8 +152,8 @@ module _ (task : Task) (nodes reached : List Node) (gs : List GraphInst) (needs 
   inst_from : (i above : ℕ) (links : List Link) (part : Part) (parts : List Part) → IsChainFrom back gs needs i above links → AreParts task nodes reached links [] (part ∷ parts)
       → (inst : InstKey) → slice_get (insts_of gs) i ≡ Some inst → part.inst ≡ inst
   inst_from i above links part parts (ends _ _ p first) h inst is =
-      let at = (family.places i p).0 first.is.0 in
-      h.0.inst ∙ (ap (λ (x : Node). x.key.inst) (one_at reached p.node h.0.node at.place.node h.0.at at.place.at) ∙ (at.place.same ∙ one_at (insts_of gs) i at.inst inst at.is is))
+      let at = (family.closed i p).0 first.is.0 in
+      h.0.inst ∙ (ap (λ (x : Node). x.key.inst) (one_at reached p.node h.0.node at.of.node h.0.at at.of.at) ∙ (at.of.same ∙ one_at (insts_of gs) i at.inst inst at.is is))
   inst_from i above links part parts (goes _ _ e rest no_end first chain) h inst is =
       let at = (family.entered i e).0 first.is.0 in
       let link : Link = record { inst = i; node = e.node; depth = above + e.offset; way = Some e.way } in
@@ -170,8 +170,8 @@ module _ (task : Task) (nodes reached : List Node) (gs : List GraphInst) (needs 
   entry_from : (i above : ℕ) (links behind : List Link) → IsChainFrom back gs needs i above links → (inst : InstKey) → slice_get (insts_of gs) i ≡ Some inst → (inst ≡ root_inst → ⊥)
       → entry_next reached (links ++ behind) ≡ inst.entry
   entry_from i above links behind (ends _ _ p first) inst is other =
-      let at = (family.places i p).0 first.is.0 in
-      ap entry_at at.place.at ∙ ap (λ (k : InstKey). k.entry) (at.place.same ∙ one_at (insts_of gs) i at.inst inst at.is is)
+      let at = (family.closed i p).0 first.is.0 in
+      ap entry_at at.of.at ∙ ap (λ (k : InstKey). k.entry) (at.of.same ∙ one_at (insts_of gs) i at.inst inst at.is is)
   entry_from i above links behind (goes _ _ e rest no_end first chain) inst is other =
       let at = (family.entered i e).0 first.is.0 in
       elim at.edge [
@@ -182,10 +182,10 @@ module _ (task : Task) (nodes reached : List Node) (gs : List GraphInst) (needs 
   go_on_from : (i above : ℕ) (links : List Link) (part : Part) (parts : List Part) → IsTop i above → IsChainFrom back gs needs i above links → AreParts task nodes reached links [] (part ∷ parts)
       → GoOn task nodes part parts
   go_on_from i above links part [] top (ends _ _ p first) h =
-      let at = (family.places i p).0 first.is.0 in
-      let o = offset_is _ part h.0 at.place.node p.offset at.place.at at.place.closed in
+      let at = (family.closed i p).0 first.is.0 in
+      let o = offset_is _ part h.0 at.of.node p.offset at.of.at at.of.closed in
       let adds : p.offset ≡ part.adds = let a : part.adds ≡ offset_of h.0.node.key.sp = h.0.adds in omega (arith, o, a) in
-      record { place = at.place.node; is = subst (IsPlace task nodes part at.place.node) adds (place_is _ part h.0 at.place.node p.offset at.place.at at.place.closed) }
+      record { node = at.of.node; is = subst (IsPoint task nodes part at.of.node) adds (point_is _ part h.0 at.of.node p.offset at.of.at at.of.closed) }
   go_on_from i above links part (next ∷ parts) top (ends _ _ p first) h = absurd h.1
   go_on_from i above links part [] top (goes _ _ e rest no_end first chain) h = absurd (never e.into (above + e.offset + back) rest chain h.1)
     where
@@ -201,9 +201,9 @@ module _ (task : Task) (nodes reached : List Node) (gs : List GraphInst) (needs 
           | inl q ↦
               let x = as_node link (rest ++ []) part q.kind (ap Some q.way) h.0 in
               inl (record {
-                place = q.node;
+                node = q.node;
                 offset = e.offset;
-                is = place_is link part x q.node e.offset q.at q.closed;
+                is = point_is link part x q.node e.offset q.at q.closed;
                 adds = adds;
                 way = q.kind;
                 back = q.back;
@@ -213,8 +213,8 @@ module _ (task : Task) (nodes reached : List Node) (gs : List GraphInst) (needs 
               let x = as_recur link (rest ++ []) part (ap Some q.way) h.0 in
               inr (record {
                 root = x.inst;
-                place = x.place
-                    ∙ ap place.Recur (entry_from e.into (above + e.offset + back) rest [] chain at.into at.leads (into_other i e at) ∙ ap (λ (k : InstKey). k.entry) (sym into));
+                point = x.point
+                    ∙ ap point.Recur (entry_from e.into (above + e.offset + back) rest [] chain at.into at.leads (into_other i e at) ∙ ap (λ (k : InstKey). k.entry) (sym into));
                 depth = e.offset;
                 cut = subst (λ (k : InstKey). cut_at task.assumptions k ≡ Some e.offset) (sym into) q.cut;
                 adds = adds;

@@ -9,9 +9,9 @@ use Rattle.node_keys.specs.declared.keys.NodeKey.{NodeKey}
 use Rattle.node_keys.specs.Order.{node_cmp}
 use Rattle.local_rules.specs.declared.local.Node.{Node}
 use Rattle.local_laws.specs.Laws.{HasKey}
-use Rattle.edge_rules.specs.Views.{key_of, place_of}
+use Rattle.edge_rules.specs.Views.{key_of, index_of}
 
-pub none_has : (k : NodeKey) (nodes : List Node) → place_of k nodes ≡ None → HasKey nodes k → ⊥
+pub none_has : (k : NodeKey) (nodes : List Node) → index_of k nodes ≡ None → HasKey nodes k → ⊥
 none_has k nodes e h = none_from k nodes 0 e h.0 h.1.0 h.1.1
 
 -- a key has one number
@@ -22,12 +22,12 @@ same_number xs s i j a b ea eb e =
     (cases_order i j)
 
 -- the node of a key is found
-pub is_found : (nodes : List Node) → IsStrictlySortedBy node_cmp (map key_of nodes) → (k : NodeKey) (at : ℕ) (n : Node) → slice_get nodes at ≡ Some n → n.key ≡ k → place_of k nodes ≡ Some at
-is_found nodes s k at n e same = by (place_of k nodes) refl
+pub is_found : (nodes : List Node) → IsStrictlySortedBy node_cmp (map key_of nodes) → (k : NodeKey) (at : ℕ) (n : Node) → slice_get nodes at ≡ Some n → n.key ≡ k → index_of k nodes ≡ Some at
+is_found nodes s k at n e same = by (index_of k nodes) refl
   where
-    by : (o : Option ℕ) → place_of k nodes ≡ o → o ≡ Some at
+    by : (o : Option ℕ) → index_of k nodes ≡ o → o ≡ Some at
     by None f = absurd (none_has k nodes f (n, (contained_at nodes at n e, same)))
     by (Some i) f = let w = found_at k nodes i f in ap (λ (x : ℕ). Some x) (same_number nodes s i at w.node n w.is e (w.same ∙ sym same))
 
-pub inside_at : (k : NodeKey) (nodes : List Node) (at : ℕ) → place_of k nodes ≡ Some at → at < length nodes
+pub inside_at : (k : NodeKey) (nodes : List Node) (at : ℕ) → index_of k nodes ≡ Some at → at < length nodes
 inside_at k nodes at e = let w = found_at k nodes at e in slice_get_within nodes at w.node w.is

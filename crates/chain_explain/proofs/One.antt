@@ -27,7 +27,7 @@ use Rattle.family_graph.specs.Laws.{DeepestChainsAreOne}
 use Rattle.chain_explain.specs.declared.explanation.Explanation.{Explanation}
 use Rattle.chain_explain.specs.declared.explanation.Part.{Part}
 use Rattle.chain_explain.specs.Walks.{IsWay, pc_at}
-use Rattle.chain_explain.specs.declared.explanation.PartPlace.TheVariants as place
+use Rattle.chain_explain.specs.declared.explanation.PartPoint.TheVariants as point
 use Rattle.chain_explain.specs.Explanation.{IsNodePart, IsPartBy, IsPart, AreParts, Explains, adds_by}
 use Rattle.chain_explain.specs.Laws.{ExplanationsAreOne}
 use Rattle.chain_explain.proofs.Numbers.{same_number}
@@ -114,15 +114,15 @@ module _ (task : Task) (nodes : List Node) (ascend : IsStrictlySortedBy node_cmp
       let inst : p.inst ≡ q.inst = a.inst ∙ (ap (λ (n : Node). n.key.inst) node ∙ sym b.inst) in
       let adds : p.adds ≡ q.adds = a.adds ∙ (ap (λ (n : Node). adds_by (back_of (device_of task.flash)) (offset_of n.key.sp) link.way) node ∙ sym b.adds) in
       let walk : a.walk ≡ b.walk = same_way a.node.key.inst a.target a.walk b.walk a.way other in
-      let stands : p.place ≡ q.place = a.place ∙ ((λ k. place.Node (node k).key.pc (walk k)) ∙ sym b.place) in
-      λ k. record { inst = inst k; place = stands k; adds = adds k }
+      let stands : p.point ≡ q.point = a.point ∙ ((λ k. point.Node (node k).key.pc (walk k)) ∙ sym b.point) in
+      λ k. record { inst = inst k; point = stands k; adds = adds k }
 
   same_part_by : (reached : List Node) (link : Link) (rest : List Link) (p q : Part) (way : Option GraphWay) → IsPartBy task nodes reached link rest p way → IsPartBy task nodes reached link rest q way → p ≡ q
   same_part_by reached link rest p q (Some Recur) a b =
       let inst : p.inst ≡ q.inst = a.inst ∙ sym b.inst in
-      let stands : p.place ≡ q.place = a.place ∙ sym b.place in
+      let stands : p.point ≡ q.point = a.point ∙ sym b.point in
       let adds : p.adds ≡ q.adds = a.adds ∙ sym b.adds in
-      λ k. record { inst = inst k; place = stands k; adds = adds k }
+      λ k. record { inst = inst k; point = stands k; adds = adds k }
   same_part_by reached link rest p q (Some (Enters kind)) a b = same_node_part reached link p q a b
   same_part_by reached link rest p q None a b = same_node_part reached link p q a b
 

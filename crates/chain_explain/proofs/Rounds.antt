@@ -25,7 +25,7 @@ use Rattle.edge_rules.specs.Expansion.{IsFilled}
 use Rattle.edge_laws.specs.Expansions.{FilledOrMissing}
 use Rattle.instance_graph.specs.declared.graph.Entered.{Entered}
 use Rattle.instance_graph.specs.declared.graph.GraphInst.{GraphInst}
-use Rattle.instance_graph.specs.declared.graph.Place.{Place}
+use Rattle.instance_graph.specs.declared.graph.ClosedNode.{ClosedNode}
 use Rattle.instance_graph.specs.declared.graph.GraphWay.TheVariants.{Recur}
 use Rattle.instance_graph.specs.declared.graph.GraphWay.TheVariants.{Enters as Enters_by}
 use Rattle.instance_graph.specs.Least.{IsLeast}
@@ -144,9 +144,9 @@ module _ (task : Task) (f : Family) (n : ℕ) (solved : IsSolved task n f) (law 
           offsets = λ m offset has closed.
               let i = number m has in
               let at = place_of_contained reached m (all_reached m has) in
-              let p : Place = record { node = at.0; offset = offset } in
-              let placed = (family.places i.0 p).1 (record { inst = m.key.inst; is = i.1; place = record { node = m; at = at.1; same = refl; closed = closed } }) in
-              let enough = least.are_needs.offsets i.0 p placed in
+              let p : ClosedNode = record { node = at.0; offset = offset } in
+              let stands = (family.closed i.0 p).1 (record { inst = m.key.inst; is = i.1; of = record { node = m; at = at.1; same = refl; closed = closed } }) in
+              let enough = least.are_needs.offsets i.0 p stands in
               let e = need_at i.0 m.key.inst i.1 in
               omega (arith, enough, e);
           entered = below;

@@ -12,7 +12,7 @@ use Rattle.local_rules.specs.declared.local.Node.{Node}
 use Rattle.local_laws.specs.Laws.{HasKey}
 use Rattle.edge_rules.specs.declared.edge.Edge.{Edge}
 use Rattle.edge_rules.specs.Edges.{IsEdge, moving, entering, returning}
-use Rattle.edge_rules.specs.Views.{AreShown, IsSpan, place_of}
+use Rattle.edge_rules.specs.Views.{AreShown, IsSpan, index_of}
 use Rattle.shortest_walk.specs.Graph as walk
 use Rattle.shortest_walk.specs.Graph.{PointsTo, IsNumberedGraph}
 use Rattle.shortest_walk.specs.Walk.{IsFirstOfShortest}
@@ -111,7 +111,7 @@ module _ (task : Task) (nodes : List Node) (shown : AreShown (device_of task.fla
               let own : m.from.key.inst ≡ k.inst = (span.exact i m.from m.at).1 (le, lt) in
               (span.exact j m.to m.lands).0 (m.stays ∙ own)
 
-      module _ (start target : ℕ) (starts : place_of (entry_key k.inst) nodes ≡ Some start) (ends : place_of k nodes ≡ Some target) where
+      module _ (start target : ℕ) (starts : index_of (entry_key k.inst) nodes ≡ Some start) (ends : index_of k nodes ≡ Some target) where
         first : FoundAt (entry_key k.inst) nodes start
         first = found_at (entry_key k.inst) nodes start starts
 

@@ -1,4 +1,4 @@
--- The explanation of a certificate: the deepest chain over the reached nodes, and the path to each place. Source: own.
+-- The explanation of a certificate: the deepest chain over the reached nodes, and the path to each point. Source: own.
 use Rattle.std.specs.Prelude.{ℕ, ◌+◌, ◌≡◌, ⊤, List, [], ◌∷◌, ◌++◌, Option, Some, None, slice_get}
 use Rattle.avr_model.specs.Devices.{device_of, back_of}
 use Rattle.node_keys.specs.Keys.{root_inst, offset_of}
@@ -11,7 +11,7 @@ use Rattle.certificate.specs.Claims.{Claim}
 use Rattle.family_graph.specs.Chains.{IsDeepest}
 use Rattle.chain_explain.specs.declared.explanation.Explanation.{Explanation}
 use Rattle.chain_explain.specs.declared.explanation.Part.{Part}
-use Rattle.chain_explain.specs.declared.explanation.PartPlace.TheVariants as place
+use Rattle.chain_explain.specs.declared.explanation.PartPoint.TheVariants as point
 use Rattle.chain_explain.specs.Reached.{AreReached}
 use Rattle.chain_explain.specs.Walks.{IsWay}
 use Rattle.local_rules.specs.Site.{Task}
@@ -27,7 +27,7 @@ pub record IsNodePart (task : Task) (nodes reached : List Node) (link : Link) (p
   pub at : slice_get reached link.node ≡ Some node
   pub inst : part.inst ≡ node.key.inst
   pub walk : List ℕ
-  pub place : part.place ≡ place.Node node.key.pc walk
+  pub point : part.point ≡ point.Node node.key.pc walk
   pub adds : part.adds ≡ adds_by (back_of (device_of task.flash)) (offset_of node.key.sp) link.way
   pub target : ℕ
   pub is : slice_get nodes target ≡ Some node
@@ -45,7 +45,7 @@ entry_next reached (link ∷ links) = entry_at (slice_get reached link.node)
 -- the part for a recur link of the chain, which these links follow
 pub record IsRecurPart (back : ℕ) (reached : List Node) (link : Link) (rest : List Link) (part : Part) : Type 0 where
   pub inst : part.inst ≡ root_inst
-  pub place : part.place ≡ place.Recur (entry_next reached rest)
+  pub point : part.point ≡ point.Recur (entry_next reached rest)
   pub adds : part.adds ≡ link.depth + back
 
 abbrev pub IsPartBy : Task → List Node → List Node → Link → List Link → Part → Option GraphWay → Type 0

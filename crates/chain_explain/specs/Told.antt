@@ -12,7 +12,7 @@ use Rattle.certificate.specs.Claims.{Claim}
 use Rattle.round_rules.specs.Solutions.{IsAnswer}
 use Rattle.chain_explain.specs.declared.explanation.Explanation.{Explanation}
 use Rattle.chain_explain.specs.declared.explanation.Part.{Part}
-use Rattle.chain_explain.specs.declared.explanation.PartPlace.TheVariants as place
+use Rattle.chain_explain.specs.declared.explanation.PartPoint.TheVariants as point
 use Rattle.chain_explain.specs.Walks.{IsWay}
 use Rattle.local_rules.specs.Site.{Task}
 
@@ -20,36 +20,36 @@ use Rattle.local_rules.specs.Site.{Task}
 abbrev pub sum_of : List Part → ℕ
 sum_of parts = sum_by (λ p. p.adds) parts
 
--- The part's place is this node of the family, with a whole stack pointer at this offset. The part's words are those of the first
+-- The part's point is this node of the family, with a whole stack pointer at this offset. The part's words are those of the first
 -- shortest walk to it.
-pub record IsPlace (task : Task) (nodes : List Node) (part : Part) (n : Node) (offset : ℕ) : Type 0 where
+pub record IsPoint (task : Task) (nodes : List Node) (part : Part) (n : Node) (offset : ℕ) : Type 0 where
   pub number : ℕ
   pub at : slice_get nodes number ≡ Some n
   pub inst : n.key.inst ≡ part.inst
   pub walk : List ℕ
-  pub place : part.place ≡ place.Node n.key.pc walk
+  pub point : part.point ≡ point.Node n.key.pc walk
   pub closed : n.key.sp ≡ Closed offset
   pub way : IsWay task nodes part.inst number walk
 
--- the last part ends at its place
+-- the last part ends at its point
 pub record Ends (task : Task) (nodes : List Node) (part : Part) : Type 0 where
-  pub place : Node
-  pub is : IsPlace task nodes part place part.adds
+  pub node : Node
+  pub is : IsPoint task nodes part node part.adds
 
--- a call or interrupt edge of the family leads from the place of a part into the instance of the next
+-- a call or interrupt edge of the family leads from the point of a part into the instance of the next
 pub record EntersNext (task : Task) (nodes : List Node) (part next : Part) : Type 0 where
-  pub place : Node
+  pub node : Node
   pub offset : ℕ
-  pub is : IsPlace task nodes part place offset
+  pub is : IsPoint task nodes part node offset
   pub adds : part.adds ≡ offset + back_of (device_of task.flash)
   pub way : EdgeKind
   pub back : ℕ
-  pub enters : Enters task place way next.inst back
+  pub enters : Enters task node way next.inst back
 
 -- the part is the root's recur edge to the instance of the next, at the depth of its `recur` line
 pub record RecursNext (task : Task) (part next : Part) : Type 0 where
   pub root : part.inst ≡ root_inst
-  pub place : part.place ≡ place.Recur next.inst.entry
+  pub point : part.point ≡ point.Recur next.inst.entry
   pub depth : ℕ
   pub cut : cut_at task.assumptions next.inst ≡ Some depth
   pub adds : part.adds ≡ depth + back_of (device_of task.flash)

@@ -1,4 +1,4 @@
--- The path to a place within its instance. Source: own.
+-- The path to a node within its instance. Source: own.
 use Rattle.std.specs.Prelude.{ℕ, ◌≡◌, ◌↔◌, Bool, true, false, List, map, Option, Some, None, Contains, slice_get}
 use Rattle.node_keys.specs.declared.keys.EdgeKind.{EdgeKind}
 use Rattle.node_keys.specs.declared.keys.EdgeKind.TheVariants.{Local, Call, Interrupt, Return}

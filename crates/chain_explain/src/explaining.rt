@@ -20,7 +20,7 @@ use round_laws::laws::rounds_are_reached;
 use std::alloc::AllocError;
 
 /// Explains the bound of a certificate from its family, which meets the conditions: the deepest chain over the nodes reached from reset,
-/// each link with the bytes that it adds and a shortest path to its place. The bytes add up to the root's least need over these nodes,
+/// each link with the bytes that it adds and a shortest path to its point. The bytes add up to the root's least need over these nodes,
 /// which is at most the bound; it is the bound if the rounds end with this certificate. Time is linear in nodes and edges, apart from
 /// look-ups of nodes by key. Source: own.
 pub fn explain_family(

@@ -5,21 +5,21 @@ use node_keys::InstKey;
 
 /// Where a link of the deepest chain stands.
 #[derive(Drop)]
-pub enum PartPlace {
+pub enum PartPoint {
     /// At this word address, to which this shortest path within the instance leads, both ends included.
     Node(u32, Listed<u32>),
     /// At the depth of the `recur` line of this word, which the next instance begins with: the root's recur edge to it.
     Recur(u32),
 }
 
-/// One link of the deepest chain: an instance and a place in it.
+/// One link of the deepest chain: an instance and a point in it.
 #[derive(Drop)]
 pub struct Part {
     /// The instance.
     pub inst: InstKey,
-    /// The place.
-    pub place: PartPlace,
-    /// The bytes that the link adds: the offset at its place or the depth of the line, and those of a return address if the chain
+    /// The point.
+    pub point: PartPoint,
+    /// The bytes that the link adds: the offset at its point or the depth of the line, and those of a return address if the chain
     /// continues.
     pub adds: u16,
 }

@@ -1,4 +1,4 @@
-//! Explanation of a bound: the deepest chain of a certificate's reached nodes, with a shortest path to each place. Source: own. Tests: the
+//! Explanation of a bound: the deepest chain of a certificate's reached nodes, with a shortest path to each point. Source: own. Tests: the
 //! rows `explain_..` of `tests/end_to_end`.
 #![tactic(auto)]
 
@@ -12,4 +12,4 @@ mod steps;
 mod way;
 
 pub use explaining::{explain, explain_family};
-pub use explanation::{Explanation, Part, PartPlace};
+pub use explanation::{Explanation, Part, PartPoint};

@@ -10,7 +10,7 @@ ghost use Rattle.chain_explain.specs.Reached.{AreReached};
 ghost use Rattle.chain_explain.specs.Moves.{AreMoves, IsThere, AreThere, moves_by};
 ghost use Rattle.family_edges.specs.Tasks.{task_of};
 
-use crate::explanation::{Part, PartPlace};
+use crate::explanation::{Part, PartPoint};
 use crate::way::way;
 use avr_model::listed::Listed;
 use family_edges::{Filled, Task, WorkedOut};
@@ -46,7 +46,7 @@ fn node_part(
     let walk = way(task, family, key)?;
     Ok(Part {
         inst: key.inst,
-        place: PartPlace::Node(key.pc, walk),
+        point: PartPoint::Node(key.pc, walk),
         adds: adds(key, link.way, task.flash.device().back()),
     })
 }
@@ -81,7 +81,7 @@ fn part(
     match link.way {
         Some(GraphWay::Recur) => Ok(Part {
             inst: InstKey::root(),
-            place: PartPlace::Recur(entry_next(reached, rest)),
+            point: PartPoint::Recur(entry_next(reached, rest)),
             adds: link.depth + u16::from(task.flash.device().back()),
         }),
         Some(GraphWay::Enters(_)) | None => node_part(task, family, reached, link),

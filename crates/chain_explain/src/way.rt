@@ -1,4 +1,4 @@
-//! The path to a place within its instance.
+//! The path to a node within its instance.
 
 ghost use Rattle.std.specs.Prelude.{ℕ, ◌≡◌, ◌+◌, ◌-◌, ◌<◌, ◌≤◌, Contains, length, map, slice_get, Some, IfOk};
 ghost use Rattle.avr_model.specs.Devices.{device_of};

@@ -13,7 +13,7 @@ use Rattle.avr_model.specs.declared.device.Device.{Device}
 use Rattle.node_keys.specs.declared.keys.NodeKey.{NodeKey}
 use Rattle.node_keys.specs.Keys.{offset_of}
 use Rattle.local_rules.specs.declared.local.Node.{Node}
-use Rattle.edge_rules.specs.Views.{AreShown, place_of}
+use Rattle.edge_rules.specs.Views.{AreShown, index_of}
 use Rattle.clear_laws.specs.Held.{MayHold, kept, pushed}
 use Rattle.clear_laws.specs.Reach.{links_of, offset_at, SlotReaches, begins, along}
 use Rattle.clear_laws.specs.declared.slots.SlotSeed.{SlotSeed}
@@ -57,7 +57,7 @@ module _ (task : Task) (nodes : List Node) (links : List (List ℕ)) (offsets : 
       subst (λ (key : NodeKey). MayHold task nodes key d) key
       (kept m.0 e.0 d (contains_at nodes k m.0 m.1) e.1.0 e.1.1.0 (reaches_holds d k from m.0 m.1) below)
 
-  holds_reaches : (key : NodeKey) (d : ℕ) → MayHold task nodes key d → (t : ℕ) → place_of key nodes ≡ Some t → Reaching d t
+  holds_reaches : (key : NodeKey) (d : ℕ) → MayHold task nodes key d → (t : ℕ) → index_of key nodes ≡ Some t → Reaching d t
   holds_reaches _ _ (kept n e d member edge stays held lt) t place =
       let j = number_of nodes n member in
       let found = found_at e.to nodes t place in

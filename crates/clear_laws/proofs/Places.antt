@@ -7,7 +7,7 @@ use Rattle.local_laws.proofs.AllLaws.{never_before}
 use Rattle.avr_model.specs.declared.device.Device.{Device}
 use Rattle.node_keys.specs.declared.keys.NodeKey.{NodeKey}
 use Rattle.local_rules.specs.declared.local.Node.{Node}
-use Rattle.edge_rules.specs.Views.{AreShown, place_of}
+use Rattle.edge_rules.specs.Views.{AreShown, index_of}
 
 -- ---- numbers
 
@@ -20,10 +20,10 @@ same_node_at nodes i a b e f = same_Some a b (sym e ∙ f)
 -- ---- by key
 
 -- a key in the list has a number
-pub there_is : (k : NodeKey) (nodes : List Node) (n : Node) → Contains nodes n → n.key ≡ k → (at : ℕ) × (place_of k nodes ≡ Some at)
-there_is k nodes n h same = by (place_of k nodes) refl
+pub there_is : (k : NodeKey) (nodes : List Node) (n : Node) → Contains nodes n → n.key ≡ k → (at : ℕ) × (index_of k nodes ≡ Some at)
+there_is k nodes n h same = by (index_of k nodes) refl
   where
-    by : (o : Option ℕ) → place_of k nodes ≡ o → (at : ℕ) × (o ≡ Some at)
+    by : (o : Option ℕ) → index_of k nodes ≡ o → (at : ℕ) × (o ≡ Some at)
     by None e = absurd (none_from k nodes 0 e n h same)
     by (Some at) e = (at, refl)
 
@@ -35,7 +35,7 @@ one_number nodes i j a b shown ea eb same =
     (λ le. ⊎_elim (λ lt. absurd (never_before b.key a.key (sym same) (pair nodes j i b a shown.ascending eb ea lt))) (λ ge. omega (arith, le, ge)) (cases_lt j i))
     (cases_lt i j)
 
-pub own_number : {device : Device} (nodes : List Node) (j : ℕ) (n : Node) → AreShown device nodes → slice_get nodes j ≡ Some n → place_of n.key nodes ≡ Some j
+pub own_number : {device : Device} (nodes : List Node) (j : ℕ) (n : Node) → AreShown device nodes → slice_get nodes j ≡ Some n → index_of n.key nodes ≡ Some j
 own_number nodes j n shown e =
     let there = there_is n.key nodes n (contains_at nodes j n e) refl in
     let found = found_at n.key nodes there.0 there.1 in

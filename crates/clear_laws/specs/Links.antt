@@ -7,7 +7,7 @@ use Rattle.node_keys.specs.Keys.{offset_of}
 use Rattle.local_rules.specs.declared.local.Node.{Node}
 use Rattle.edge_rules.specs.declared.edge.Edge.{Edge}
 use Rattle.edge_rules.specs.Edges.{IsEdge}
-use Rattle.edge_rules.specs.Views.{place_of}
+use Rattle.edge_rules.specs.Views.{index_of}
 use Rattle.clear_laws.specs.Held.{StaysInFrame, is_guarded_push}
 use Rattle.clear_laws.specs.declared.slots.SlotSeed.{SlotSeed}
 use Rattle.clear_laws.specs.Reach.{links_of}
@@ -15,11 +15,11 @@ use Rattle.local_rules.specs.Site.{Task}
 
 -- the target of the edge, if it stays in its frame
 abbrev pub IsTarget : List Node → Edge → ℕ → Type 0
-IsTarget nodes e t = StaysInFrame e.kind × (place_of e.to nodes ≡ Some t)
+IsTarget nodes e t = StaysInFrame e.kind × (index_of e.to nodes ≡ Some t)
 
 -- the target of the edge with this slot, if the edge is local
 abbrev pub IsLandingSeed : List Node → ℕ → Edge → SlotSeed → Type 0
-IsLandingSeed nodes slot e s = (e.kind ≡ kind.Local) × (place_of e.to nodes ≡ Some s.node) × (s.slot ≡ slot)
+IsLandingSeed nodes slot e s = (e.kind ≡ kind.Local) × (index_of e.to nodes ≡ Some s.node) × (s.slot ≡ slot)
 
 -- the number of slots of each node
 abbrev pub offsets_of : List Node → List ℕ

@@ -131,10 +131,11 @@ index One = 1
 index Two = 2
 index Three = 3
 
-abbrev pub Place : Option Text → Option Text → Spot → Type 0
-Place f t One = (f ≡ None) × (t ≡ None)
-Place f t Two = (is_some f ≡ true) × (t ≡ None)
-Place f t Three = ⊤
+-- the names before this one are there, and no later one
+abbrev pub HoldsNames : Option Text → Option Text → Spot → Type 0
+HoldsNames f t One = (f ≡ None) × (t ≡ None)
+HoldsNames f t Two = (is_some f ≡ true) × (t ≡ None)
+HoldsNames f t Three = ⊤
 
 named_first : (f t : Option Text) (line : LineSoFar) (word : Text) → f ≡ None → named f t line word ≡ Some (record line { first = Some word })
 named_first None t line word e = refl
@@ -165,15 +166,15 @@ mark_rests : (m : Mark) (line : LineSoFar) → (marked m line).waits ≡ line.wa
 mark_rests Json line = refl
 mark_rests Why line = refl
 
-value_place : (v : Valued) (line : LineSoFar) (word : Text) (i : Spot) → Place line.first line.second i → Place (valued v line word).first (valued v line word).second i
-value_place Assume line word i p = p
-value_place Steps line word i p = p
-value_place Device line word i p = p
-value_place Trials line word i p = p
+value_names : (v : Valued) (line : LineSoFar) (word : Text) (i : Spot) → HoldsNames line.first line.second i → HoldsNames (valued v line word).first (valued v line word).second i
+value_names Assume line word i p = p
+value_names Steps line word i p = p
+value_names Device line word i p = p
+value_names Trials line word i p = p
 
-mark_place : (m : Mark) (line : LineSoFar) (i : Spot) → Place line.first line.second i → Place (marked m line).first (marked m line).second i
-mark_place Json line i p = p
-mark_place Why line i p = p
+mark_names : (m : Mark) (line : LineSoFar) (i : Spot) → HoldsNames line.first line.second i → HoldsNames (marked m line).first (marked m line).second i
+mark_names Json line i p = p
+mark_names Why line i p = p
 
 no_some : (o : Option Rule) → is_some o ≡ false → o ≡ None
 no_some None e = refl
@@ -192,7 +193,7 @@ module _ (s : Shape) (w : AllowsWords) (level : IsWordLevel s w (codes "first"))
     line : LineSoFar
     is : o ≡ Some line
     rests : line.waits ≡ None
-    place : Place line.first line.second i
+    names : HoldsNames line.first line.second i
     shows : Shows line (rows_at s h)
 
   -- and in the end
@@ -234,7 +235,7 @@ module _ (s : Shape) (w : AllowsWords) (level : IsWordLevel s w (codes "first"))
   IdleFollows ws = (h : Held) (i : Spot) (o : Option LineSoFar) → (fails h ≡ [] → Stand h i o) → Follows (at h idle (index i)) ws o
 
   WaitsFollow : List Text → Type 0
-  WaitsFollow ws = (v : Valued) (p : IsOption s (option_name v)) (h : Held) (i : Spot) (line : LineSoFar) → line.waits ≡ None → Place line.first line.second i → Shows line (rows_at s h)
+  WaitsFollow ws = (v : Valued) (p : IsOption s (option_name v)) (h : Held) (i : Spot) (line : LineSoFar) → line.waits ≡ None → HoldsNames line.first line.second i → Shows line (rows_at s h)
       → Follows (at (begun s.rules p.rule h) (option p.rule.id) (index i)) ws (Some (waiting line v))
 
   -- ---- the parts of a turn
@@ -294,14 +295,14 @@ module _ (s : Shape) (w : AllowsWords) (level : IsWordLevel s w (codes "first"))
         after = at k idle 2;
         then_is = Some next;
         walks = name_walks h 1 b bs (codes "first") level.first n;
-        reads = word_on o t.line next (b ∷ bs) ws t.is t.rests (free_name t.line b bs n ∙ named_first t.line.first t.line.second t.line (b ∷ bs) t.place.0);
+        reads = word_on o t.line next (b ∷ bs) ws t.is t.rests (free_name t.line b bs n ∙ named_first t.line.first t.line.second t.line (b ∷ bs) t.names.0);
         follows = go k Two (Some next) (λ e.
             let free : has_row (codes "first") (rows_at s h) ≡ false = kept_fault level.first.rule (codes "first") (b ∷ bs) h level.first.usable e in
             record {
               line = next;
               is = refl;
               rests = t.rests;
-              place = (refl, t.place.1);
+              names = (refl, t.names.1);
               shows = subst (Shows next) (sym (kept_rows level.first.rule (codes "first") (b ∷ bs) h level.first.usable free)) (shows_first t.line (b ∷ bs) level.first.usable.how (rows_at s h) free t.shows);
             });
       }
@@ -319,14 +320,14 @@ module _ (s : Shape) (w : AllowsWords) (level : IsWordLevel s w (codes "first"))
           after = at k idle 3;
           then_is = Some next;
           walks = name_walks h 2 b bs (codes "second") p n;
-          reads = word_on o t.line next (b ∷ bs) ws t.is t.rests (free_name t.line b bs n ∙ named_second t.line.first t.line.second t.line (b ∷ bs) t.place.0 t.place.1);
+          reads = word_on o t.line next (b ∷ bs) ws t.is t.rests (free_name t.line b bs n ∙ named_second t.line.first t.line.second t.line (b ∷ bs) t.names.0 t.names.1);
           follows = go k Three (Some next) (λ e.
               let free : has_row (codes "second") (rows_at s h) ≡ false = kept_fault p.rule (codes "second") (b ∷ bs) h p.usable e in
               record {
                 line = next;
                 is = refl;
                 rests = t.rests;
-                place = tt;
+                names = tt;
                 shows = subst (Shows next) (sym (kept_rows p.rule (codes "second") (b ∷ bs) h p.usable free)) (shows_second t.line (b ∷ bs) p.usable.how (rows_at s h) free t.shows);
               });
         }
@@ -358,7 +359,7 @@ module _ (s : Shape) (w : AllowsWords) (level : IsWordLevel s w (codes "first"))
           then_is = Some (waiting t.line v);
           walks = option_walked s h (index i) (spelled v) (option_name v) p.rule (no_option_dashes v) (option_long v) p.found p.takes;
           reads = word_on o t.line (waiting t.line v) (spelled v) ws t.is t.rests (free_option t.line v);
-          follows = go v p h i t.line t.rests t.place t.shows;
+          follows = go v p h i t.line t.rests t.names t.shows;
         }
 
   mark_turn : (h : Held) (i : Spot) (o : Option LineSoFar) (m : Mark) (ws : List Text) → (fails h ≡ [] → Stand h i o) → IdleFollows ws
@@ -388,7 +389,7 @@ module _ (s : Shape) (w : AllowsWords) (level : IsWordLevel s w (codes "first"))
             line = marked m t.line;
             is = refl;
             rests = mark_rests m t.line ∙ t.rests;
-            place = mark_place m t.line i t.place;
+            names = mark_names m t.line i t.names;
             shows = subst (Shows (marked m t.line))
                 (sym (p.adds (rows_at s h) ∙ new_row (mark_name m) p.how Rattle.clap.specs.declared.parser.matches.ValueSource.TheVariants.CommandLine p.values (rows_at s h) free))
                 (shows_marked m t.line (record { id = mark_name m; values = p.values; count = None; source = Some Rattle.clap.specs.declared.parser.matches.ValueSource.TheVariants.CommandLine; reading = p.how }) (rows_at s h) refl p.told free t.shows);
@@ -405,10 +406,10 @@ module _ (s : Shape) (w : AllowsWords) (level : IsWordLevel s w (codes "first"))
 
   -- ---- turns where an option waits
 
-  value_turn : (v : Valued) (p : IsOption s (option_name v)) (h : Held) (i : Spot) (line : LineSoFar) (b : ℕ) (bs : List ℕ) (ws : List Text) → line.waits ≡ None → Place line.first line.second i → Shows line (rows_at s h)
+  value_turn : (v : Valued) (p : IsOption s (option_name v)) (h : Held) (i : Spot) (line : LineSoFar) (b : ℕ) (bs : List ℕ) (ws : List Text) → line.waits ≡ None → HoldsNames line.first line.second i → Shows line (rows_at s h)
       → IdleFollows ws → (b == 45) ≡ false → Onward (at (begun s.rules p.rule h) (option p.rule.id) (index i)) (b ∷ bs) ws (Some (waiting line v))
   unfolding IdleFollows
-  value_turn v p h i line b bs ws rests place shows go n =
+  value_turn v p h i line b bs ws rests names shows go n =
       let k : Held = kept p.rule (b ∷ bs) h in
       record {
         after = at k idle (index i);
@@ -424,14 +425,14 @@ module _ (s : Shape) (w : AllowsWords) (level : IsWordLevel s w (codes "first"))
               line = valued v line (b ∷ bs);
               is = with_value_is v line (b ∷ bs) none;
               rests = value_rests v line (b ∷ bs);
-              place = value_place v line (b ∷ bs) i place;
+              names = value_names v line (b ∷ bs) i names;
               shows = subst (Shows (valued v line (b ∷ bs))) (sym (kept_rows p.rule (option_name v) (b ∷ bs) h p.usable free)) (shows_given v line (b ∷ bs) p.usable.how (rows_at s h) free shows);
             });
       }
 
   waits_turn : (word : Text) (ws : List Text) → is_refused word ≡ false → IdleFollows ws → WaitsFollow (word ∷ ws)
   unfolding WaitsFollow
-  waits_turn word ws free go v p h i line rests place shows = onward here word ws (Some (waiting line v)) (λ e. by (class word free) e) where
+  waits_turn word ws free go v p h i line rests names shows = onward here word ws (Some (waiting line v)) (λ e. by (class word free) e) where
     here : Walk
     here = at (begun s.rules p.rule h) (option p.rule.id) (index i)
 
@@ -439,7 +440,7 @@ module _ (s : Shape) (w : AllowsWords) (level : IsWordLevel s w (codes "first"))
     stays_hungry o e = hungry_fails v p h (long_settles s.rules s.args_override_self (begun s.rules p.rule h) o e)
 
     by : Class word → turn_fault s [] here word ≡ [] → Onward here word ws (Some (waiting line v))
-    by (Plain b bs n is) e = subst (λ (x : Text). Onward here x ws (Some (waiting line v))) (sym is) (value_turn v p h i line b bs ws rests place shows go n)
+    by (Plain b bs n is) e = subst (λ (x : Text). Onward here x ws (Some (waiting line v))) (sym is) (value_turn v p h i line b bs ws rests names shows go n)
     by (Takes u is) e = absurd (stays_hungry (arg_by_long s.rules (option_name u)) (option_passed s (begun s.rules p.rule h) (option p.rule.id) (index i) u (subst (λ (x : Text). turn_fault s [] here x ≡ []) is e)))
     by (Alone m is) e = absurd (stays_hungry (arg_by_long s.rules (mark_name m)) (mark_passed s (begun s.rules p.rule h) (option p.rule.id) (index i) m (subst (λ (x : Text). turn_fault s [] here x ≡ []) is e)))
 
@@ -451,7 +452,7 @@ module _ (s : Shape) (w : AllowsWords) (level : IsWordLevel s w (codes "first"))
     λ h i o stand faults ends.
         let t : Stand h i o = stand ends in
         record { line = t.line; is = t.is; rests = t.rests; shows = t.shows },
-    λ v p h i line rests place shows faults ends. absurd (hungry_fails v p h ends),
+    λ v p h i line rests names shows faults ends. absurd (hungry_fails v p h ends),
   )
   all_sound (word ∷ ws) free =
       let k : (is_refused word ≡ false) × (list_any is_refused ws ≡ false) = or_parts (is_refused word) (list_any is_refused ws) free in
@@ -464,6 +465,6 @@ module _ (s : Shape) (w : AllowsWords) (level : IsWordLevel s w (codes "first"))
     line = empty_line;
     is = refl;
     rests = refl;
-    place = (refl, refl);
+    names = (refl, refl);
     shows = shows_nothing;
   }) e.walks e.settles

@@ -9,7 +9,7 @@ use Rattle.node_keys.specs.declared.keys.NodeKey.{NodeKey}
 use Rattle.node_keys.specs.Order.{node_cmp, same_node}
 use Rattle.node_keys.proofs.AllLaws.{keys_are_ordered}
 use Rattle.local_rules.specs.declared.local.Node.{Node}
-use Rattle.edge_rules.specs.Views.{key_of, place_of}
+use Rattle.edge_rules.specs.Views.{key_of, index_of}
 
 -- ---- by key
 
@@ -34,7 +34,7 @@ found_from k (n ∷ ns) s at e = by (found_from k ns (s + 1) at) (same_node k n.
         let w = rest e in
         (suc w.0, (omega (arith, w.1.0), record { node = w.1.1.node; is = w.1.1.is; same = w.1.1.same }))
 
-pub found_at : (k : NodeKey) (nodes : List Node) (at : ℕ) → place_of k nodes ≡ Some at → FoundAt k nodes at
+pub found_at : (k : NodeKey) (nodes : List Node) (at : ℕ) → index_of k nodes ≡ Some at → FoundAt k nodes at
 found_at k nodes at e =
     let w = found_from k nodes 0 at e in
     subst (FoundAt k nodes) (omega (arith, w.1.0)) w.1.1

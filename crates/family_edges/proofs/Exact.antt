@@ -5,7 +5,7 @@ use Rattle.text_base.specs.Answers.{Answers}
 use Rattle.local_rules.specs.declared.local.NodeFault.TheVariants.{Memory}
 use Rattle.std.proofs.lemmas.List.Elements.{Contains-append_left, Contains-append_right, Contains-append_cases}
 use Rattle.std.proofs.lemmas.Bool.Decides.{nat_tests, eqb_tells}
-use Rattle.basics.specs.Items.{only_one_in, none_in, first_in, further_in, first_or_further}
+use Rattle.basics.specs.Items.{only_one_in, none_in, first_in, further_in, first_or_further, contained_in_join, each_of_join}
 use Rattle.basics.specs.Booleans.{and_not}
 use Rattle.edge_laws.proofs.AllLaws.{part_of as whole}
 use Rattle.avr_model.specs.Vectors.{is_enabled, enable_count, watchdog}
@@ -34,23 +34,8 @@ use Rattle.edge_rules.specs.declared.edge.Edge.{Edge}
 use Rattle.family_edges.specs.declared.ways.Way.{Way}
 use Rattle.family_edges.specs.Ways.{call_way, vector_way, may_enter, at_vector, vectors_below, interrupts_if, ways_by, ways_of}
 use Rattle.family_edges.specs.Laws.{LocalPartsAreEdges}
-use Rattle.family_edges.specs.Next.{gathered, local_edge, entry_edge, exit_in, returned_as, edge_back, returned_by, return_edges, return_if, returns_in, all_returns, edges_with, next_by, next_of}
+use Rattle.family_edges.specs.Next.{local_edge, entry_edge, exit_in, Leaver, returned_as, edge_back, return_by, returns_in, all_returns, leaver_by, leaver_at, leaver_if, leavers_in, edges_with, next_by, next_of}
 use Rattle.local_rules.specs.Site.{Task}
-use Rattle.family_edges.specs.Next.{node_of}
-
--- ---- lists
-
-pub gathered_in : {X Y : Type 0} (f : X → List Y) (xs : List X) (x : X) (y : Y) → Contains xs x → Contains (f x) y → Contains (gathered f xs) y
-gathered_in f [] x y h i = absurd (none_in x h)
-gathered_in f (z ∷ zs) x y h i =
-    ⊎_elim (λ e. Contains-append_left (f z) (gathered f zs) y (subst (λ v. Contains (f v) y) e i))
-    (λ j. Contains-append_right (f z) (gathered f zs) y (gathered_in f zs x y j i)) (first_or_further z x zs h)
-
-pub each_gathered : {X Y : Type 0} (f : X → List Y) (P : Y → Type 0) (xs : List X) → ((x : X) (y : Y) → Contains xs x → Contains (f x) y → P y)
-    → (y : Y) → Contains (gathered f xs) y → P y
-each_gathered f P [] h y i = absurd (none_in y i)
-each_gathered f P (x ∷ xs) h y i =
-    ⊎_elim (λ j. h x y (first_in x xs) j) (each_gathered f P xs (λ z w j l. h z w (further_in x z xs j) l) y) (Contains-append_cases (f x) (gathered f xs) y i)
 
 -- ---- the local part
 
@@ -167,25 +152,21 @@ way_in task n _ _ _ (by_interrupt offset v clears clean sp i delay on allowed c)
 
 -- ---- returns
 
--- the edge back by this exit, with this state
-abbrev back_edge : NodeKey → Way → Exit → AbsState → Edge
-back_edge k w x t = record { kind = kind.Return; to = returned_key w.kind k w.back x; state = t }
+-- the edge back from a node that leaves by this exit, with this state
+abbrev pub back_edge : NodeKey → Way → Exit → AbsState → Edge
+back_edge k w x after = record { kind = kind.Return; to = returned_key w.kind k w.back x; state = after }
 
-back_from : (k : NodeKey) (s : AbsState) (w : Way) (t : AbsState) (P : Edge → Type 0) (o : Option Exit)
-    → ((x : Exit) (after : AbsState) → o ≡ Some x → returned s t ≡ Some after → P (back_edge k w x after))
-    → (e : Edge) → Contains (returned_by (node_of k s) w o t) e → P e
-back_from k s w t P None h e i = absurd (none_in e i)
-back_from k s w t P (Some x) h e i = from (returned s t) refl i
+pub each_returned : (n : Node) (w : Way) (l : Leaver) (P : Edge → Type 0) → ((after : AbsState) → returned n.state l.state ≡ Some after → P (back_edge n.key w l.exit after))
+    → (e : Edge) → Contains (return_by n w l) e → P e
+each_returned n w l P h e i = from (returned n.state l.state) refl i
   where
-    from : (p : Option AbsState) → returned s t ≡ p → Contains (edge_back (returned_as k w x p)) e → P e
+    from : (p : Option AbsState) → returned n.state l.state ≡ p → Contains (edge_back (returned_as n.key w l.exit p)) e → P e
     from None is j = absurd (none_in e j)
-    from (Some after) is j = subst P (sym (only_one_in (back_edge k w x after) e j)) (h x after refl is)
+    from (Some after) is j = subst P (sym (only_one_in (back_edge n.key w l.exit after) e j)) (h after is)
 
-back_in : (k : NodeKey) (s : AbsState) (w : Way) (t : AbsState) (o : Option Exit) (x : Exit) (after : AbsState) → o ≡ Some x → returned s t ≡ Some after
-    → Contains (returned_by (node_of k s) w o t) (back_edge k w x after)
-back_in k s w t o x after eo is =
-    subst (λ q. Contains (returned_by (node_of k s) w q t) (back_edge k w x after)) (sym eo)
-    (subst (λ p. Contains (edge_back (returned_as k w x p)) (back_edge k w x after)) (sym is) (first_in (back_edge k w x after) []))
+pub returned_in : (n : Node) (w : Way) (l : Leaver) (after : AbsState) → returned n.state l.state ≡ Some after → Contains (return_by n w l) (back_edge n.key w l.exit after)
+returned_in n w l after is =
+    subst (λ p. Contains (edge_back (returned_as n.key w l.exit p)) (back_edge n.key w l.exit after)) (sym is) (first_in (back_edge n.key w l.exit after) [])
 
 pub if_from : {X : Type 0} (b : Bool) (xs : List X) (x : X) → Contains (if b then xs else []) x → (b ≡ true) × Contains xs x
 if_from true xs x h = (refl, h)
@@ -197,14 +178,41 @@ module _ (task : Task) (nodes : List Node) (n : Node) where
   abbrev Is : Edge → Type 0
   Is = IsEdge task nodes n
 
-  return_from : (w : Way) → Enters task n w.kind w.inst w.back → (leaver : Node) (e : Edge) → Contains nodes leaver
-      → Contains (return_if task n w leaver) e → Is e
-  return_from w en leaver e present h =
-      let j = if_from (same_inst leaver.key.inst w.inst) (return_edges task n w leaver) e h in
-      back_from n.key n.state w leaver.state Is (exit_in (local task leaver.key leaver.state))
-      (λ x after is ret. let p = exit_from task leaver x is in
-      returning w.kind w.inst w.back leaver x after en present ((keys_are_ordered.same_insts leaver.key.inst w.inst).0 j.0) p.0 p.1 ret)
-      e j.1
+  -- a node of the family leaves the instance
+  record Leaves (inst : InstKey) (l : Leaver) : Type 0 where
+    by : Node
+    present : Contains nodes by
+    of : by.key.inst ≡ inst
+    clean : IsFaultless task by
+    exit : (raw_of task by).exit ≡ Some l.exit
+    state : by.state ≡ l.state
+
+  each_leaver : (inst : InstKey) (l : Leaver) → Contains (leavers_in task nodes inst) l → Leaves inst l
+  each_leaver inst = each_of_join (leaver_if task inst) (Leaves inst) nodes (λ m l present i.
+      let j = if_from (same_inst m.key.inst inst) (leaver_at task m) l i in
+      by m present ((keys_are_ordered.same_insts m.key.inst inst).0 j.0) l (exit_in (local task m.key m.state)) refl j.1)
+    where
+      by : (m : Node) → Contains nodes m → m.key.inst ≡ inst → (l : Leaver) (o : Option Exit) → exit_in (local task m.key m.state) ≡ o → Contains (leaver_by m.state o) l → Leaves inst l
+      by m present same l None is i = absurd (none_in l i)
+      by m present same l (Some x) is i =
+          let p = exit_from task m x is in
+          subst (Leaves inst) (sym (only_one_in (record { exit = x; state = m.state }) l i))
+          (record { by = m; present = present; of = same; clean = p.0; exit = p.1; state = refl })
+
+  leaver_in : (m : Node) (x : Exit) → Contains nodes m → IsFaultless task m → (raw_of task m).exit ≡ Some x
+      → Contains (leavers_in task nodes m.key.inst) (record { exit = x; state = m.state })
+  leaver_in m x present clean exit =
+      let l : Leaver = record { exit = x; state = m.state } in
+      let this : Contains (leaver_at task m) l =
+      subst (λ o. Contains (leaver_by m.state o) l) (sym (exit_there task m x clean exit)) (first_in l []) in
+      contained_in_join (leaver_if task m.key.inst) nodes m l present
+      (subst (λ b. Contains (if b then leaver_at task m else []) l) (sym ((keys_are_ordered.same_insts m.key.inst m.key.inst).1 refl)) this)
+
+  return_from : (w : Way) → Enters task n w.kind w.inst w.back → (e : Edge) → Contains (returns_in (leavers_in task nodes) n w) e → Is e
+  return_from w en = each_of_join (return_by n w) Is (leavers_in task nodes w.inst) (λ l e i.
+      let m = each_leaver w.inst l i in
+      each_returned n w l Is (λ after r. returning w.kind w.inst w.back m.by l.exit after en m.present m.of m.clean m.exit
+      (subst (λ s. returned n.state s ≡ Some after) (sym m.state) r)) e)
 
   from_list : IsFaultless task n → (e : Edge)
       → Contains (edges_with task nodes n (ways_of task n.key (raw_of task n).calls) (whole (raw_of task n))) e → Is e
@@ -214,11 +222,10 @@ module _ (task : Task) (nodes : List Node) (n : Node) where
       let way = ways_from task n clean n.key.sp refl in
       let first = map local_edge (joined_onto [] r.moves) in
       let second = map (entry_edge n.state) ws in
-      let third = all_returns task n nodes ws in
+      let third = all_returns (leavers_in task nodes) n ws in
       ⊎_elim (each_in_map local_edge Is (joined_onto [] r.moves) (λ to j. moving to clean j) e)
       (λ i. ⊎_elim (each_in_map (entry_edge n.state) Is ws (λ w j. entering w.kind w.inst w.back (way w j)) e)
-      (each_gathered (returns_in task n nodes) Is ws
-      (λ w y j. each_gathered (return_if task n w) Is nodes (λ leaver z m. return_from w (way w j) leaver z m) y) e)
+      (each_of_join (returns_in (leavers_in task nodes) n) Is ws (λ w y j. return_from w (way w j) y) e)
       (Contains-append_cases second third e i))
       (Contains-append_cases first (second ++ third) e h)
 
@@ -226,29 +233,27 @@ module _ (task : Task) (nodes : List Node) (n : Node) where
   to_list _ (moving to clean has) =
       let r = raw_of task n in
       let ws = ways_of task n.key r.calls in
-      Contains-append_left (map local_edge (joined_onto [] r.moves)) (map (entry_edge n.state) ws ++ all_returns task n nodes ws)
+      Contains-append_left (map local_edge (joined_onto [] r.moves)) (map (entry_edge n.state) ws ++ all_returns (leavers_in task nodes) n ws)
       (local_edge to) (in_map local_edge (joined_onto [] r.moves) to has)
   to_list _ (entering way inst back en) =
       let r = raw_of task n in
       let ws = ways_of task n.key r.calls in
       let w : Way = record { kind = way; inst = inst; back = back } in
-      Contains-append_right (map local_edge (joined_onto [] r.moves)) (map (entry_edge n.state) ws ++ all_returns task n nodes ws)
+      Contains-append_right (map local_edge (joined_onto [] r.moves)) (map (entry_edge n.state) ws ++ all_returns (leavers_in task nodes) n ws)
       (entry_edge n.state w)
-      (Contains-append_left (map (entry_edge n.state) ws) (all_returns task n nodes ws) (entry_edge n.state w)
+      (Contains-append_left (map (entry_edge n.state) ws) (all_returns (leavers_in task nodes) n ws) (entry_edge n.state w)
       (in_map (entry_edge n.state) ws w (way_in task n way inst back en)))
   to_list _ (returning way inst back leaver x after en present same clean exit ret) =
       let r = raw_of task n in
       let ws = ways_of task n.key r.calls in
       let w : Way = record { kind = way; inst = inst; back = back } in
+      let l : Leaver = record { exit = x; state = leaver.state } in
       let e = back_edge n.key w x after in
-      let this : Contains (return_edges task n w leaver) e =
-      back_in n.key n.state w leaver.state (exit_in (local task leaver.key leaver.state)) x after (exit_there task leaver x clean exit) ret in
-      let kept : Contains (return_if task n w leaver) e =
-      subst (λ b. Contains (if b then return_edges task n w leaver else []) e) (sym ((keys_are_ordered.same_insts leaver.key.inst inst).1 same)) this in
-      let found : Contains (returns_in task n nodes w) e = gathered_in (return_if task n w) nodes leaver e present kept in
-      Contains-append_right (map local_edge (joined_onto [] r.moves)) (map (entry_edge n.state) ws ++ all_returns task n nodes ws) e
-      (Contains-append_right (map (entry_edge n.state) ws) (all_returns task n nodes ws) e
-      (gathered_in (returns_in task n nodes) ws w e (way_in task n way inst back en) found))
+      let leaves : Contains (leavers_in task nodes inst) l = subst (λ i. Contains (leavers_in task nodes i) l) same (leaver_in leaver x present clean exit) in
+      let found : Contains (returns_in (leavers_in task nodes) n w) e = contained_in_join (return_by n w) (leavers_in task nodes inst) l e leaves (returned_in n w l after ret) in
+      Contains-append_right (map local_edge (joined_onto [] r.moves)) (map (entry_edge n.state) ws ++ all_returns (leavers_in task nodes) n ws) e
+      (Contains-append_right (map (entry_edge n.state) ws) (all_returns (leavers_in task nodes) n ws) e
+      (contained_in_join (returns_in (leavers_in task nodes) n) ws w e (way_in task n way inst back en) found))
 
   exact_by : (all : List Edge) (o : Result Local NodeFault) → local task n.key n.state ≡ o → next_by task nodes n o ≡ Ok all
       → AreEdges task nodes n all

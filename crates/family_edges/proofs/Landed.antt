@@ -12,14 +12,14 @@ use Rattle.edge_rules.specs.declared.edge.Edge.{Edge}
 use Rattle.edge_rules.specs.Edges.{AreEdges}
 use Rattle.edge_rules.specs.Families.{AreFaultless}
 use Rattle.edge_rules.specs.Places.{found_at}
-use Rattle.edge_rules.specs.Views.{place_of}
+use Rattle.edge_rules.specs.Views.{index_of}
 use Rattle.family_edges.specs.declared.landing.Landing.{Landing}
 use Rattle.family_edges.specs.Landings.{IsLanding, AreLandingsOf, AreLandingsTo, AreLandings, landing_at, landing_of, landings_by}
 use Rattle.local_rules.specs.Site.{Task}
 
 -- ---- one edge
 
-pub inside_at : (k : NodeKey) (nodes : List Node) (at : ℕ) → place_of k nodes ≡ Some at → at < length nodes
+pub inside_at : (k : NodeKey) (nodes : List Node) (at : ℕ) → index_of k nodes ≡ Some at → at < length nodes
 inside_at k nodes at e = let w = found_at k nodes at e in slice_get_within nodes at w.node w.is
 
 landing_only : (kind : EdgeKind) (o : Option ℕ) (l : Landing) → Contains (landing_at kind o) l → (o ≡ Some l.at) × (l.kind ≡ kind)
@@ -38,8 +38,8 @@ module _ (task : Task) (nodes : List Node) where
   landings_are : (n : Node) (edges : List Edge) → AreEdges task nodes n edges → AreLandingsOf task nodes n (landings_by nodes edges)
   landings_are n edges are l = (
     λ h. each_of_join (landing_of nodes) (IsLanding task nodes n) edges
-        (λ e m has on. let o = landing_only e.kind (place_of e.to nodes) m on in record { edge = e; is = (are e).0 has; kind = o.1; at = o.0 }) l h,
-    λ x. contained_in_join (landing_of nodes) edges x.edge l ((are x.edge).1 x.is) (landing_in x.edge.kind (place_of x.edge.to nodes) l x.at x.kind),
+        (λ e m has on. let o = landing_only e.kind (index_of e.to nodes) m on in record { edge = e; is = (are e).0 has; kind = o.1; at = o.0 }) l h,
+    λ x. contained_in_join (landing_of nodes) edges x.edge l ((are x.edge).1 x.is) (landing_in x.edge.kind (index_of x.edge.to nodes) l x.at x.kind),
   )
 
   -- ---- all nodes

@@ -15,7 +15,7 @@ use Rattle.node_keys.specs.declared.keys.NodeKey.{NodeKey}
 use Rattle.node_keys.specs.Order.{inst_cmp, node_cmp, same_node}
 use Rattle.node_keys.proofs.AllLaws.{keys_are_ordered, nodes_go_by_instance}
 use Rattle.local_rules.specs.declared.local.Node.{Node}
-use Rattle.edge_rules.specs.Views.{IsSpan, place_of}
+use Rattle.edge_rules.specs.Views.{IsSpan, index_of}
 use Rattle.family_edges.specs.Shown.{AreOfSomeDevice}
 
 -- ---- orderings
@@ -94,12 +94,12 @@ module _ (nodes : List Node) (k : NodeKey) (at : ℕ) (shown : AreOfSomeDevice n
       not_same k y
       (λ same. never_both (is_below_key k y) (before (is_below_key k) nodes at point j y e lt) (subst (λ x. is_lt (node_cmp x k) ≡ false) same (itself k)))
 
-  pub place_there : (n : Node) → slice_get nodes at ≡ Some n → n.key ≡ k → Some at ≡ place_of k nodes
+  pub place_there : (n : Node) → slice_get nodes at ≡ Some n → n.key ≡ k → Some at ≡ index_of k nodes
   place_there n e same =
       let zero_more : at ≡ 0 + at = omega arith in
       ap (λ m. Some m) zero_more ∙ sym (found_at (λ m. same_node k m.key) nodes 0 at n e ((keys_are_ordered.same_nodes k n.key).1 (sym same)) lower)
 
-  pub place_past : length nodes ≤ at → None ≡ place_of k nodes
+  pub place_past : length nodes ≤ at → None ≡ index_of k nodes
   place_past le = sym (none_at (λ m. same_node k m.key) nodes 0 (λ j y e. lower j y (let i = slice_get_within nodes j y e in omega (arith, i, le)) e))
 
   -- later nodes are above the one at the point, which isn't below the key
@@ -113,7 +113,7 @@ module _ (nodes : List Node) (k : NodeKey) (at : ℕ) (shown : AreOfSomeDevice n
       (from_on (is_below_key k) nodes at point at n e (omega arith)))
       (eqb_tells at j))
 
-  pub place_none : (n : Node) → slice_get nodes at ≡ Some n → (n.key ≡ k → ⊥) → None ≡ place_of k nodes
+  pub place_none : (n : Node) → slice_get nodes at ≡ Some n → (n.key ≡ k → ⊥) → None ≡ index_of k nodes
   place_none n e other =
       sym (none_at (λ m. same_node k m.key) nodes 0 (λ j y g. ⊎_elim (λ le. later n e other j y le g) (λ lt. lower j y lt g) (either at j)))
 
@@ -169,7 +169,7 @@ module _ (nodes : List Node) (inst : InstKey) (low high : ℕ) (low_bound : low 
   }
 
 -- a node's key is found at its number
-pub place_is : (nodes : List Node) (k : NodeKey) (at : ℕ) (n : Node) → AreOfSomeDevice nodes → slice_get nodes at ≡ Some n → n.key ≡ k → Some at ≡ place_of k nodes
+pub place_is : (nodes : List Node) (k : NodeKey) (at : ℕ) (n : Node) → AreOfSomeDevice nodes → slice_get nodes at ≡ Some n → n.key ≡ k → Some at ≡ index_of k nodes
 place_is nodes k at n shown e same =
     let zero_more : at ≡ 0 + at = omega arith in
     ap (λ m. Some m) zero_more ∙ sym (found_at (λ m. same_node k m.key) nodes 0 at n e ((keys_are_ordered.same_nodes k n.key).1 (sym same)) others)

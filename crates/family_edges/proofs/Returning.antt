@@ -23,10 +23,10 @@ use Rattle.local_rules.specs.Site.{Task}
 
 -- ---- lists
 
-kept : {X : Type 0} (xs : List X) (y : X) (i : ℕ) (x : X) → slice_get xs i ≡ Some x → slice_get (xs ++ y ∷ []) i ≡ Some x
-kept [] y i x e = absurd (none-some x e)
-kept (z ∷ zs) y zero x e = e
-kept (z ∷ zs) y (suc i) x e = kept zs y i x e
+pub get_kept : {X : Type 0} (xs : List X) (y : X) (i : ℕ) (x : X) → slice_get xs i ≡ Some x → slice_get (xs ++ y ∷ []) i ≡ Some x
+get_kept [] y i x e = absurd (none-some x e)
+get_kept (z ∷ zs) y zero x e = e
+get_kept (z ∷ zs) y (suc i) x e = get_kept zs y i x e
 
 fault_is : (f g : NodeFault) (o : Result Local NodeFault) → o ≡ Err f → o ≡ Err g → f ≡ g
 fault_is f g o a b = cc
@@ -88,7 +88,7 @@ module _ (task : Task) where
           more = record {
             count = omega (arith, length-append done (x ∷ []), so.count);
             clean = λ i m lt e. ⊎_elim (λ below. so.clean i m below e) (λ same. subst (IsFaultless task) (this i m same e) is.0) (before_or_last i at lt);
-            each = λ i m lt e. ⊎_elim (λ below. kept done x i (raw_of task m).exit (so.each i m below e))
+            each = λ i m lt e. ⊎_elim (λ below. get_kept done x i (raw_of task m).exit (so.each i m below e))
                 (λ same. subst (λ (k : Node). slice_get (done ++ x ∷ []) i ≡ Some (raw_of task k).exit) (this i m same e)
                 (subst (λ j. slice_get (done ++ x ∷ []) j ≡ Some (raw_of task n).exit) (so.count ∙ sym same) (get_pushed done x ∙ ap (λ y. Some y) (sym is.1))))
                 (before_or_last i at lt);

@@ -1,7 +1,8 @@
 -- The expansion of one node.
-use Rattle.std.proofs.Common.{◌≡◌, refl, sym, ap, ◌∙◌, subst, ℕ, zero, suc, ◌+◌, ◌<◌, Bool, true, false, if◌then◌else◌, List, [], ◌∷◌, ◌++◌, length, take, slice_index_or, Option, Some, None, arith}
-use Rattle.std.specs.List.{slice_get}
-use Rattle.std.proofs.lemmas.Option.{none-some, slice_get_read}
+use Rattle.std.proofs.Common.{◌≡◌, refl, sym, ap, ◌∙◌, subst, ℕ, ◌+◌, Bool, true, false, not, nat_eq, if◌then◌else◌, List, [], ◌∷◌, ◌++◌, length, cond, Option, Some, None, arith}
+use Rattle.std.specs.List.{slice_get, find}
+use Rattle.std.specs.Option.{option_map, option_eq}
+use Rattle.std.proofs.lemmas.Bool.Decides.{nat_tests}
 use Rattle.avr_model.specs.Assumptions.{has_pairs}
 use Rattle.avr_model.specs.Devices.{device_of}
 use Rattle.abs_state.specs.declared.state.AbsState.{AbsState}
@@ -10,21 +11,22 @@ use Rattle.node_keys.specs.Order.{same_node}
 use Rattle.local_rules.specs.declared.local.Node.{Node}
 use Rattle.edge_rules.specs.declared.seeded.NodeForm.{NodeForm}
 use Rattle.edge_rules.specs.Expansion.{Seeds, AreSeeds, HasKeyAt, IsFilled, IsMissing}
-use Rattle.edge_laws.specs.Carrying.{first_at, carried, worked, AreExpandedSoFar}
+use Rattle.edge_laws.specs.Carrying.{first_at, worked, AreExpandedSoFar}
 use Rattle.edge_laws.proofs.ExpansionLaws.{same_seed, one_more, missing, whole}
-use Rattle.edge_rules.specs.declared.seeded.Seed.{Seed}
-use Rattle.edge_rules.specs.declared.seeded.Seed.TheVariants as seed
-use Rattle.edge_rules.specs.Seeds.{form_of, HasFormAt}
-use Rattle.family_edges.specs.Expanding.{AreNumbered, ComesFromBelow}
+use Rattle.edge_rules.specs.Seeds.{HasFormAt}
+use Rattle.family_edges.specs.Expanding.{AreNumbered, AreKept}
+use Rattle.family_edges.proofs.Returning.{get_kept}
 use Rattle.local_rules.specs.Site.{Task}
 
-pub from_at : (done : List Node) (x : Seed) (m : ℕ) (n : Node) → x ≡ seed.From m → ComesFromBelow (form_of x) (length done) → n ≡ slice_index_or done m n
-    → slice_get done m ≡ Some n
-from_at done x m n e h is = slice_get_read done (length done) m n refl (subst (λ (y : Seed). ComesFromBelow (form_of y) (length done)) e h) is
+pub same_number : (o : Option ℕ) (m : ℕ) → not (option_eq nat_eq o (Some m)) ≡ false → o ≡ Some m
+same_number None m e = absurd cc
+same_number (Some n) m e = let same : n ≡ m = grind (arith, nat_tests) in ap (λ i. Some i) same
 
-pub worked_from : (task : Task) (done : List Node) (k : NodeKey) (x : Seed) (m : ℕ) (n : Node) → x ≡ seed.From m
-    → slice_get done m ≡ Some n → carried task k (Some n) ≡ worked task done k (form_of x)
-worked_from task done k x m n e g = sym (ap (λ (y : Seed). worked task done k (form_of y)) e ∙ ap (carried task k) g)
+-- kept successors stay so with one node more
+pub still_kept : (task : Task) (done : List Node) (n : Node) (new : List Node) (from : Option ℕ) (list : List Node) → new ≡ done ++ n ∷ []
+    → AreKept task done from list → AreKept task new from list
+still_kept task done n new None list e kept = tt
+still_kept task done n new (Some m) list e kept = (kept.0, (ap (λ (l : List Node). slice_get l m) e ∙ get_kept done n m kept.0 kept.1.0, kept.1.1))
 
 seed_is : (nodes : Seeds) (at : ℕ) (k : NodeKey) (f : NodeForm) → HasKeyAt nodes at k → HasFormAt nodes at f → slice_get nodes at ≡ Some (k, f)
 seed_is nodes at k f a b = a.1 ∙ (λ i. Some (k, (same_seed (slice_get nodes at) k b.0 a.0 f a.1 b.1).1 i))
@@ -49,22 +51,11 @@ module _ (task : Task) (nodes : Seeds) (at : ℕ) (done : List Node) (so : AreEx
 
 -- ---- the first node of a key
 
-pub none_more : (k : NodeKey) (xs : List Node) (n : Node) → first_at k xs ≡ None → same_node n.key k ≡ false → first_at k (xs ++ n ∷ []) ≡ None
-none_more k [] n none other = rw other refl
-none_more k (x ∷ xs) n none other = by (none_more k xs n) (same_node x.key k) refl none
+pub found_first : (k : NodeKey) (xs : List Node) → option_map (λ (n : Node). n.state) (find (λ n. same_node n.key k) xs) ≡ first_at k xs
+found_first k [] = refl
+found_first k (x ∷ xs) = by (same_node x.key k) (found_first k xs)
   where
-    by : (first_at k xs ≡ None → same_node n.key k ≡ false → first_at k (xs ++ n ∷ []) ≡ None) → (b : Bool) → same_node x.key k ≡ b
-        → (if b then Some x.state else first_at k xs) ≡ None → (if b then Some x.state else first_at k (xs ++ n ∷ [])) ≡ None
-    by rest true is e = e
-    by rest false is e = rest e other
-
-pub found_first : (k : NodeKey) (xs : List Node) (at : ℕ) (n : Node) → first_at k (take at xs) ≡ None → at < length xs → n ≡ slice_index_or xs at n
-    → same_node n.key k ≡ true → Some n.state ≡ first_at k xs
-found_first k [] at n none lt is same = absurd (omega (arith, lt))
-found_first k (x ∷ xs) zero n none lt is same = subst (λ (y : Node). Some n.state ≡ first_at k (y ∷ xs)) is (rw same refl)
-found_first k (x ∷ xs) (suc at) n none lt is same = by (found_first k xs at n) (same_node x.key k) refl none
-  where
-    by : (first_at k (take at xs) ≡ None → at < length xs → n ≡ slice_index_or xs at n → same_node n.key k ≡ true → Some n.state ≡ first_at k xs) → (b : Bool)
-        → same_node x.key k ≡ b → (if b then Some x.state else first_at k (take at xs)) ≡ None → Some n.state ≡ (if b then Some x.state else first_at k xs)
-    by rest true here e = absurd (none-some x.state (sym e))
-    by rest false here e = rest e (omega (arith, lt)) is same
+    by : (b : Bool) → option_map (λ (n : Node). n.state) (find (λ n. same_node n.key k) xs) ≡ first_at k xs
+        → option_map (λ (n : Node). n.state) (cond b (Some x) (find (λ n. same_node n.key k) xs)) ≡ (if b then Some x.state else first_at k xs)
+    by true rest = refl
+    by false rest = rest

@@ -6,7 +6,7 @@ use Rattle.node_keys.specs.declared.keys.EdgeKind.{EdgeKind}
 use Rattle.edge_rules.specs.declared.edge.Edge.{Edge}
 use Rattle.edge_rules.specs.Edges.{IsEdge}
 use Rattle.edge_rules.specs.Families.{AreFaultless}
-use Rattle.edge_rules.specs.Views.{place_of}
+use Rattle.edge_rules.specs.Views.{index_of}
 use Rattle.family_edges.specs.declared.landing.Landing.{Landing}
 use Rattle.local_rules.specs.Site.{Task}
 
@@ -15,7 +15,7 @@ pub record IsLanding (task : Task) (nodes : List Node) (n : Node) (l : Landing) 
   pub edge : Edge
   pub is : IsEdge task nodes n edge
   pub kind : l.kind ≡ edge.kind
-  pub at : place_of edge.to nodes ≡ Some l.at
+  pub at : index_of edge.to nodes ≡ Some l.at
 
 -- these are exactly the landings of the node
 abbrev pub AreLandingsOf : Task → List Node → Node → List Landing → Type 0
@@ -39,7 +39,7 @@ landing_at kind (Some at) = record { kind = kind; at = at } ∷ []
 
 -- the landing of an edge, if its target is in the family
 abbrev pub landing_of : List Node → Edge → List Landing
-landing_of nodes e = landing_at e.kind (place_of e.to nodes)
+landing_of nodes e = landing_at e.kind (index_of e.to nodes)
 
 abbrev pub landings_by : List Node → List Edge → List Landing
 landings_by nodes edges = flat_map (landing_of nodes) edges

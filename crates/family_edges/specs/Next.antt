@@ -1,8 +1,10 @@
 -- The edges from a node, in the order of the code.
 use Rattle.std.specs.Prelude.{if◌then◌else◌, List, [], ◌∷◌, ◌++◌, map, Option, Some, None, Result, Ok, Err}
+use Rattle.std.specs.List.{flat_map}
 use Rattle.abs_state.specs.declared.state.AbsState.{AbsState}
 use Rattle.abs_state.specs.Frames.{entered}
 use Rattle.abs_state.specs.PairsBack.{returned}
+use Rattle.node_keys.specs.declared.keys.InstKey.{InstKey}
 use Rattle.node_keys.specs.declared.keys.NodeKey.{NodeKey}
 use Rattle.node_keys.specs.declared.keys.EdgeKind.TheVariants as kind
 use Rattle.node_keys.specs.Keys.{entry_key}
@@ -30,10 +32,20 @@ local_edge n = record { kind = kind.Local; to = n.key; state = n.state }
 abbrev pub entry_edge : AbsState → Way → Edge
 entry_edge s w = record { kind = w.kind; to = entry_key w.inst; state = entered s }
 
+-- the successors of a node in its instance; none if it has a fault
+abbrev pub same_in : Result Local NodeFault → List Node
+same_in (Ok l) = l.same
+same_in (Err f) = []
+
 -- the exit of a node; none if it has a fault
 abbrev pub exit_in : Result Local NodeFault → Option Exit
 exit_in (Ok l) = l.exit
 exit_in (Err f) = None
+
+-- a node that leaves its instance
+pub record Leaver : Type 0 where
+  pub exit : Exit
+  pub state : AbsState
 
 -- the target of a return to a node that entered this way; none if the states conflict
 abbrev pub returned_as : NodeKey → Way → Exit → Option AbsState → Option Node
@@ -47,32 +59,43 @@ abbrev pub edge_back : Option Node → List Edge
 edge_back None = []
 edge_back (Some n) = record { kind = kind.Return; to = n.key; state = n.state } ∷ []
 
-abbrev pub returned_by : Node → Way → Option Exit → AbsState → List Edge
-returned_by n w None t = []
-returned_by n w (Some x) t = edge_back (returned_node n w x t)
+-- the edge by which a leaver returns to a node that entered its instance this way
+abbrev pub return_by : Node → Way → Leaver → List Edge
+return_by n w l = edge_back (returned_node n w l.exit l.state)
 
--- the edges by which a node's exit returns
-abbrev pub return_edges : Task → Node → Way → Node → List Edge
-return_edges task n w leaver = returned_by n w (exit_in (local task leaver.key leaver.state)) leaver.state
+abbrev pub returns_by : Node → Way → List Leaver → List Edge
+returns_by n w = flat_map (return_by n w)
 
--- the items that each gives, in order
-abbrev pub gathered : {X Y : Type 0} → (X → List Y) → List X → List Y
-gathered f [] = []
-gathered f (x ∷ xs) = f x ++ gathered f xs
+-- the edges back from the nodes that leave the entered instance
+abbrev pub returns_in : (InstKey → List Leaver) → Node → Way → List Edge
+returns_in leavers n w = returns_by n w (leavers w.inst)
 
--- the return edges of a node, if it is of the entered instance
-abbrev pub return_if : Task → Node → Way → Node → List Edge
-return_if task n w leaver = if same_inst leaver.key.inst w.inst then return_edges task n w leaver else []
+abbrev pub all_returns : (InstKey → List Leaver) → Node → List Way → List Edge
+all_returns leavers n = flat_map (returns_in leavers n)
 
--- the return edges of the entered instance's nodes
-abbrev pub returns_in : Task → Node → List Node → Way → List Edge
-returns_in task n nodes w = gathered (return_if task n w) nodes
+-- the edges into other instances, and those back from them
+abbrev pub interprocedural : (InstKey → List Leaver) → Node → List Way → List Edge
+interprocedural leavers n ws = map (entry_edge n.state) ws ++ all_returns leavers n ws
 
-abbrev pub all_returns : Task → Node → List Node → List Way → List Edge
-all_returns task n nodes ws = gathered (returns_in task n nodes) ws
+-- ---- in a family
+
+abbrev pub leaver_by : AbsState → Option Exit → List Leaver
+leaver_by s None = []
+leaver_by s (Some x) = record { exit = x; state = s } ∷ []
+
+-- the node, if it leaves its instance
+abbrev pub leaver_at : Task → Node → List Leaver
+leaver_at task n = leaver_by n.state (exit_in (local_of task n))
+
+abbrev pub leaver_if : Task → InstKey → Node → List Leaver
+leaver_if task inst n = if same_inst n.key.inst inst then leaver_at task n else []
+
+-- the nodes that leave the instance
+abbrev pub leavers_in : Task → List Node → InstKey → List Leaver
+leavers_in task nodes inst = flat_map (leaver_if task inst) nodes
 
 abbrev pub edges_with : Task → List Node → Node → List Way → Local → List Edge
-edges_with task nodes n ws l = map local_edge l.same ++ (map (entry_edge n.state) ws ++ all_returns task n nodes ws)
+edges_with task nodes n ws l = map local_edge l.same ++ interprocedural (leavers_in task nodes) n ws
 
 abbrev pub next_by : Task → List Node → Node → Result Local NodeFault → Result (List Edge) NodeFault
 next_by task nodes n (Ok l) = Ok (edges_with task nodes n (ways_of task n.key l.calls) l)

@@ -24,6 +24,15 @@ pub struct Caller<'a> {
     pub way: Way,
 }
 
+/// A node that leaves its instance.
+#[derive(Clone, Copy)]
+pub struct Leaver<'a> {
+    /// Its exit.
+    pub exit: Exit,
+    /// Its state.
+    pub state: &'a AbsState,
+}
+
 /// The target of the instance's exit in the caller's own frame: the word after the call, or the interrupted word, with the exit's enable
 /// bits and I. None if the states at the exit and at the caller conflict.
 pub fn returned(

@@ -2,7 +2,7 @@
 
 ghost use Rattle.std.specs.Prelude.{◌≡◌, ◌<◌, length, Some, slice_get};
 ghost use Rattle.std.specs.Option.{option_map};
-ghost use Rattle.edge_rules.specs.Views.{IsSpan, key_of, state_of, place_of};
+ghost use Rattle.edge_rules.specs.Views.{IsSpan, key_of, state_of, index_of};
 ghost use Rattle.family_edges.specs.Shown.{AreOfSomeDevice};
 
 use abs_state::AbsState;
@@ -63,7 +63,7 @@ impl Filled {
 
     /// The number of the node of this key.
     pub fn find(&self, key: &NodeKey) -> Option<usize>
-        ensures { result ≡ place_of key.now self.now }
+        ensures { result ≡ index_of key.now self.now }
     {
         let nodes = self.items.as_slice();
         let at = nodes.partition_point(|node| node.key.cmp(key).is_lt());
@@ -99,7 +99,7 @@ impl Filled {
 
     /// The number of the node of this key. Four nodes from the number `first` on are searched first.
     pub fn find_from(&self, first: usize, key: &NodeKey) -> Option<usize>
-        ensures { result ≡ place_of key.now self.now }
+        ensures { result ≡ index_of key.now self.now }
     {
         let end = self.items.len().min(first.saturating_add(4));
         for at in first..end {

@@ -5,8 +5,8 @@ ghost use Rattle.text_base.specs.Answers.{Answers};
 ghost use Rattle.local_rules.specs.declared.local.NodeFault.TheVariants.{Memory};
 ghost use Rattle.edge_rules.specs.Families.{AreFaultless};
 ghost use Rattle.family_edges.specs.Shown.{AreOfSomeDevice};
-ghost use Rattle.family_edges.specs.Next.{exit_in, local_of};
-ghost use Rattle.family_edges.specs.Exits.{exit_or, AreExits, AreExitsKnown, GivesExits};
+ghost use Rattle.family_edges.specs.Next.{local_of};
+ghost use Rattle.family_edges.specs.Exits.{exit_or, AreExits, GivesExits};
 ghost use Rattle.family_edges.specs.Tasks.{task_of};
 ghost use Rattle.family_edges.specs.Clauses.{AtNumber};
 
@@ -19,7 +19,7 @@ use local_rules::{Exit, NodeFault};
 use std::alloc::AllocError;
 
 // The exit of the node of this number, or its fault.
-fn exit_at(task: &Task<'_>, nodes: &Filled, at: usize) -> Result<Option<Exit>, NodeFault>
+pub(crate) fn exit_at(task: &Task<'_>, nodes: &Filled, at: usize) -> Result<Option<Exit>, NodeFault>
     requires place { at < length nodes.now }
     requires shown { AreOfSomeDevice nodes.now }
     ensures { AtNumber nodes.now at (λ n. Answers (λ x. x) Memory result (exit_or (local_of (task_of task.now) n))) }
@@ -28,28 +28,6 @@ fn exit_at(task: &Task<'_>, nodes: &Filled, at: usize) -> Result<Option<Exit>, N
     let state = nodes.state(at);
     let found = local(task.alloc, task.flash, task.assumptions, key, state)?;
     Ok(found.exit)
-}
-
-// The exit of the node of this number, if it has no fault. The exits of the first nodes may be given.
-pub(crate) fn exit_of(
-    task: &Task<'_>,
-    nodes: &Filled,
-    at: usize,
-    known: &[Option<Exit>],
-) -> Result<Option<Exit>, AllocError>
-    requires place { at < length nodes.now }
-    requires shown { AreOfSomeDevice nodes.now }
-    requires given { AreExitsKnown (task_of task.now) nodes.now known.now }
-    ensures { AtNumber nodes.now at (λ n. IfOk result (λ x. x ≡ exit_in (local_of (task_of task.now) n))) }
-{
-    if at < known.len() {
-        return Ok(known[at]);
-    }
-    match exit_at(task, nodes, at) {
-        Ok(exit) => Ok(exit),
-        Err(NodeFault::Memory) => Err(AllocError),
-        Err(_) => Ok(None),
-    }
 }
 
 /// The exits of all nodes if none has a fault, else the first fault. The local part of each node is computed once.

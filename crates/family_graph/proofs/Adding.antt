@@ -1,4 +1,4 @@
--- Places and edges of an instance, node by node.
+-- Closed nodes and edges of an instance, node by node.
 use Rattle.std.proofs.Common.{arith, refl, sym, ap, subst, ◌∙◌, ◌≡◌, ℕ, ◌+◌, ◌≤◌, ◌⊎◌, inl, inr, List, [], ◌∷◌, ◌++◌, length, Option, Some, None, slice_get, Contains}
 use Rattle.std.specs.List.{flat_map}
 use Rattle.std.proofs.lemmas.Option.{slice_get_within}
@@ -21,10 +21,10 @@ use Rattle.edge_rules.specs.Edges.{Enters}
 use Rattle.edge_rules.specs.Views.{IsSpan}
 use Rattle.instance_graph.specs.declared.graph.Entered.{Entered}
 use Rattle.instance_graph.specs.declared.graph.GraphInst.{GraphInst}
-use Rattle.instance_graph.specs.declared.graph.Place.{Place}
+use Rattle.instance_graph.specs.declared.graph.ClosedNode.{ClosedNode}
 use Rattle.family_graph.specs.declared.entering.Entering.{Entering}
 use Rattle.family_graph.specs.Graphs.{AreWaysOf, IsPeopled}
-use Rattle.family_graph.specs.Numbers.{number_in, AreInstNumbers, entry_of, unless_cut, entries_for, AddsAt, IsRecurTo, AreRecurs, AreRecursOf, IsPlaceBetween, IsEntryBetween, IsInstOf}
+use Rattle.family_graph.specs.Numbers.{number_in, AreInstNumbers, entry_of, unless_cut, entries_for, AddsAt, IsRecurTo, AreRecurs, AreRecursOf, IsNodeBetween, IsEntryBetween, IsInstOf}
 use Rattle.family_graph.proofs.Lists.{itself}
 use Rattle.family_graph.proofs.Insts.{number_is, number_there}
 use Rattle.family_graph.proofs.Ways.{entered_inst}
@@ -36,9 +36,9 @@ open_closed o h high e = cc
 closed_is : (a b : ℕ) → Closed a ≡ Closed b → a ≡ b
 closed_is a b e = cc
 
-place_is : (p : Place) (at offset : ℕ) → p.node ≡ at → p.offset ≡ offset → record { node = at; offset = offset } ≡ p
-place_is p at offset a b =
-    let mk : ℕ → ℕ → Place = λ x y. record { node = x; offset = y } in
+node_is : (p : ClosedNode) (at offset : ℕ) → p.node ≡ at → p.offset ≡ offset → record { node = at; offset = offset } ≡ p
+node_is p at offset a b =
+    let mk : ℕ → ℕ → ClosedNode = λ x y. record { node = x; offset = y } in
     ap (λ (x : ℕ). mk x offset) (sym a) ∙ ap (mk p.node) (sym b)
 
 entry_is : (e : Entered) (at offset into : ℕ) (way : GraphWay) → e.node ≡ at → e.offset ≡ offset → e.way ≡ way → e.into ≡ into → record { node = at; offset = offset; way = way; into = into } ≡ e
@@ -98,11 +98,11 @@ module _ (task : Task) (nodes : List Node) (insts : List InstKey) (numbers : Lis
 -- ---- one node more
 
 module _ (task : Task) (nodes : List Node) (insts : List InstKey) (low at : ℕ) (above : low ≤ at) (n : Node) (here : slice_get nodes at ≡ Some n) where
-  wider_place : (p : Place) → IsPlaceBetween nodes low at p → IsPlaceBetween nodes low (at + 1) p
-  wider_place p h = record { above = h.above; below = omega (arith, h.below); node = h.node; at = h.at; closed = h.closed }
+  wider_node : (p : ClosedNode) → IsNodeBetween nodes low at p → IsNodeBetween nodes low (at + 1) p
+  wider_node p h = record { above = h.above; below = omega (arith, h.below); node = h.node; at = h.at; closed = h.closed }
 
-  newer_place : (p : Place) → IsPlaceBetween nodes low (at + 1) p → (IsPlaceBetween nodes low at p) ⊎ ((p.node ≡ at) × (n.key.sp ≡ Closed p.offset))
-  newer_place p h =
+  newer_node : (p : ClosedNode) → IsNodeBetween nodes low (at + 1) p → (IsNodeBetween nodes low at p) ⊎ ((p.node ≡ at) × (n.key.sp ≡ Closed p.offset))
+  newer_node p h =
       elim (before_or_last p.node at h.below) [
         | inl less ↦ inl (record { above = h.above; below = less; node = h.node; at = h.at; closed = h.closed })
         | inr same ↦
@@ -110,25 +110,25 @@ module _ (task : Task) (nodes : List Node) (insts : List InstKey) (low at : ℕ)
             inr (same, subst (λ (m : Node). m.key.sp ≡ Closed p.offset) k h.closed)
       ]
 
-  pub places_more : (ways : List Entering) → (sp : SpForm) → n.key.sp ≡ sp → (ps ps' : List Place) (es es' : List Entered) → AddsAt task.assumptions insts at ways sp ps es ps' es'
-      → ((p : Place) → Contains ps p ↔ IsPlaceBetween nodes low at p) → (p : Place) → Contains ps' p ↔ IsPlaceBetween nodes low (at + 1) p
-  places_more ways (Open o high) is ps ps' es es' adds inv p = (
-    λ has. wider_place p ((inv p).0 (subst (λ (xs : List Place). Contains xs p) adds.0 has)),
-    λ b. elim (newer_place p b) [
-      | inl old ↦ subst (λ (xs : List Place). Contains xs p) (sym adds.0) ((inv p).1 old)
+  pub nodes_more : (ways : List Entering) → (sp : SpForm) → n.key.sp ≡ sp → (ps ps' : List ClosedNode) (es es' : List Entered) → AddsAt task.assumptions insts at ways sp ps es ps' es'
+      → ((p : ClosedNode) → Contains ps p ↔ IsNodeBetween nodes low at p) → (p : ClosedNode) → Contains ps' p ↔ IsNodeBetween nodes low (at + 1) p
+  nodes_more ways (Open o high) is ps ps' es es' adds inv p = (
+    λ has. wider_node p ((inv p).0 (subst (λ (xs : List ClosedNode). Contains xs p) adds.0 has)),
+    λ b. elim (newer_node p b) [
+      | inl old ↦ subst (λ (xs : List ClosedNode). Contains xs p) (sym adds.0) ((inv p).1 old)
       | inr new ↦ absurd (open_closed o p.offset high (sym is ∙ new.1))
     ],
   )
-  places_more ways (Closed o) is ps ps' es es' adds inv p = (
-    λ has. elim (Contains-append_cases ps (record { node = at; offset = o } ∷ []) p (subst (λ (xs : List Place). Contains xs p) adds.0 has)) [
-      | inl old ↦ wider_place p ((inv p).0 old)
-      | inr this ↦ subst (IsPlaceBetween nodes low (at + 1)) (sym (only (record { node = at; offset = o }) p this)) (record { above = above; below = omega arith; node = n; at = here; closed = is })
+  nodes_more ways (Closed o) is ps ps' es es' adds inv p = (
+    λ has. elim (Contains-append_cases ps (record { node = at; offset = o } ∷ []) p (subst (λ (xs : List ClosedNode). Contains xs p) adds.0 has)) [
+      | inl old ↦ wider_node p ((inv p).0 old)
+      | inr this ↦ subst (IsNodeBetween nodes low (at + 1)) (sym (only (record { node = at; offset = o }) p this)) (record { above = above; below = omega arith; node = n; at = here; closed = is })
     ],
-    λ b. subst (λ (xs : List Place). Contains xs p) (sym adds.0) (elim (newer_place p b) [
+    λ b. subst (λ (xs : List ClosedNode). Contains xs p) (sym adds.0) (elim (newer_node p b) [
       | inl old ↦ Contains-append_left ps (record { node = at; offset = o } ∷ []) p ((inv p).1 old)
       | inr new ↦
           Contains-append_right ps (record { node = at; offset = o } ∷ []) p
-          (subst (Contains (record { node = at; offset = o } ∷ [])) (place_is p at o new.0 (closed_is p.offset o (sym new.1 ∙ is))) (itself (record { node = at; offset = o })))
+          (subst (Contains (record { node = at; offset = o } ∷ [])) (node_is p at o new.0 (closed_is p.offset o (sym new.1 ∙ is))) (itself (record { node = at; offset = o })))
     ]),
   )
 
@@ -169,7 +169,7 @@ module _ (task : Task) (nodes : List Node) (insts : List InstKey) (low at : ℕ)
           whole = a.whole;
         }
 
-    pub entries_more : (ways : List Entering) → AreWaysOf task n ways → (sp : SpForm) → n.key.sp ≡ sp → (ps ps' : List Place) (es es' : List Entered) → AddsAt task.assumptions insts at ways sp ps es ps' es'
+    pub entries_more : (ways : List Entering) → AreWaysOf task n ways → (sp : SpForm) → n.key.sp ≡ sp → (ps ps' : List ClosedNode) (es es' : List Entered) → AddsAt task.assumptions insts at ways sp ps es ps' es'
         → ((e : Entered) → Contains es e ↔ IsEntryBetween task nodes insts low at e) → (e : Entered) → Contains es' e ↔ IsEntryBetween task nodes insts low (at + 1) e
     entries_more ways all (Open o high) is ps ps' es es' adds inv e = (
       λ has. wider_entry e ((inv e).0 (subst (λ (xs : List Entered). Contains xs e) adds.1 has)),
@@ -194,14 +194,14 @@ module _ (task : Task) (nodes : List Node) (insts : List InstKey) (low at : ℕ)
 -- ---- a whole instance
 
 pub instance_is : (task : Task) (nodes : List Node) (insts : List InstKey) (inst : InstKey) (low high : ℕ) (g : GraphInst) (own : List Entered) → g.key ≡ inst → IsSpan nodes inst low high
-    → ((p : Place) → Contains g.offsets p ↔ IsPlaceBetween nodes low high p) → ((e : Entered) → Contains own e ↔ IsEntryBetween task nodes insts low high e)
+    → ((p : ClosedNode) → Contains g.offsets p ↔ IsNodeBetween nodes low high p) → ((e : Entered) → Contains own e ↔ IsEntryBetween task nodes insts low high e)
     → AreRecursOf task.assumptions insts (length nodes) inst own g.entered → IsInstOf task nodes insts inst g
-instance_is task nodes insts inst low high g own is span places entries recurs =
+instance_is task nodes insts inst low high g own is span closed entries recurs =
     record {
       key = is;
-      places = λ p. (
-        λ has. let b = (places p).0 has in record { node = b.node; at = b.at; same = (span.exact p.node b.node b.at).1 (b.above, b.below); closed = b.closed },
-        λ of. let b = (span.exact p.node of.node of.at).0 of.same in (places p).1 (record { above = b.0; below = b.1; node = of.node; at = of.at; closed = of.closed }),
+      closed = λ p. (
+        λ has. let b = (closed p).0 has in record { node = b.node; at = b.at; same = (span.exact p.node b.node b.at).1 (b.above, b.below); closed = b.closed },
+        λ of. let b = (span.exact p.node of.node of.at).0 of.same in (closed p).1 (record { above = b.0; below = b.1; node = of.node; at = of.at; closed = of.closed }),
       );
       entered = λ e. (
         λ has. elim ((recurs e).0 has) [
@@ -237,21 +237,21 @@ instance_is task nodes insts inst low high g own is span places entries recurs =
       );
     }
 
--- the places and edges that a node with a whole stack pointer adds
-pub adds_closed : (A : List Entry) (insts : List InstKey) (at : ℕ) (ways : List Entering) (sp : SpForm) (o : ℕ) (ps ps' : List Place) (es es' : List Entered)
+-- what a closed node adds
+pub adds_closed : (A : List Entry) (insts : List InstKey) (at : ℕ) (ways : List Entering) (sp : SpForm) (o : ℕ) (ps ps' : List ClosedNode) (es es' : List Entered)
     → sp ≡ Closed o → ps' ≡ ps ++ record { node = at; offset = o } ∷ [] → es' ≡ es ++ flat_map (entries_for A insts (record { node = at; offset = o })) ways
     → AddsAt A insts at ways sp ps es ps' es'
-adds_closed A insts at ways sp o ps ps' es es' is places entries = subst (λ (f : SpForm). AddsAt A insts at ways f ps es ps' es') (sym is) (places, entries)
+adds_closed A insts at ways sp o ps ps' es es' is closed entries = subst (λ (f : SpForm). AddsAt A insts at ways f ps es ps' es') (sym is) (closed, entries)
 
 -- the instance with these lists
-pub instance_made : (task : Task) (nodes : List Node) (insts : List InstKey) (key inst : InstKey) (low high at : ℕ) (places ps : List Place) (entries all es : List Entered)
-    → key ≡ inst → IsSpan nodes key low high → at ≡ high → ps ≡ places → es ≡ all
-    → ((p : Place) → Contains places p ↔ IsPlaceBetween nodes low at p) → ((e : Entered) → Contains entries e ↔ IsEntryBetween task nodes insts low at e)
+pub instance_made : (task : Task) (nodes : List Node) (insts : List InstKey) (key inst : InstKey) (low high at : ℕ) (closed ps : List ClosedNode) (entries all es : List Entered)
+    → key ≡ inst → IsSpan nodes key low high → at ≡ high → ps ≡ closed → es ≡ all
+    → ((p : ClosedNode) → Contains closed p ↔ IsNodeBetween nodes low at p) → ((e : Entered) → Contains entries e ↔ IsEntryBetween task nodes insts low at e)
     → AreRecursOf task.assumptions insts (length nodes) key entries all → IsInstOf task nodes insts inst (record { key = key; offsets = ps; entered = es })
-instance_made task nodes insts key inst low high at places ps entries all es same span end a b inv inv' recurs =
+instance_made task nodes insts key inst low high at closed ps entries all es same span end a b inv inv' recurs =
     subst (λ (k : InstKey). IsInstOf task nodes insts k (record { key = key; offsets = ps; entered = es })) same
     (instance_is task nodes insts key low high (record { key = key; offsets = ps; entered = es }) entries refl span
-    (λ p. subst (λ (xs : List Place). Contains xs p ↔ IsPlaceBetween nodes low high p) (sym a) (subst (λ (h : ℕ). Contains places p ↔ IsPlaceBetween nodes low h p) end (inv p)))
+    (λ p. subst (λ (xs : List ClosedNode). Contains xs p ↔ IsNodeBetween nodes low high p) (sym a) (subst (λ (h : ℕ). Contains closed p ↔ IsNodeBetween nodes low h p) end (inv p)))
     (λ e. subst (λ (h : ℕ). Contains entries e ↔ IsEntryBetween task nodes insts low h e) end (inv' e))
     (subst (AreRecursOf task.assumptions insts (length nodes) key entries) (sym b) recurs))
 

@@ -17,11 +17,11 @@ use Rattle.local_rules.specs.declared.local.Node.{Node}
 use Rattle.instance_graph.specs.declared.graph.Entered.{Entered}
 use Rattle.instance_graph.specs.declared.graph.GraphInst.{GraphInst}
 use Rattle.instance_graph.specs.declared.graph.Link.{Link}
-use Rattle.instance_graph.specs.declared.graph.Place.{Place}
+use Rattle.instance_graph.specs.declared.graph.ClosedNode.{ClosedNode}
 use Rattle.instance_graph.specs.Graph as graph
 use Rattle.instance_graph.specs.Chain.{way_numbers, IsChainFrom, ends, goes, edge_cmp, turn_of, entry_of}
 use Rattle.instance_graph.specs.Least.{IsLeast}
-use Rattle.family_graph.specs.Graphs.{insts_of, HasPlaceOf, HasEntryOf, IsGraphOf}
+use Rattle.family_graph.specs.Graphs.{insts_of, HasClosedNodeOf, HasEntryOf, IsGraphOf}
 use Rattle.family_graph.specs.Laws.{GraphsAreAlike}
 use Rattle.family_graph.proofs.Graphs.{keys_long}
 use Rattle.local_rules.specs.Site.{Task}
@@ -87,14 +87,14 @@ module _ (task : Task) (nodes : List Node) (gs hs : List GraphInst) (g : IsGraph
   long : length gs ≡ length hs
   long = sym (keys_long gs) ∙ ap length keys ∙ keys_long hs
 
-  place_to : (i : ℕ) (p : Place) → graph.HasPlace gs i p → graph.HasPlace hs i p
-  place_to i p has = (h.places i p).1 (subst (λ (ks : List InstKey). HasPlaceOf nodes ks i p) keys ((g.places i p).0 has))
+  node_to : (i : ℕ) (p : ClosedNode) → graph.HasClosedNode gs i p → graph.HasClosedNode hs i p
+  node_to i p has = (h.closed i p).1 (subst (λ (ks : List InstKey). HasClosedNodeOf nodes ks i p) keys ((g.closed i p).0 has))
 
   entry_to : (i : ℕ) (e : Entered) → graph.EntersAlong gs i e → graph.EntersAlong hs i e
   entry_to i e has = (h.entered i e).1 (subst (λ (ks : List InstKey). HasEntryOf task nodes ks i e) keys ((g.entered i e).0 has))
 
-  place_from : (i : ℕ) (p : Place) → graph.HasPlace hs i p → graph.HasPlace gs i p
-  place_from i p has = (g.places i p).1 (subst (λ (ks : List InstKey). HasPlaceOf nodes ks i p) (sym keys) ((h.places i p).0 has))
+  node_from : (i : ℕ) (p : ClosedNode) → graph.HasClosedNode hs i p → graph.HasClosedNode gs i p
+  node_from i p has = (g.closed i p).1 (subst (λ (ks : List InstKey). HasClosedNodeOf nodes ks i p) (sym keys) ((h.closed i p).0 has))
 
   entry_from : (i : ℕ) (e : Entered) → graph.EntersAlong hs i e → graph.EntersAlong gs i e
   entry_from i e has = (g.entered i e).1 (subst (λ (ks : List InstKey). HasEntryOf task nodes ks i e) (sym keys) ((h.entered i e).0 has))
@@ -105,11 +105,11 @@ module _ (task : Task) (nodes : List Node) (gs hs : List GraphInst) (g : IsGraph
         ranks_length = l.ranks_length ∙ sym long;
         needs_length = l.needs_length ∙ sym long;
         are_ranks = λ i e has. l.are_ranks i e (entry_to i e has);
-        are_needs = record { offsets = λ i p has. l.are_needs.offsets i p (place_to i p has); entered = λ i e has. l.are_needs.entered i e (entry_to i e has) };
+        are_needs = record { offsets = λ i p has. l.are_needs.offsets i p (node_to i p has); entered = λ i e has. l.are_needs.entered i e (entry_to i e has) };
         least_ranks = λ rank are i within. l.least_ranks rank (λ j e has. are j e (entry_from j e has)) i (omega (arith, within, long));
         least_needs = λ need are i within.
             l.least_needs need
-            (record { offsets = λ j p has. are.offsets j p (place_from j p has); entered = λ j e has. are.entered j e (entry_from j e has) }) i (omega (arith, within, long));
+            (record { offsets = λ j p has. are.offsets j p (node_from j p has); entered = λ j e has. are.entered j e (entry_from j e has) }) i (omega (arith, within, long));
       }
 
   entry_same : (i : ℕ) → entry_of (slice_get hs i) ≡ entry_of (slice_get gs i)
@@ -128,9 +128,9 @@ module _ (task : Task) (nodes : List Node) (gs hs : List GraphInst) (g : IsGraph
 
   pub chain_as : (back : ℕ) (needs : List ℕ) (i above : ℕ) (links : List Link) → IsChainFrom back hs needs i above links → IsChainFrom back gs needs i above links
   chain_as back needs i above links (ends _ _ p first) =
-      ends i above p (record { is = (place_from i p first.is.0, first.is.1); first = λ q has. first.first q (place_to i q has.0, has.1) })
+      ends i above p (record { is = (node_from i p first.is.0, first.is.1); first = λ q has. first.first q (node_to i q has.0, has.1) })
   chain_as back needs i above links (goes _ _ e rest none first more) =
-      goes i above e rest (λ p has. none p (place_to i p has.0, has.1))
+      goes i above e rest (λ p has. none p (node_to i p has.0, has.1))
       (record {
         is = (entry_from i e first.is.0, first.is.1);
         first = λ d has. subst (λ (o : Ordering). o ≢ Less) (cmp_same d e) (first.first d (entry_to i d has.0, has.1));

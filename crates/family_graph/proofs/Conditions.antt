@@ -24,9 +24,9 @@ use Rattle.edge_rules.specs.Edges.{Enters, entering}
 use Rattle.edge_rules.specs.Nest.{NestEdge, recurs, enters as by_node}
 use Rattle.edge_rules.specs.Families.{IsCovered}
 use Rattle.instance_graph.specs.declared.graph.GraphInst.{GraphInst}
-use Rattle.instance_graph.specs.declared.graph.Place.{Place}
+use Rattle.instance_graph.specs.declared.graph.ClosedNode.{ClosedNode}
 use Rattle.instance_graph.specs.Graph as graph
-use Rattle.instance_graph.specs.Chain.{HasSome, HavePlaces}
+use Rattle.instance_graph.specs.Chain.{HasSome, HaveClosedNodes}
 use Rattle.instance_graph.specs.Least.{IsLeast}
 use Rattle.instance_graph.specs.declared.graph.Entered.{Entered}
 use Rattle.family_graph.specs.Graphs.{insts_of, IsPeopled, AreRooted, HasEntryOf, IsGraphOf}
@@ -116,9 +116,9 @@ module _ (task : Task) (c : Claim) (nodes : List Node) (meets : MeetsConditions 
     suffices =
         record {
           offsets = λ i p has.
-              let h = (is.places i p).0 has in
+              let h = (is.closed i p).0 has in
               subst (λ (x : InstKey). p.offset ≤ need_in c.instances x) (key_is i h.inst h.is)
-              ((meets.needs h.inst).offsets h.place.node p.offset (member h.place.node p.node h.place.at) h.place.same h.place.closed);
+              ((meets.needs h.inst).offsets h.of.node p.offset (member h.of.node p.node h.of.at) h.of.same h.of.closed);
           entered = λ i e enters.
               let h = (is.entered i e).0 enters in
               let n = (meets.needs h.inst).entered h.into e.offset (nest_edge i e h) in
@@ -126,39 +126,39 @@ module _ (task : Task) (c : Claim) (nodes : List Node) (meets : MeetsConditions 
               (subst (λ (x : InstKey). e.offset + back_of (device_of task.flash) + need_in c.instances h.into ≤ need_in c.instances x) (key_is i h.inst h.is) n);
         }
 
-    -- the covered first node of an instance is its place
-    place_by : (inst : InstKey) (i : ℕ) → slice_get (insts_of gs) i ≡ Some inst → HasKey nodes (entry_key inst) → HasSome gs i
-    place_by inst i e has =
-        let p : Place = record { node = has.1.0.0; offset = 0 } in (
+    -- the covered first node of an instance is closed
+    node_by : (inst : InstKey) (i : ℕ) → slice_get (insts_of gs) i ≡ Some inst → HasKey nodes (entry_key inst) → HasSome gs i
+    node_by inst i e has =
+        let p : ClosedNode = record { node = has.1.0.0; offset = 0 } in (
           p,
-          (is.places i p).1
+          (is.closed i p).1
               (record {
                 inst = inst;
                 is = e;
-                place = record { node = has.0; at = get_contained nodes has.0 has.1.0; same = ap (λ (k : NodeKey). k.inst) has.1.1; closed = ap (λ (k : NodeKey). k.sp) has.1.1 };
+                of = record { node = has.0; at = get_contained nodes has.0 has.1.0; same = ap (λ (k : NodeKey). k.inst) has.1.1; closed = ap (λ (k : NodeKey). k.sp) has.1.1 };
               }),
         )
 
-    place_at : (inst : InstKey) (i : ℕ) → slice_get (insts_of gs) i ≡ Some inst → (s : _) → IsCovered nodes (record { key = entry_key inst; state = s }) → HasSome gs i
-    place_at inst i e s covered = place_by inst i e (record { key = entry_key inst; state = covered.state }, (covered.present, refl))
+    node_at : (inst : InstKey) (i : ℕ) → slice_get (insts_of gs) i ≡ Some inst → (s : _) → IsCovered nodes (record { key = entry_key inst; state = s }) → HasSome gs i
+    node_at inst i e s covered = node_by inst i e (record { key = entry_key inst; state = covered.state }, (covered.present, refl))
 
     pub root_first : slice_get (insts_of gs) 0 ≡ Some root_inst
     root_first =
         let has = (is.insts root_inst).1 (record { key = entry_key root_inst; state = meets.reset.state }, meets.reset.present, refl) in
         root_at (insts_of gs) has.0 has.1 is.ascending (get_contained (insts_of gs) root_inst has)
 
-    pub places : AreRooted task nodes → HavePlaces gs
-    places rooted =
+    pub have_closed_nodes : AreRooted task nodes → HaveClosedNodes gs
+    have_closed_nodes rooted =
         record {
-          root = place_at root_inst 0 root_first _ meets.reset;
+          root = node_at root_inst 0 root_first _ meets.reset;
           entered = λ i e enters.
               let h = (is.entered i e).0 enters in
               elim h.edge [
-                | inl q ↦ place_at h.into e.into h.leads _ (landed q.node q.kind h.into q.back (member q.node e.node q.at) q.enters)
+                | inl q ↦ node_at h.into e.into h.leads _ (landed q.node q.kind h.into q.back (member q.node e.node q.at) q.enters)
                 | inr q ↦
                     let n = (is.insts h.into).0 (contained_at (insts_of gs) e.into h.into h.leads) in
                     let own = rooted n.0 e.offset n.1 (subst (λ (k : InstKey). cut_at task.assumptions k ≡ Some e.offset) (sym n.2) q.cut) in
-                    place_by h.into e.into h.leads (subst (λ (k : InstKey). HasKey nodes (entry_key k)) n.2 own)
+                    node_by h.into e.into h.leads (subst (λ (k : InstKey). HasKey nodes (entry_key k)) n.2 own)
               ];
         }
 

@@ -19,9 +19,9 @@ use Rattle.local_rules.specs.declared.local.Node.{Node}
 use Rattle.family_edges.specs.Shown.{AreOfSomeDevice}
 use Rattle.instance_graph.specs.declared.graph.Entered.{Entered}
 use Rattle.instance_graph.specs.declared.graph.GraphInst.{GraphInst}
-use Rattle.instance_graph.specs.declared.graph.Place.{Place}
+use Rattle.instance_graph.specs.declared.graph.ClosedNode.{ClosedNode}
 use Rattle.instance_graph.specs.Graph as graph
-use Rattle.family_graph.specs.Graphs.{insts_of, HasInst, HasPlaceOf, HasEntryOf, IsGraphOf}
+use Rattle.family_graph.specs.Graphs.{insts_of, HasInst, HasClosedNodeOf, HasEntryOf, IsGraphOf}
 use Rattle.family_graph.specs.Numbers.{AreInstNumbers, IsInstOf, AreGraphInsts}
 use Rattle.family_graph.proofs.Lists.{get_left}
 use Rattle.local_rules.specs.Site.{Task}
@@ -70,14 +70,14 @@ module _ (task : Task) (nodes : List Node) (insts : List InstKey) where
         let m = made.each i inst (slice_get_within insts i inst e) e in
         subst (IsInstOf task nodes insts inst) (one_at gs i m.0 g m.1 is) m.2
 
-    place_of : (i : ℕ) (p : Place) → graph.HasPlace gs i p ↔ HasPlaceOf nodes insts i p
-    place_of i p = (
+    node_of : (i : ℕ) (p : ClosedNode) → graph.HasClosedNode gs i p ↔ HasClosedNodeOf nodes insts i p
+    node_of i p = (
       λ h.
           let k = at_key i h.inst h.is in
-          record { inst = h.inst.key; is = k; place = ((inst_at i h.inst h.inst.key h.is k).places p).0 h.has },
+          record { inst = h.inst.key; is = k; of = ((inst_at i h.inst h.inst.key h.is k).closed p).0 h.has },
       λ h.
           let m = made.each i h.inst (slice_get_within insts i h.inst h.is) h.is in
-          record { inst = m.0; is = m.1; has = (m.2.places p).1 h.place },
+          record { inst = m.0; is = m.1; has = (m.2.closed p).1 h.of },
     )
 
     entry_of : (i : ℕ) (e : Entered) → graph.EntersAlong gs i e ↔ HasEntryOf task nodes insts i e
@@ -104,7 +104,7 @@ module _ (task : Task) (nodes : List Node) (insts : List InstKey) where
         record {
           ascending = subst (IsStrictlySortedBy inst_cmp) (sym keys_are) are.ascending;
           insts = λ inst. subst (λ (ks : List InstKey). Contains ks inst ↔ HasInst nodes inst) (sym keys_are) (inst_of inst);
-          places = λ i p. subst (λ (ks : List InstKey). graph.HasPlace gs i p ↔ HasPlaceOf nodes ks i p) (sym keys_are) (place_of i p);
+          closed = λ i p. subst (λ (ks : List InstKey). graph.HasClosedNode gs i p ↔ HasClosedNodeOf nodes ks i p) (sym keys_are) (node_of i p);
           entered = λ i e. subst (λ (ks : List InstKey). graph.EntersAlong gs i e ↔ HasEntryOf task nodes ks i e) (sym keys_are) (entry_of i e);
         }
 
@@ -130,7 +130,7 @@ module _ (task : Task) (nodes : List Node) (shown : AreOfSomeDevice nodes) (entr
       record {
         some = omega (arith, some_inst some, keys_long gs);
         few = few;
-        offsets = λ i p h. let q = ((is.places i p).0 h).place in small q.node p.node p.offset q.at q.closed;
-        places = λ i e h. let q = (is.entered i e).0 h in elim q.edge [ inl x ↦ small x.node e.node e.offset x.at x.closed | inr x ↦ cut_depths_are_small task.assumptions q.into e.offset entries x.cut ];
+        offsets = λ i p h. let q = ((is.closed i p).0 h).of in small q.node p.node p.offset q.at q.closed;
+        edges = λ i e h. let q = (is.entered i e).0 h in elim q.edge [ inl x ↦ small x.node e.node e.offset x.at x.closed | inr x ↦ cut_depths_are_small task.assumptions q.into e.offset entries x.cut ];
         within = λ i e h. let q = (is.entered i e).0 h in omega (arith, slice_get_within (insts_of gs) e.into q.into q.leads, keys_long gs);
       }

@@ -29,7 +29,7 @@ pub less_differs : (a b : InstKey) → inst_cmp a b ≡ Less → same_inst a b �
 unfolding same_inst
 less_differs a b e = ap is_eq e
 
--- an instance's number is its place
+-- an instance's number is its index
 pub number_is : (xs : List InstKey) (i : ℕ) (x : InstKey) → IsStrictlySortedBy inst_cmp xs → slice_get xs i ≡ Some x → number_in xs x ≡ i
 unfolding IsStrictlySortedBy
 number_is [] i x h e = absurd (none-some x e)

@@ -15,7 +15,7 @@ use Rattle.local_laws.specs.Laws.{HasKey}
 use Rattle.edge_rules.specs.declared.edge.Edge.{Edge}
 use Rattle.edge_rules.specs.Edges.{is_entry, Enters, by_call, by_interrupt, IsEdge, moving, entering, returning}
 use Rattle.edge_rules.specs.Places.{found_at, none_from}
-use Rattle.edge_rules.specs.Views.{place_of}
+use Rattle.edge_rules.specs.Views.{index_of}
 use Rattle.family_edges.specs.declared.landing.Landing.{Landing}
 use Rattle.family_edges.specs.Landings.{IsLanding, AreLandingsOf, AreLandings}
 use Rattle.family_edges.proofs.Landed.{inside_at}
@@ -33,10 +33,10 @@ kind_enters task n way inst back (by_call offset site f sp has) = refl
 kind_enters task n way inst back (by_interrupt offset v clears f sp i delay on allowed dog) = refl
 
 -- the number of an existing key
-place_there : (k : NodeKey) (nodes : List Node) → HasKey nodes k → (at : ℕ) × (place_of k nodes ≡ Some at)
-place_there k nodes h = by (place_of k nodes) refl
+number_there : (k : NodeKey) (nodes : List Node) → HasKey nodes k → (at : ℕ) × (index_of k nodes ≡ Some at)
+number_there k nodes h = by (index_of k nodes) refl
   where
-    by : (o : Option ℕ) → place_of k nodes ≡ o → (at : ℕ) × (place_of k nodes ≡ Some at)
+    by : (o : Option ℕ) → index_of k nodes ≡ o → (at : ℕ) × (index_of k nodes ≡ Some at)
     by None e = absurd (none_from k nodes 0 e h.0 h.1.0 h.1.1)
     by (Some at) e = (at, e)
 
@@ -56,7 +56,7 @@ way_in nodes l w e same =
     (subst (λ (v : Entering). Contains (v ∷ []) w) (sym same) (first_in w []))
 
 -- the instance of a node that is found
-inst_at : (k : NodeKey) (nodes : List Node) (at : ℕ) → place_of k nodes ≡ Some at → inst_of (slice_get nodes at) ≡ k.inst
+inst_at : (k : NodeKey) (nodes : List Node) (at : ℕ) → index_of k nodes ≡ Some at → inst_of (slice_get nodes at) ≡ k.inst
 inst_at k nodes at e = let w = found_at k nodes at e in ap inst_of w.is ∙ ap (λ (j : NodeKey). j.inst) w.same
 
 -- ---- one node
@@ -79,7 +79,7 @@ module _ (task : Task) (nodes : List Node) (peopled : IsPeopled task nodes) wher
   ways_are n landings member are w = (
     λ h. each_of_join (way_of nodes) (λ v. (back : ℕ) × Enters task n v.kind v.inst back) landings (λ l v has on. way_from n l v ((are l).0 has) on) w h,
     λ x.
-        let at = place_there (entry_key w.inst) nodes (peopled n w.kind w.inst x.0 member x.1) in
+        let at = number_there (entry_key w.inst) nodes (peopled n w.kind w.inst x.0 member x.1) in
         let l : Landing = record { kind = w.kind; at = at.0 } in
         let e : Edge = record { kind = w.kind; to = entry_key w.inst; state = entered n.state } in
         let landing : IsLanding task nodes n l = record { edge = e; is = entering w.kind w.inst x.0 x.1; kind = refl; at = at.1 } in

@@ -13,7 +13,7 @@ use Rattle.instance_graph.specs.declared.graph.GraphWay.TheVariants.{Enters as E
 use Rattle.family_graph.specs.declared.entering.Entering.{Entering}
 use Rattle.instance_graph.specs.declared.graph.Entered.{Entered}
 use Rattle.instance_graph.specs.declared.graph.GraphInst.{GraphInst}
-use Rattle.instance_graph.specs.declared.graph.Place.{Place}
+use Rattle.instance_graph.specs.declared.graph.ClosedNode.{ClosedNode}
 use Rattle.instance_graph.specs.Graph as graph
 use Rattle.local_rules.specs.Site.{Task}
 
@@ -46,8 +46,8 @@ pub record AreWaysTo (task : Task) (nodes : List Node) (count : ℕ) (all : List
 abbrev pub AreWays : Task → List Node → List (List Entering) → Type 0
 AreWays task nodes all = AreWaysTo task nodes (length nodes) all
 
--- the place's node belongs to this instance and has a whole stack pointer
-pub record IsGraphPlace (nodes : List Node) (inst : InstKey) (p : Place) : Type 0 where
+-- the closed node belongs to this instance
+pub record IsGraphNode (nodes : List Node) (inst : InstKey) (p : ClosedNode) : Type 0 where
   pub node : Node
   pub at : slice_get nodes p.node ≡ Some node
   pub same : node.key.inst ≡ inst
@@ -72,11 +72,11 @@ pub record IsRecurOf (task : Task) (nodes : List Node) (inst into : InstKey) (e 
   pub behind : e.node ≡ length nodes
   pub cut : cut_at task.assumptions into ≡ Some e.offset
 
--- the place belongs to the instance of this number
-pub record HasPlaceOf (nodes : List Node) (insts : List InstKey) (i : ℕ) (p : Place) : Type 0 where
+-- the closed node belongs to the instance of this number
+pub record HasClosedNodeOf (nodes : List Node) (insts : List InstKey) (i : ℕ) (p : ClosedNode) : Type 0 where
   pub inst : InstKey
   pub is : slice_get insts i ≡ Some inst
-  pub place : IsGraphPlace nodes inst p
+  pub of : IsGraphNode nodes inst p
 
 -- the edge leads from the instance of this number to the edge's target
 pub record HasEntryOf (task : Task) (nodes : List Node) (insts : List InstKey) (i : ℕ) (e : Entered) : Type 0 where
@@ -86,11 +86,11 @@ pub record HasEntryOf (task : Task) (nodes : List Node) (insts : List InstKey) (
   pub leads : slice_get insts e.into ≡ Some into
   pub edge : IsEntryOf task nodes inst into e ⊎ IsRecurOf task nodes inst into e
 
--- The graph's instances are those with nodes, numbered in the order of keys. An instance's places are its nodes with a whole stack
--- pointer, and its edges are the entries by its nodes into instances that aren't cut; the root has an edge to each cut one besides. Nodes
--- are named by their numbers in the family.
+-- The graph's instances are those with nodes, numbered in the order of keys. An instance has its closed nodes, and an edge for each entry
+-- by one of its nodes into an instance that isn't cut; the root has an edge to each cut one besides. Nodes are named by their numbers in the
+-- family.
 pub record IsGraphOf (task : Task) (nodes : List Node) (gs : List GraphInst) : Type 0 where
   pub ascending : IsStrictlySortedBy inst_cmp (insts_of gs)
   pub insts : (inst : InstKey) → Contains (insts_of gs) inst ↔ HasInst nodes inst
-  pub places : (i : ℕ) (p : Place) → graph.HasPlace gs i p ↔ HasPlaceOf nodes (insts_of gs) i p
+  pub closed : (i : ℕ) (p : ClosedNode) → graph.HasClosedNode gs i p ↔ HasClosedNodeOf nodes (insts_of gs) i p
   pub entered : (i : ℕ) (e : Entered) → graph.EntersAlong gs i e ↔ HasEntryOf task nodes (insts_of gs) i e

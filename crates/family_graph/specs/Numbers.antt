@@ -1,4 +1,4 @@
--- Numbers of instances, and places and edges by node.
+-- Numbers of instances, and closed nodes and edges by number.
 use Rattle.std.specs.Prelude.{ℕ, ◌+◌, ◌-◌, ◌≡◌, ◌<◌, ◌≤◌, ◌↔◌, ◌⊎◌, if◌then◌else◌, List, [], ◌∷◌, ◌++◌, length, Option, Some, None, Contains, slice_get, slice_index}
 use Rattle.std.specs.List.{flat_map}
 use Rattle.std.specs.List.Sorted.{IsStrictlySortedBy}
@@ -15,10 +15,10 @@ use Rattle.edge_rules.specs.Edges.{is_entry, Enters}
 use Rattle.family_edges.specs.declared.landing.Landing.{Landing}
 use Rattle.instance_graph.specs.declared.graph.Entered.{Entered}
 use Rattle.instance_graph.specs.declared.graph.GraphInst.{GraphInst}
-use Rattle.instance_graph.specs.declared.graph.Place.{Place}
+use Rattle.instance_graph.specs.declared.graph.ClosedNode.{ClosedNode}
 use Rattle.instance_graph.specs.declared.graph.GraphWay.TheVariants.{Enters as Entry_by, Recur}
 use Rattle.family_graph.specs.declared.entering.Entering.{Entering}
-use Rattle.family_graph.specs.Graphs.{HasInst, IsGraphPlace, IsEntryOf, IsRecurOf}
+use Rattle.family_graph.specs.Graphs.{HasInst, IsGraphNode, IsEntryOf, IsRecurOf}
 use Rattle.local_rules.specs.Site.{Task}
 
 -- the instance of the node of this number has its first node, if it is cut
@@ -51,7 +51,7 @@ pub record AreInstNumbers (nodes : List Node) (count : ℕ) (insts : List InstKe
   pub named : (at : ℕ) (n : Node) → at < count → slice_get nodes at ≡ Some n → slice_get insts (slice_index numbers at) ≡ Some n.key.inst
   pub last : (n : Node) → 0 < count → slice_get nodes (count - 1) ≡ Some n → EndsWith insts n.key.inst
 
--- ---- places and edges
+-- ---- closed nodes and edges
 
 -- the instance that an edge with this target enters, if it enters one
 abbrev pub inst_of : Option Node → InstKey
@@ -64,8 +64,8 @@ way_of nodes l = if is_entry l.kind then record { kind = l.kind; inst = inst_of 
 abbrev pub ways_by : List Node → List Landing → List Entering
 ways_by nodes landings = flat_map (way_of nodes) landings
 
--- the edge of the graph for an entry by the node of this place
-abbrev pub entry_of : List InstKey → Place → Entering → Entered
+-- the edge of the graph for an entry by this closed node
+abbrev pub entry_of : List InstKey → ClosedNode → Entering → Entered
 entry_of insts p w = record { node = p.node; offset = p.offset; way = Entry_by w.kind; into = number_in insts w.inst }
 
 -- none, if the entered instance is cut
@@ -73,11 +73,11 @@ abbrev pub unless_cut : Option ℕ → Entered → List Entered
 unless_cut None e = e ∷ []
 unless_cut (Some depth) e = []
 
-abbrev pub entries_for : List Entry → List InstKey → Place → Entering → List Entered
+abbrev pub entries_for : List Entry → List InstKey → ClosedNode → Entering → List Entered
 entries_for A insts p w = unless_cut (cut_at A w.inst) (entry_of insts p w)
 
--- the places and edges that the node of this number adds, if it has these entries
-abbrev pub AddsAt : List Entry → List InstKey → ℕ → List Entering → SpForm → List Place → List Entered → List Place → List Entered → Type 0
+-- the closed nodes and edges that the node of this number adds, if it has these entries
+abbrev pub AddsAt : List Entry → List InstKey → ℕ → List Entering → SpForm → List ClosedNode → List Entered → List ClosedNode → List Entered → Type 0
 AddsAt A insts at ways (Open offset high) ps es ps' es' = (ps' ≡ ps) × (es' ≡ es)
 AddsAt A insts at ways (Closed offset) ps es ps' es' =
     (ps' ≡ ps ++ record { node = at; offset = offset } ∷ []) × (es' ≡ es ++ flat_map (entries_for A insts (record { node = at; offset = offset })) ways)
@@ -99,8 +99,8 @@ AreRecurs A insts behind count old new = (e : Entered) → Contains new e ↔ (C
 abbrev pub AreRecursOf : List Entry → List InstKey → ℕ → InstKey → List Entered → List Entered → Type 0
 AreRecursOf A insts behind inst old new = (e : Entered) → Contains new e ↔ (Contains old e ⊎ ((inst ≡ root_inst) × IsRecurTo A insts behind (length insts) e))
 
--- a place of a node between these numbers
-pub record IsPlaceBetween (nodes : List Node) (low high : ℕ) (p : Place) : Type 0 where
+-- a closed node between these numbers
+pub record IsNodeBetween (nodes : List Node) (low high : ℕ) (p : ClosedNode) : Type 0 where
   pub above : low ≤ p.node
   pub below : p.node < high
   pub node : Node
@@ -128,10 +128,10 @@ pub record IsEntryFrom (task : Task) (nodes : List Node) (insts : List InstKey) 
   pub leads : slice_get insts e.into ≡ Some into
   pub edge : IsEntryOf task nodes inst into e ⊎ IsRecurOf task nodes inst into e
 
--- the places and edges are those of this instance
+-- the closed nodes and edges are those of this instance
 pub record IsInstOf (task : Task) (nodes : List Node) (insts : List InstKey) (inst : InstKey) (g : GraphInst) : Type 0 where
   pub key : g.key ≡ inst
-  pub places : (p : Place) → Contains g.offsets p ↔ IsGraphPlace nodes inst p
+  pub closed : (p : ClosedNode) → Contains g.offsets p ↔ IsGraphNode nodes inst p
   pub entered : (e : Entered) → Contains g.entered e ↔ IsEntryFrom task nodes insts inst e
 
 -- the first instances, in the order of their numbers

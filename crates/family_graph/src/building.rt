@@ -14,58 +14,62 @@ use crate::entering::Entering;
 use crate::numbering::{Numbering, number_of, numbered};
 use avr_model::listed::Listed;
 use family_edges::{Filled, Task};
-use instance_graph::{Entered, Graph, GraphInst, GraphWay, Place};
+use instance_graph::{ClosedNode, Entered, Graph, GraphInst, GraphWay};
 use node_keys::{InstKey, SpForm};
 use std::alloc::AllocError;
 
-// The places and edges of an instance found so far.
+// The closed nodes and edges of an instance found so far.
 #[derive(Drop)]
 struct Parts {
-    offsets: Vec<Place>,
+    offsets: Vec<ClosedNode>,
     entered: Vec<Entered>,
 }
 
-// The edge of the graph for an entry by the node of this place, unless the instance is cut.
+// A family whose instances are numbered.
+#[derive(Clone, Copy)]
+struct NumberedFamily<'a, 't> {
+    task: &'a Task<'t>,
+    nodes: &'a Filled,
+    numbering: &'a Numbering,
+}
+
+// The edge of the graph for an entry by this closed node, unless the instance is cut.
 fn add_entry(
-    task: &Task<'_>,
-    nodes: &Filled,
-    numbering: &Numbering,
-    place: Place,
+    family: &NumberedFamily<'_, '_>,
+    closed: ClosedNode,
     way: &Entering,
     entered: &mut Vec<Entered>,
 ) -> Result<(), AllocError>
-    requires numbers { NumbersAll nodes.now numbering.now }
-    requires has { HasInst nodes.now way.now.inst }
-    ensures { Grows result entered.old.items entered.new.items (entries_for task.now.assumptions.now numbering.now.insts.items place way.now) }
+    requires numbers { NumbersAll family.now.nodes.now family.now.numbering.now }
+    requires has { HasInst family.now.nodes.now way.now.inst }
+    ensures { Grows result entered.old.items entered.new.items (entries_for family.now.task.now.assumptions.now family.now.numbering.now.insts.items closed way.now) }
 {
-    if way.inst.cut(task.assumptions).is_some() {
+    if way.inst.cut(family.task.assumptions).is_some() {
         return Ok(());
     }
-    let into = number_of(nodes, numbering, &way.inst);
+    let into = number_of(family.nodes, family.numbering, &way.inst);
     entered.push(Entered {
-        node: place.node,
-        offset: place.offset,
+        node: closed.node,
+        offset: closed.offset,
         way: GraphWay::Enters(way.kind),
         into,
     })?;
     Ok(())
 }
 
-// The edges of the graph for the entries of the node of this place.
+// The edges of the graph for the entries of this closed node.
 fn add_entries(
-    task: &Task<'_>,
-    nodes: &Filled,
-    numbering: &Numbering,
-    place: Place,
+    family: &NumberedFamily<'_, '_>,
+    closed: ClosedNode,
     ways: &[Entering],
     entered: &mut Vec<Entered>,
 ) -> Result<(), AllocError>
-    requires numbers { NumbersAll nodes.now numbering.now }
-    requires has { (w : entering_type.Entering) → Contains ways.now w → HasInst nodes.now w.inst }
-    ensures { Grows result entered.old.items entered.new.items (flat_map (entries_for task.now.assumptions.now numbering.now.insts.items place) ways.now) }
+    requires numbers { NumbersAll family.now.nodes.now family.now.numbering.now }
+    requires has { (w : entering_type.Entering) → Contains ways.now w → HasInst family.now.nodes.now w.inst }
+    ensures { Grows result entered.old.items entered.new.items (flat_map (entries_for family.now.task.now.assumptions.now family.now.numbering.now.insts.items closed) ways.now) }
 {
     for way in ways {
-        add_entry(task, nodes, numbering, place, way, entered)?;
+        add_entry(family, closed, way, entered)?;
     }
     Ok(())
 }
@@ -111,33 +115,31 @@ fn add_root_edges(
     Ok(())
 }
 
-// The place of the node of this number, with the edges for its entries. A node with a half-written stack pointer has none.
+// The node of this number, if it is closed, with the edges for its entries.
 fn add_node(
-    task: &Task<'_>,
-    nodes: &Filled,
-    numbering: &Numbering,
+    family: &NumberedFamily<'_, '_>,
     at: usize,
     ways: &[Entering],
     parts: &mut Parts,
 ) -> Result<(), AllocError>
-    requires place { at < length nodes.now }
-    requires few { length nodes.now ≤ 65536 }
-    requires numbers { NumbersAll nodes.now numbering.now }
-    requires has { (w : entering_type.Entering) → Contains ways.now w → HasInst nodes.now w.inst }
-    ensures { AtNumber nodes.now at (λ n. OnOk result (AddsAt task.now.assumptions.now numbering.now.insts.items at ways.now n.key.sp parts.old.offsets.items parts.old.entered.items parts.new.offsets.items parts.new.entered.items)) }
+    requires inside { at < length family.now.nodes.now }
+    requires few { length family.now.nodes.now ≤ 65536 }
+    requires numbers { NumbersAll family.now.nodes.now family.now.numbering.now }
+    requires has { (w : entering_type.Entering) → Contains ways.now w → HasInst family.now.nodes.now w.inst }
+    ensures { AtNumber family.now.nodes.now at (λ n. OnOk result (AddsAt family.now.task.now.assumptions.now family.now.numbering.now.insts.items at ways.now n.key.sp parts.old.offsets.items parts.old.entered.items parts.new.offsets.items parts.new.entered.items)) }
 {
-    if let SpForm::Closed(offset) = nodes.key(at).sp {
-        let place = Place {
+    if let SpForm::Closed(offset) = family.nodes.key(at).sp {
+        let closed = ClosedNode {
             node: at as u32,
             offset,
         };
-        parts.offsets.push(place)?;
-        add_entries(task, nodes, numbering, place, ways, &mut parts.entered)?;
+        parts.offsets.push(closed)?;
+        add_entries(family, closed, ways, &mut parts.entered)?;
     }
     Ok(())
 }
 
-// The instance of this number, with its places and edges, from the entries of the nodes.
+// The instance of this number, with its closed nodes and edges, from the entries of the nodes.
 fn instance(
     task: &Task<'_>,
     nodes: &Filled,
@@ -145,7 +147,7 @@ fn instance(
     numbering: &Numbering,
     i: usize,
 ) -> Result<GraphInst, AllocError>
-    requires place { i < length numbering.now.insts.items }
+    requires inside { i < length numbering.now.insts.items }
     requires few { length nodes.now ≤ 65536 }
     requires ways { AreWays (task_of task.now) nodes.now ways.now }
     requires numbers { NumbersAll nodes.now numbering.now }
@@ -158,8 +160,13 @@ fn instance(
         offsets: Vec::new(task.alloc),
         entered: Vec::new(task.alloc),
     };
+    let family = NumberedFamily {
+        task,
+        nodes,
+        numbering,
+    };
     for at in low..high {
-        add_node(task, nodes, numbering, at, ways[at].as_slice(), &mut parts)?;
+        add_node(&family, at, ways[at].as_slice(), &mut parts)?;
     }
     let behind = nodes.count() as u32;
     add_root_edges(task, &numbering.insts, behind, &key, &mut parts.entered)?;

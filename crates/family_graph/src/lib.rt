@@ -13,6 +13,6 @@ pub mod worked;
 pub use building::graph_of;
 pub use deepest::{Deepest, deepest_chain};
 pub use entering::{Entering, entered_by};
-pub use instance_graph::{Entered, Graph, GraphInst, Place};
+pub use instance_graph::{ClosedNode, Entered, Graph, GraphInst};
 pub use rooted::are_rooted;
 pub use worked::worked_of;

@@ -1,9 +1,10 @@
 -- The targets of a round's visits are a round of the family.
-use Rattle.std.proofs.Common.{◌≡◌, refl, sym, ap, ◌∙◌, subst, ◌⊎◌, inl, inr, ⊎_elim, List, [], ◌++◌, map, Option, Some, None, Contains}
-use Rattle.std.proofs.lemmas.List.Elements.{Contains-append_left, Contains-append_right, Contains-append_cases}
+use Rattle.std.proofs.Common.{◌≡◌, refl, sym, ap, ◌∙◌, subst, ◌⊎◌, inl, inr, ⊎_elim, List, [], ◌++◌, Option, Some, None, Contains}
+use Rattle.std.proofs.lemmas.List.Elements.{Contains-append_left, Contains-append_right}
+use Rattle.std.proofs.lemmas.Option.{same_Some}
 use Rattle.std.specs.FinMap.{get}
-use Rattle.basics.specs.Items.{only_one_in, none_in, first_in, further_in as there}
-use Rattle.family_edges.proofs.AllLaws.{each_gathered, gathered_in}
+use Rattle.basics.specs.Items.{first_in, contained_in_join, each_of_join}
+use Rattle.family_edges.proofs.AllLaws.{back_edge, returned_in}
 use Rattle.avr_model.specs.Assumptions.{has_pairs}
 use Rattle.avr_model.specs.Devices.{device_of}
 use Rattle.abs_state.specs.declared.state.AbsState.{AbsState}
@@ -17,14 +18,13 @@ use Rattle.node_keys.specs.Keys.{entry_key}
 use Rattle.local_rules.specs.declared.local.Exit.{Exit}
 use Rattle.local_rules.specs.declared.local.Node.{Node}
 use Rattle.local_rules.specs.Cover.{IsNodeIn}
-use Rattle.local_laws.proofs.AllLaws.{in_map, each_in_map}
+use Rattle.local_laws.proofs.AllLaws.{in_map}
 use Rattle.edge_rules.specs.declared.edge.Edge.{Edge}
-use Rattle.edge_rules.specs.Edges.{IsFaultless, raw_of, returned_key, IsEdge, moving, entering, returning, target}
+use Rattle.edge_rules.specs.Edges.{IsFaultless, returned_key, IsEdge, moving, entering, returning, target}
 use Rattle.edge_rules.specs.Families.{IsCovered}
 use Rattle.edge_laws.proofs.AllLaws.{edges_lead_to_nodes}
 use Rattle.family_edges.specs.declared.ways.Way.{Way}
-use Rattle.family_edges.specs.Next.{returned_as, node_of}
-use Rattle.round_table.specs.declared.crossings.Crossing.{Crossing}
+use Rattle.family_edges.specs.Next.{Leaver, node_of, local_edge, entry_edge, return_by, returns_in}
 use Rattle.round_table.specs.Crossings.{crossings_at, IsCrossing}
 use Rattle.round_rules.specs.Families.{Family, nodes_of, FamilyHas, Lands, AreFormed}
 use Rattle.round_laws.specs.Steps.{IsRoundOf}
@@ -34,12 +34,11 @@ use Rattle.round_steps.specs.declared.looking.SeenState.{SeenState}
 use Rattle.round_steps.specs.declared.noting.Notes.{Notes}
 use Rattle.round_steps.specs.Looks.{IsLook, HasLook, AreSeen}
 use Rattle.round_steps.specs.Notings.{caller, leaver}
-use Rattle.round_steps.specs.Targets.{entry_node, if_any, way_of, back_from, back_at, backs_in, all_backs, onward_from, onward_at, onwards_if, targets_with, targets_of, all_targets}
+use Rattle.round_steps.specs.Targets.{leaver_with, noted_leaver, noted_leavers, way_of, onward_to, onward_at, onwards_if, edges_of, targets_of, all_targets}
 use Rattle.fixpoint.specs.Progress.{IsOwn, own_move, own_entry, ComesBack, comes_back, AreKnown, Turn}
+use Rattle.fixpoint.proofs.Cases.{entries, returns, onwards, moves, edges_are, look_cases}
 use Rattle.fixpoint.proofs.Looked.{seen_node, look_clean, look_same, look_exit, look_way, look_node, looked}
 use Rattle.local_rules.specs.Site.{Task}
-
--- ---- lists
 
 module _ (task : Task) where
   -- ---- edges
@@ -82,16 +81,6 @@ module _ (task : Task) where
 
   -- ---- one look's targets are edges' targets
 
-  returned_in : (k : NodeKey) (w : Way) (x : Exit) (o : Option AbsState) (after : AbsState) → o ≡ Some after
-      → Contains (if_any (returned_as k w x o)) (record { key = returned_key w.kind k w.back x; state = after })
-  returned_in k w x o after e =
-      subst (λ (p : Option AbsState). Contains (if_any (returned_as k w x p)) (record { key = returned_key w.kind k w.back x; state = after })) (sym e) (first_in _ [])
-
-  returned_from : (k : NodeKey) (w : Way) (x : Exit) (P : Node → Type 0) (o : Option AbsState)
-      → ((after : AbsState) → o ≡ Some after → P (record { key = returned_key w.kind k w.back x; state = after })) → (to : Node) → Contains (if_any (returned_as k w x o)) to → P to
-  returned_from k w x P None h to i = absurd (none_in to i)
-  returned_from k w x P (Some after) h to i = subst P (sym (only_one_in (record { key = returned_key w.kind k w.back x; state = after }) to i)) (h after refl)
-
   module _ (f : Family) (notes : Notes) (known : AreKnown task f notes) (x : Look) (is : IsLook task f x) where
     abbrev n : Node
     n = seen_node task f x is
@@ -102,115 +91,71 @@ module _ (task : Task) where
     clean : IsFaultless task n
     clean = look_clean task f x is
 
-    by_entry : (to : Node) → Contains (map (entry_node s) x.ways.items) to → IsAim f to
-    by_entry = each_in_map (entry_node s) (IsAim f) x.ways.items (λ w i. own_aim f n _ is.has (own_entry w.kind w.inst w.back ((look_way task f x is w).0 i)))
-
-    by_back : (w : Way) (p : Crossing) (to : Node) → Contains x.ways.items w → Contains (crossings_at notes.leavers w.inst) p → Contains (back_at f (node_of x.key s) w p) to → IsAim f to
-    by_back w p to i j l =
-        let so = known.so.leavers w.inst p j in
-        let m = so.node in
-        let there : get f p.node ≡ Some m.state = ap (get f) (sym so.at) ∙ so.has in
-        returned_from x.key w p.exit (IsAim f) (returned s m.state)
-        (λ after e. back_aim f n m _ is.has so.has
-        (comes_back w.kind w.inst w.back p.exit after ((look_way task f x is w).0 i) so.of (known.faultless m so.has) so.exit e))
-        to (subst (λ (o : Option AbsState). Contains (back_from (node_of x.key s) w p.exit o) to) there l)
-
-    by_backs : (to : Node) → Contains (all_backs f notes.leavers (node_of x.key s) x.ways.items) to → IsAim f to
-    by_backs = each_gathered (backs_in f notes.leavers (node_of x.key s)) (IsAim f) x.ways.items
-        (λ w to i. each_gathered (back_at f (node_of x.key s) w) (IsAim f) (crossings_at notes.leavers w.inst) (λ p t j l. by_back w p t i j l) to)
-
-    by_onward : (e : Exit) (p : Crossing) (to : Node) → x.part.exit ≡ Some e → Contains (crossings_at notes.callers x.key.inst) p → Contains (onward_at f x.key.inst s e p) to → IsAim f to
-    by_onward e p to is_exit j l =
-        let so = known.so.callers x.key.inst p j in
-        let c = so.node in
-        let there : get f p.node ≡ Some c.state = ap (get f) (sym so.at) ∙ so.has in
-        let exit : (raw_of task n).exit ≡ Some e = sym (look_exit task f x is) ∙ is_exit in
-        returned_from p.node (way_of x.key.inst p) e (IsAim f) (returned c.state s)
-        (λ after r. subst (λ (k : NodeKey). IsAim f (record { key = returned_key p.kind k p.back e; state = after })) so.at
-        (back_aim f c n _ so.has is.has (comes_back p.kind x.key.inst p.back e after so.enters refl clean exit r)))
-        to (subst (λ (o : Option AbsState). Contains (onward_from x.key.inst s e p o) to) there l)
-
-    by_onwards : (o : Option Exit) → x.part.exit ≡ o → (to : Node) → Contains (onwards_if f notes.callers x.key.inst s o) to → IsAim f to
-    by_onwards None e to i = absurd (none_in to i)
-    by_onwards (Some exit) e to i = each_gathered (onward_at f x.key.inst s exit) (IsAim f) (crossings_at notes.callers x.key.inst) (λ p t j l. by_onward exit p t e j l) to i
-
-    by_move : (to : Node) → Contains x.part.same to → IsAim f to
-    by_move to i = own_aim f n to is.has (own_move to clean (subst (λ (l : List Node). Contains l to) (look_same task f x is) i))
-
-    abbrev firsts : List Node
-    firsts = map (entry_node s) x.ways.items
-
-    abbrev seconds : List Node
-    seconds = all_backs f notes.leavers (node_of x.key s) x.ways.items
-
-    abbrev thirds : List Node
-    thirds = onwards_if f notes.callers x.key.inst s x.part.exit
-
-    abbrev whole : List Node
-    whole = firsts ++ (seconds ++ (thirds ++ x.part.same))
-
-    here_is : targets_of f notes x ≡ whole
-    here_is = ap (targets_with f notes x) is.has
-
     pub look_aims : (to : Node) → Contains (targets_of f notes x) to → IsAim f to
-    look_aims to i =
-        ⊎_elim (by_entry to)
-        (λ j. ⊎_elim (by_backs to)
-        (λ l. ⊎_elim (by_onwards x.part.exit refl to) (by_move to) (Contains-append_cases thirds x.part.same to l))
-        (Contains-append_cases seconds (thirds ++ x.part.same) to j))
-        (Contains-append_cases firsts (seconds ++ (thirds ++ x.part.same)) to (subst (λ (l : List Node). Contains l to) here_is i))
+    look_aims =
+        look_cases task f notes x is (IsAim f) (λ to own. own_aim f n to is.has own)
+        (λ w p t after enters j at r.
+        let so = known.so.leavers w.inst p j in
+        let same : so.node.state ≡ t = same_Some so.node.state t (sym so.has ∙ ap (get f) so.at ∙ at) in
+        back_aim f n so.node _ is.has so.has
+        (comes_back w.kind w.inst w.back p.exit after enters so.of (known.faultless so.node so.has) so.exit (ap (returned s) same ∙ r)))
+        (λ e p t after exit j at r.
+        let so = known.so.callers x.key.inst p j in
+        let same : so.node.state ≡ t = same_Some so.node.state t (sym so.has ∙ ap (get f) so.at ∙ at) in
+        subst (λ (k : NodeKey). IsAim f (record { key = returned_key p.kind k p.back e; state = after })) so.at
+        (back_aim f so.node n _ so.has is.has
+        (comes_back p.kind x.key.inst p.back e after so.enters refl clean exit (ap (λ (v : AbsState). returned v s) same ∙ r))))
 
     -- ---- all edges of the look's node are met
 
-    meets : (to : Node) → Contains whole to → Contains (targets_of f notes x) to
-    meets to i = subst (λ (l : List Node). Contains l to) (sym here_is) i
+    abbrev firsts : List Edge
+    firsts = entries f notes x s ++ returns f notes x s
 
-    in_firsts : (to : Node) → Contains firsts to → Contains (targets_of f notes x) to
-    in_firsts to i = meets to (Contains-append_left firsts (seconds ++ (thirds ++ x.part.same)) to i)
+    met : (e : Edge) → Contains ((firsts ++ onwards f notes x s) ++ moves f notes x s) e → Contains (targets_of f notes x) (target e)
+    met e i = in_map target (edges_of f notes x) e (subst (λ (l : List Edge). Contains l e) (sym (edges_are f notes x s is.has)) i)
 
-    in_seconds : (to : Node) → Contains seconds to → Contains (targets_of f notes x) to
-    in_seconds to i = meets to (Contains-append_right firsts (seconds ++ (thirds ++ x.part.same)) to (Contains-append_left seconds (thirds ++ x.part.same) to i))
-
-    in_thirds : (to : Node) → Contains thirds to → Contains (targets_of f notes x) to
-    in_thirds to i =
-        meets to (Contains-append_right firsts (seconds ++ (thirds ++ x.part.same)) to
-        (Contains-append_right seconds (thirds ++ x.part.same) to (Contains-append_left thirds x.part.same to i)))
-
-    in_last : (to : Node) → Contains x.part.same to → Contains (targets_of f notes x) to
-    in_last to i =
-        meets to (Contains-append_right firsts (seconds ++ (thirds ++ x.part.same)) to
-        (Contains-append_right seconds (thirds ++ x.part.same) to (Contains-append_right thirds x.part.same to i)))
+    in_firsts : (e : Edge) → Contains firsts e → Contains (targets_of f notes x) (target e)
+    in_firsts e i =
+        met e (Contains-append_left (firsts ++ onwards f notes x s) (moves f notes x s) e (Contains-append_left firsts (onwards f notes x s) e i))
 
     pub own_met : (to : Node) → IsOwn task n to → Contains (targets_of f notes x) to
-    own_met _ (own_move to c i) = in_last to (subst (λ (l : List Node). Contains l to) (sym (look_same task f x is)) i)
+    own_met _ (own_move to c i) =
+        met (local_edge to) (Contains-append_right (firsts ++ onwards f notes x s) (moves f notes x s) (local_edge to)
+        (in_map local_edge x.part.same to (subst (λ (l : List Node). Contains l to) (sym (look_same task f x is)) i)))
     own_met _ (own_entry way inst back e) =
         let w : Way = record { kind = way; inst = inst; back = back } in
-        in_firsts (entry_node s w) (in_map (entry_node s) x.ways.items w ((look_way task f x is w).1 e))
+        in_firsts (entry_edge s w) (Contains-append_left (entries f notes x s) (returns f notes x s) (entry_edge s w)
+        (in_map (entry_edge s) x.ways.items w ((look_way task f x is w).1 e)))
 
     -- a node that leaves returns to the visited node
     pub entered_met : (m to : Node) → FamilyHas f m → ComesBack task n m to → Contains (targets_of f notes x) to
-    entered_met m _ there (comes_back way inst back e state en same c exit r) =
+    entered_met m _ there (comes_back way inst back exit state en same c is_exit r) =
         let w : Way = record { kind = way; inst = inst; back = back } in
-        let p = leaver m.key e in
-        let crossing : IsCrossing notes.leavers inst p = subst (λ (i : InstKey). IsCrossing notes.leavers i p) same ((known.each m there).leavers e exit) in
-        let to : Node = record { key = returned_key way x.key back e; state = state } in
-        let found : Contains (back_at f (node_of x.key s) w p) to =
-        subst (λ (o : Option AbsState). Contains (back_from (node_of x.key s) w e o) to) (sym there) (returned_in x.key w e (returned s m.state) state r) in
-        in_seconds to (gathered_in (backs_in f notes.leavers (node_of x.key s)) x.ways.items w to ((look_way task f x is w).1 en)
-        (gathered_in (back_at f (node_of x.key s) w) (crossings_at notes.leavers inst) p to crossing found))
+        let p = leaver m.key exit in
+        let l : Leaver = record { exit = exit; state = m.state } in
+        let e = back_edge x.key w exit state in
+        let crossing : IsCrossing notes.leavers inst p = subst (λ (i : InstKey). IsCrossing notes.leavers i p) same ((known.each m there).leavers exit is_exit) in
+        let leaves : Contains (noted_leavers f notes.leavers inst) l =
+        contained_in_join (noted_leaver f) (crossings_at notes.leavers inst) p l crossing
+        (subst (λ (o : Option AbsState). Contains (leaver_with exit o) l) (sym there) (first_in l [])) in
+        in_firsts e (Contains-append_right (entries f notes x s) (returns f notes x s) e
+        (contained_in_join (returns_in (noted_leavers f notes.leavers) (node_of x.key s)) x.ways.items w e ((look_way task f x is w).1 en)
+        (contained_in_join (return_by (node_of x.key s) w) (noted_leavers f notes.leavers inst) l e leaves (returned_in (node_of x.key s) w l state r))))
 
     -- the visited node leaves
     pub left_met : (c to : Node) → FamilyHas f c → ComesBack task c n to → Contains (targets_of f notes x) to
-    left_met c _ there (comes_back way inst back e state en same d exit r) =
+    left_met c _ there (comes_back way inst back exit state en same d is_exit r) =
         let w : Way = record { kind = way; inst = inst; back = back } in
         let p = caller c.key w in
+        let l : Leaver = record { exit = exit; state = s } in
+        let e = back_edge c.key w exit state in
         let crossing : IsCrossing notes.callers x.key.inst p = subst (λ (i : InstKey). IsCrossing notes.callers i p) (sym same) ((known.each c there).callers way inst back en) in
-        let to : Node = record { key = returned_key way c.key back e; state = state } in
-        let found : Contains (onward_at f x.key.inst s e p) to =
-        subst (λ (o : Option AbsState). Contains (onward_from x.key.inst s e p o) to) (sym there) (returned_in c.key (way_of x.key.inst p) e (returned c.state s) state r) in
-        let leaves : x.part.exit ≡ Some e = look_exit task f x is ∙ exit in
-        in_thirds to (subst (λ (o : Option Exit). Contains (onwards_if f notes.callers x.key.inst s o) to) (sym leaves)
-        (gathered_in (onward_at f x.key.inst s e) (crossings_at notes.callers x.key.inst) p to crossing found))
+        let found : Contains (onward_at f x.key.inst l p) e =
+        subst (λ (o : Option AbsState). Contains (onward_to x.key.inst l p o) e) (sym there) (returned_in c (way_of x.key.inst p) l state r) in
+        let leaves : x.part.exit ≡ Some exit = look_exit task f x is ∙ is_exit in
+        met e (Contains-append_left (firsts ++ onwards f notes x s) (moves f notes x s) e (Contains-append_right firsts (onwards f notes x s) e
+        (subst (λ (o : Option Exit). Contains (onwards_if f notes.callers x.key.inst s o) e) (sym leaves)
+        (contained_in_join (onward_at f x.key.inst l) (crossings_at notes.callers x.key.inst) p e crossing found))))
 
   -- ---- the round
 
@@ -223,10 +168,10 @@ module _ (task : Task) where
     ns = all_targets f notes xs
 
     aims : (to : Node) → Contains ns to → IsAim f to
-    aims = each_gathered (targets_of f notes) (IsAim f) xs (λ x to i j. look_aims f notes known x (are.looks x i) to j)
+    aims = each_of_join (targets_of f notes) (IsAim f) xs (λ x to i j. look_aims f notes known x (are.looks x i) to j)
 
     in_round : (x : Look) (to : Node) → Contains xs x → Contains (targets_of f notes x) to → Contains ns to
-    in_round x to i j = gathered_in (targets_of f notes) xs x to i j
+    in_round x to i j = contained_in_join (targets_of f notes) xs x to i j
 
     covered : (to : Node) → Contains ns to → IsCovered ns to
     covered to i = record { state = to.state; present = i; above = states_are_ordered.same to.state }

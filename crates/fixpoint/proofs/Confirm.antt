@@ -1,7 +1,7 @@
 -- A family each node of which was visited by itself: no test holds on it, and it is closed.
 use Rattle.std.proofs.Common.{◌≡◌, sym, ◌∙◌, subst, ⊎_elim, List, [], ◌∷◌, ◌++◌, None, Contains}
 use Rattle.std.proofs.lemmas.List.Elements.{Contains-push_cases}
-use Rattle.basics.specs.Items.{none_in, first_in}
+use Rattle.basics.specs.Items.{none_in, first_in, contained_in_join, each_of_join}
 use Rattle.avr_model.specs.Assumptions.{has_pairs}
 use Rattle.avr_model.specs.Devices.{device_of}
 use Rattle.node_keys.specs.declared.keys.NodeKey.{NodeKey}
@@ -12,7 +12,6 @@ use Rattle.local_laws.specs.Laws.{AreNodesIn}
 use Rattle.edge_rules.specs.Edges.{IsFaultless, target}
 use Rattle.edge_laws.specs.Laws.{with_state}
 use Rattle.edge_laws.proofs.AllLaws.{edges_lead_to_nodes}
-use Rattle.family_edges.proofs.AllLaws.{each_gathered, gathered_in}
 use Rattle.round_nesting.specs.Nestings.{AreOnce, TellsAll}
 use Rattle.round_nesting.specs.declared.verdict.NestingVerdict.TheVariants as verdicts
 use Rattle.round_rules.specs.Families.{Family, nodes_of, FamilyHas, FamilyHasInst, FitsLimits, AreFormed}
@@ -87,7 +86,7 @@ module _ (task : Task) (f : Family) where
   module _ (formed : AreFormed (device_of task.flash) (has_pairs task.assumptions) f) (notes : Notes) (known : AreKnown task f notes) where
     pub targets_are_nodes : (xs : List Look) → ((x : Look) → Contains xs x → IsLook task f x) → AreNodesIn (device_of task.flash) (has_pairs task.assumptions) (all_targets f notes xs)
     targets_are_nodes xs looks =
-        each_gathered (targets_of f notes) (λ (to : Node). IsNodeIn (device_of task.flash) (has_pairs task.assumptions) to.key to.state) xs
+        each_of_join (targets_of f notes) (λ (to : Node). IsNodeIn (device_of task.flash) (has_pairs task.assumptions) to.key to.state) xs
         (λ x to i j. let a = look_aims task f notes known x (looks x i) to j in
         subst (λ (t : Node). IsNodeIn (device_of task.flash) (has_pairs task.assumptions) t.key t.state) a.at
         (edges_lead_to_nodes.edges task (nodes_of f) a.from a.edge (formed_nodes f formed) (member_has f a.from a.has) a.is))
@@ -103,7 +102,7 @@ module _ (task : Task) (f : Family) where
         (λ b. entered_met task f notes known h.look is b.by (target e) b.has (subst (λ (m : Node). ComesBack task m b.by (target e)) (sym same) b.comes))
         (edge_cases task f n e edge) in
         ⊎_elim (λ l. l) (λ c. absurd (none_in _ (subst (λ (l : List Node). Contains l (with_state (target e) c.state)) none c.present)))
-        (beyond.each (target e) (gathered_in (targets_of f notes) seen.looks.items h.look (target e) h.member met)))
+        (beyond.each (target e) (contained_in_join (targets_of f notes) seen.looks.items h.look (target e) h.member met)))
         (λ h. absurd (never_both task n.key n.state h.fault (known.faultless n has) h.is))
         (are.each n.key n.state i has)
 

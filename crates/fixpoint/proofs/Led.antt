@@ -15,7 +15,7 @@ use Rattle.local_rules.specs.declared.local.Node.{Node}
 use Rattle.edge_rules.specs.declared.edge.Edge.{Edge}
 use Rattle.edge_rules.specs.Edges.{IsEdge}
 use Rattle.edge_rules.specs.Places.{found_at}
-use Rattle.edge_rules.specs.Views.{AreShown, place_of}
+use Rattle.edge_rules.specs.Views.{AreShown, index_of}
 use Rattle.family_edges.specs.declared.landing.Landing.{Landing}
 use Rattle.family_edges.specs.Landings.{AreLandingsOf}
 use Rattle.round_solutions.proofs.AllLaws.{node_once}
@@ -165,7 +165,7 @@ module _ {device : Device} (task : Task) (nodes : List Node) (shown : AreShown d
   kind_of : (e : Edge) → LeadsTo task nodes (at + 1) k at e → Contains (kinds_at p landings) e.kind
   kind_of e l =
       let same = one_at nodes at l.node n l.at is_at in
-      let place = subst (λ (q : NodeKey). place_of q nodes ≡ Some p) (sym l.leads) (place_is nodes shown p there is_there) in
+      let place = subst (λ (q : NodeKey). index_of q nodes ≡ Some p) (sym l.leads) (place_is nodes shown p there is_there) in
       let landing : Landing = record { kind = e.kind; at = p } in
       in_kinds p landings landing refl ((exact landing).1 (record { edge = e; is = subst (λ (x : Node). IsEdge task nodes x e) same l.is; kind = refl; at = place }))
 

@@ -2,9 +2,8 @@
 use Rattle.std.proofs.Common.{◌≡◌, refl, sym, ap, ap₂, ◌∙◌, subst, ℕ, ◌^◌, ◌+◌, ◌-◌, ◌*◌, ◌<◌, ◌≤◌, ⊎_elim, Bool, true, false, ◌&&◌, ◌==◌, List, [], ◌∷◌, length, Option, Some, None, Contains, arith}
 use Rattle.std.specs.FinMap.{get, empty}
 use Rattle.std.proofs.lemmas.Option.{same_Some}
-use Rattle.basics.specs.Items.{none_in}
+use Rattle.basics.specs.Items.{none_in, each_of_join}
 use Rattle.basics.specs.Numbers.{zero_from_test}
-use Rattle.family_edges.proofs.AllLaws.{each_gathered}
 use Rattle.avr_model.specs.declared.device.Device.{Device}
 use Rattle.avr_model.proofs.AllLaws.{devices_are_alike}
 use Rattle.avr_model.specs.Devices.{device_of, limit_of}
@@ -158,7 +157,7 @@ module _ (task : Task) where
       ns = all_targets f notes xs
 
       are_nodes : AreNodesIn (device_of task.flash) (has_pairs task.assumptions) ns
-      are_nodes = each_gathered (targets_of f notes) (λ (to : Node). IsNodeIn (device_of task.flash) (has_pairs task.assumptions) to.key to.state) xs (λ x to i j. of_look x (looks x i) to j)
+      are_nodes = each_of_join (targets_of f notes) (λ (to : Node). IsNodeIn (device_of task.flash) (has_pairs task.assumptions) to.key to.state) xs (λ x to i j. of_look x (looks x i) to j)
         where
           of_look : (x : Look) (is : IsLook task f x) (to : Node) → Contains (targets_of f notes x) to → IsNodeIn (device_of task.flash) (has_pairs task.assumptions) to.key to.state
           of_look x is =
@@ -184,7 +183,7 @@ module _ (task : Task) where
       -- if the family has no fault, an edge of it leads to each
       module _ (clean : HasNoFault task f) where
         aims : (to : Node) → Contains ns to → IsAim task f to
-        aims = each_gathered (targets_of f notes) (IsAim task f) xs (λ x to i j. of_look x (looks x i) to j)
+        aims = each_of_join (targets_of f notes) (IsAim task f) xs (λ x to i j. of_look x (looks x i) to j)
           where
             of_look : (x : Look) (is : IsLook task f x) (to : Node) → Contains (targets_of f notes x) to → IsAim task f to
             of_look x is =

@@ -12,7 +12,7 @@ use Rattle.node_keys.specs.declared.keys.NodeKey.{NodeKey}
 use Rattle.node_keys.specs.Order.{node_cmp}
 use Rattle.local_rules.specs.declared.local.Node.{Node}
 use Rattle.edge_rules.specs.Places.{found_at, none_from}
-use Rattle.edge_rules.specs.Views.{AreShown, place_of}
+use Rattle.edge_rules.specs.Views.{AreShown, index_of}
 use Rattle.family_edges.specs.declared.landing.Landing.{Landing}
 use Rattle.round_solutions.proofs.AllLaws.{node_before}
 use Rattle.fixpoint.specs.declared.leading.Lead.{Lead}
@@ -28,10 +28,10 @@ one_place nodes shown p q m n a b e =
       | inr (inr gt) ↦ absurd (not_below_itself n.key (subst (λ (k : NodeKey). node_cmp n.key k ≡ Less) e (node_before nodes q p n m shown.ascending b a gt)))
     ]
 
-pub place_is : {device : Device} (nodes : List Node) → AreShown device nodes → (p : ℕ) (n : Node) → slice_get nodes p ≡ Some n → place_of n.key nodes ≡ Some p
-place_is nodes shown p n is = by (place_of n.key nodes) refl
+pub place_is : {device : Device} (nodes : List Node) → AreShown device nodes → (p : ℕ) (n : Node) → slice_get nodes p ≡ Some n → index_of n.key nodes ≡ Some p
+place_is nodes shown p n is = by (index_of n.key nodes) refl
   where
-    by : (o : Option ℕ) → place_of n.key nodes ≡ o → place_of n.key nodes ≡ Some p
+    by : (o : Option ℕ) → index_of n.key nodes ≡ o → index_of n.key nodes ≡ Some p
     by None e = absurd (none_from n.key nodes 0 e n (contained_at nodes p n is) refl)
     by (Some q) e = let w = found_at n.key nodes q e in e ∙ ap Some (one_place nodes shown q p w.node n w.is is w.same)
 

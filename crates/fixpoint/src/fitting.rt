@@ -10,7 +10,7 @@ use avr_model::device::Device;
 use family_edges::Task;
 use vector_table::{Entry, fits};
 
-// The place of the first entry that no list of the device has.
+// The index of the first entry that no list of the device has.
 fn misfit_in(device: Device, entries: &[Entry]) -> Option<u32>
     requires { length entries.now ≤ most_entries }
     ensures { MatchOption result (AllFit device entries.now) (λ at. IsFirstMisfit device entries.now at) }
@@ -23,7 +23,7 @@ fn misfit_in(device: Device, entries: &[Entry]) -> Option<u32>
     None
 }
 
-/// The place, from 0, of the first assumption that no list of the firmware's device has.
+/// The index, from 0, of the first assumption that no list of the firmware's device has.
 pub(crate) fn first_misfit(task: &Task<'_>) -> Option<u32>
     ensures { MatchOption result (AllFit (device_of task.now.flash.now) task.now.assumptions.now) (IsFirstMisfit (device_of task.now.flash.now) task.now.assumptions.now) }
 {

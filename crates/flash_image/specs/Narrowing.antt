@@ -11,7 +11,7 @@ outside_word device all = position_from (λ w. not (w == 0xFFFF)) (words_of devi
 
 -- A file's words are narrowed to the first ones exactly if no word is outside. The word outside is unique.
 pub record NarrowingIsExact : Type 0 where
-  pub words : (device : Device) (all : List ℕ) (words : Image) → length all ≡ limit_of device → IsNarrowed device all words → words ≡ image_of device (take (words_of device) all)
-  pub none : (device : Device) (all : List ℕ) (words : Image) → length all ≡ limit_of device → IsNarrowed device all words → outside_word device all ≡ None
+  pub words : (device : Device) (all : List ℕ) (image : Image) → length all ≡ limit_of device → IsNarrowed device all image → image ≡ image_of device (take (words_of device) all)
+  pub none : (device : Device) (all : List ℕ) (image : Image) → length all ≡ limit_of device → IsNarrowed device all image → outside_word device all ≡ None
   pub some : (device : Device) (all : List ℕ) → length all ≡ limit_of device → outside_word device all ≡ None → IsNarrowed device all (image_of device (take (words_of device) all))
   pub outside : (device : Device) (all : List ℕ) (word : ℕ) → length all ≡ limit_of device → IsOutside device all word → outside_word device all ≡ Some word

@@ -74,7 +74,7 @@ pub(crate) fn note_load(loads: &mut [bool; LOADS], load: ImmediateInstr)
 // Marks a low byte with each high byte that the program loads into a register, and with 0.
 pub(crate) fn mark_side(table: &mut [bool; NUMBERS], loads: &[bool; LOADS], side: u16, low: u8)
     requires { side < 32 }
-    ensures { (words : Image) → AreLoads words loads.now → table.new ≡ marked table.old (side_marks words low (Some side)) }
+    ensures { (image : Image) → AreLoads image loads.now → table.new ≡ marked table.old (side_marks image low (Some side)) }
 {
     table[usize::from(low)] = true;
     for high in 0..256 {

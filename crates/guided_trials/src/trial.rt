@@ -14,11 +14,11 @@ ghost use Rattle.guided_trials.specs.Trials.{fill_of, initial, trial_by, depth_b
 use crate::choosing::{after, chosen};
 use crate::guide::{Guide, TrialMoment};
 use crate::numbers::first;
-use avr_machine::{Choice, Machine, Menu};
+use avr_machine::{Choice, Firmware, Machine, Menu};
 use flash_image::Flash;
 use std::alloc::{AllocError, Global};
 use stimulus::laws::depth_is_kept;
-use stimulus::{Driver, Trace, most_trial_steps};
+use stimulus::{Driver, Trace, Until, most_trial_steps};
 use vector_table::Assumptions;
 use witness_replay::Schedule;
 
@@ -34,21 +34,24 @@ fn fill_of(guide: &Guide, t: u32) -> u8
 #[inline(never)]
 fn depth_of_trial<F: FnMut(&Menu) -> Choice + Drop>(
     choose: F,
-    flash: &Flash,
-    assumptions: &Assumptions,
+    firmware: &Firmware<'_>,
     guide: &Guide,
     t: u32,
     steps: u32,
 ) -> u16
     requires steady { IsSteady F.FnMut choose }
-    requires guided { IsGuidedBy (CalledAt F.FnMut) flash.now guide.now t choose }
-    ensures { result ≡ depth_by steps flash.now assumptions.now guide.now t }
+    requires guided { IsGuidedBy (CalledAt F.FnMut) firmware.now.flash.now guide.now t choose }
+    ensures { result ≡ depth_by steps firmware.now.flash.now firmware.now.assumptions.now guide.now t }
 {
     depth_is_kept();
     let fill = fill_of(guide, t);
-    let mut machine = Machine::start(flash.device(), fill);
+    let mut machine = Machine::start(firmware.flash.device(), fill);
     let mut driver = Driver::new(choose);
-    driver.run(&mut machine, flash, assumptions, guide.bound, steps);
+    let until = Until {
+        target: guide.bound,
+        steps,
+    };
+    driver.run(&mut machine, firmware, until);
     machine.depth()
 }
 
@@ -56,24 +59,27 @@ fn depth_of_trial<F: FnMut(&Menu) -> Choice + Drop>(
 fn attempt<F: FnMut(&Menu) -> Choice + Drop>(
     alloc: Global,
     choose: F,
-    flash: &Flash,
-    assumptions: &Assumptions,
+    firmware: &Firmware<'_>,
     guide: &Guide,
     t: u32,
 ) -> Result<Trace, AllocError>
     requires steady { IsSteady F.FnMut choose }
-    requires guided { IsGuidedBy (CalledAt F.FnMut) flash.now guide.now t choose }
-    ensures reset { IsReset (device_of flash.now) (initial flash.now guide.now t) }
-    ensures choices { IfOk result (λ x. x.choices ≡ trial_by most_trial_steps flash.now assumptions.now guide.now t) }
-    ensures run { IfOk result (λ x. IsRun flash.now assumptions.now x.choices (initial flash.now guide.now t)) }
-    ensures depth { IfOk result (HasDepth flash.now assumptions.now (initial flash.now guide.now t)) }
+    requires guided { IsGuidedBy (CalledAt F.FnMut) firmware.now.flash.now guide.now t choose }
+    ensures reset { IsReset (device_of firmware.now.flash.now) (initial firmware.now.flash.now guide.now t) }
+    ensures choices { IfOk result (λ x. x.choices ≡ trial_by most_trial_steps firmware.now.flash.now firmware.now.assumptions.now guide.now t) }
+    ensures run { IfOk result (λ x. IsRun firmware.now.flash.now firmware.now.assumptions.now x.choices (initial firmware.now.flash.now guide.now t)) }
+    ensures depth { IfOk result (HasDepth firmware.now.flash.now firmware.now.assumptions.now (initial firmware.now.flash.now guide.now t)) }
 {
     depth_is_kept();
     let fill = fill_of(guide, t);
-    let mut machine = Machine::start(flash.device(), fill);
+    let mut machine = Machine::start(firmware.flash.device(), fill);
     let mut driver = Driver::new(choose);
     let steps = most_trial_steps();
-    driver.drive(alloc, &mut machine, flash, assumptions, guide.bound, steps)
+    let until = Until {
+        target: guide.bound,
+        steps,
+    };
+    driver.drive(alloc, &mut machine, firmware, until)
 }
 
 // The schedule of trial `t`. None exactly if its depth is below the bound.
@@ -101,11 +107,12 @@ fn try_number(
         moment = after(flash, guide, t, moment, menu.pc);
         chosen(flash, guide, t, moment, menu)
     };
-    let depth = depth_of_trial(choose, flash, assumptions, guide, t, steps);
+    let firmware = Firmware { flash, assumptions };
+    let depth = depth_of_trial(choose, &firmware, guide, t, steps);
     if depth < guide.bound {
         return Ok(None);
     }
-    let trace = attempt(alloc, choose, flash, assumptions, guide, t)?;
+    let trace = attempt(alloc, choose, &firmware, guide, t)?;
     let schedule = Schedule::from_trace(alloc, flash.device(), fill, trace.choices.as_slice())?;
     Ok(Some(schedule))
 }

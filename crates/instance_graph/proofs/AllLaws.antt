@@ -4,8 +4,8 @@ use Rattle.std.proofs.lemmas.Grind.{same_number_lists}
 use Rattle.instance_graph.specs.declared.graph.Entered.{Entered}
 use Rattle.instance_graph.specs.declared.graph.GraphInst.{GraphInst}
 use Rattle.instance_graph.specs.declared.graph.Link.{Link}
-use Rattle.instance_graph.specs.declared.graph.Place.{Place}
-use Rattle.instance_graph.specs.Chain.{IsChainFrom, ends, goes, IsFirst, IsDeepPlace, IsDeepEdge, IsPlaceUpTo, IsEdgeUpTo}
+use Rattle.instance_graph.specs.declared.graph.ClosedNode.{ClosedNode}
+use Rattle.instance_graph.specs.Chain.{IsChainFrom, ends, goes, IsFirst, IsDeepNode, IsDeepEdge, IsNodeUpTo, IsEdgeUpTo}
 use Rattle.instance_graph.specs.Cycle.{IsNamed, group_of, number_of}
 use Rattle.instance_graph.specs.Graph.{ReachesBy, once, more, AreGraphNeeds}
 use Rattle.instance_graph.specs.Laws.{Nests, here, deeper, RanksRuleOutCycles, NeedsBoundNesting, LeastNeedsAreOne, EndsAt, ChainsReachTheNeed, ChainsAreOne}
@@ -84,8 +84,8 @@ chains_reach_the_need = record {
 }
 
 module _ (back : ℕ) (gs : List GraphInst) (needs : List ℕ) where
-  places_same : (i : ℕ) (p q : Place) → IsFirst (IsDeepPlace gs needs i) IsPlaceUpTo p → IsFirst (IsDeepPlace gs needs i) IsPlaceUpTo q → p ≡ q
-  places_same i p q f g =
+  nodes_same : (i : ℕ) (p q : ClosedNode) → IsFirst (IsDeepNode gs needs i) IsNodeUpTo p → IsFirst (IsDeepNode gs needs i) IsNodeUpTo q → p ≡ q
+  nodes_same i p q f g =
       let nodes : p.node ≡ q.node = omega (arith, f.first q g.is, g.first p f.is) in
       let offsets : p.offset ≡ q.offset = f.is.1 ∙ sym g.is.1 in
       λ j. record { node = nodes j; offset = offsets j }
@@ -95,12 +95,12 @@ module _ (back : ℕ) (gs : List GraphInst) (needs : List ℕ) where
 
   one : (i i' above above' : ℕ) → i ≡ i' → above ≡ above' → (links links' : List Link) → IsChainFrom back gs needs i above links → IsChainFrom back gs needs i' above' links' → links ≡ links'
   one i i' above above' ei ea links links' (ends _ _ p f) (ends _ _ q g) =
-      let same = places_same i p q f (subst (λ k. IsFirst (IsDeepPlace gs needs k) IsPlaceUpTo q) (sym ei) g) in
+      let same = nodes_same i p q f (subst (λ k. IsFirst (IsDeepNode gs needs k) IsNodeUpTo q) (sym ei) g) in
       λ j. record { inst = ei j; node = (same j).node; depth = ea j + (same j).offset; way = None } ∷ []
   one i i' above above' ei ea links links' (ends _ _ p f) (goes _ _ d rest' no_end g chain') =
-      absurd (no_end p (subst (λ k. IsDeepPlace gs needs k p) ei f.is))
+      absurd (no_end p (subst (λ k. IsDeepNode gs needs k p) ei f.is))
   one i i' above above' ei ea links links' (goes _ _ e rest no_end f chain) (ends _ _ q g) =
-      absurd (no_end q (subst (λ k. IsDeepPlace gs needs k q) (sym ei) g.is))
+      absurd (no_end q (subst (λ k. IsDeepNode gs needs k q) (sym ei) g.is))
   one i i' above above' ei ea links links' (goes _ _ e rest no_end f chain) (goes _ _ d rest' no_end' g chain') =
       let same = ways_same i e d f (subst (λ k. IsFirst (IsDeepEdge back gs needs k) (IsEdgeUpTo gs) d) (sym ei) g) in
       let tail = one e.into d.into (above + e.offset + back) (above' + d.offset + back) (ap (λ x. x.into) same) (λ j. ea j + (same j).offset + back) rest rest' chain chain' in

@@ -100,27 +100,27 @@ marked_first gs from inst old new stack is size none s =
       rest = λ j e h enters. ⊎_elim (λ m. absurd (let e' = none j in cc)) (λ p. inl p.3) (s.only j h);
     }
 
-pub marked_more : (gs : List GraphInst) (from place : ℕ) (inst : GraphInst) (old new : List Bool) (stack rest stack' : List ℕ) → slice_get gs place ≡ Some inst → stack ≡ rest ++ place ∷ [] → IsMarked gs from old stack → IsSpread inst.entered old rest new stack' → IsMarked gs from new stack'
-marked_more gs from place inst old new stack rest stack' is e m s =
+pub marked_more : (gs : List GraphInst) (from number : ℕ) (inst : GraphInst) (old new : List Bool) (stack rest stack' : List ℕ) → slice_get gs number ≡ Some inst → stack ≡ rest ++ number ∷ [] → IsMarked gs from old stack → IsSpread inst.entered old rest new stack' → IsMarked gs from new stack'
+marked_more gs from number inst old new stack rest stack' is e m s =
     record {
       same = s.same ∙ m.same;
-      reached = λ j h. ⊎_elim (λ o. m.reached j o) (λ p. subst (ReachesBy gs from) p.2 (reaches_on gs from place p.0 (m.reached place (m.stacked place on_stack)) (it_enters gs place inst p.0 is p.1))) (s.only j h);
+      reached = λ j h. ⊎_elim (λ o. m.reached j o) (λ p. subst (ReachesBy gs from) p.2 (reaches_on gs from number p.0 (m.reached number (m.stacked number on_stack)) (it_enters gs number inst p.0 is p.1))) (s.only j h);
       stacked = λ j h. ⊎_elim (λ h. s.kept j (m.stacked j (on_rest j h))) (λ o. o) (s.stack_only j h);
       first = λ d enters. s.kept d.into (m.first d enters);
       rest = λ j d h enters. ⊎_elim
           (λ o. ⊎_elim
-          (λ h. ⊎_elim (λ h. inl (s.stack_kept j h)) (λ same. inr (s.all d (of_inst gs place inst d is (subst (λ x. EntersAlong gs x d) (sym same) enters)))) (Contains-push_cases rest place j (subst (λ xs. Contains xs j) e h)))
+          (λ h. ⊎_elim (λ h. inl (s.stack_kept j h)) (λ same. inr (s.all d (of_inst gs number inst d is (subst (λ x. EntersAlong gs x d) (sym same) enters)))) (Contains-push_cases rest number j (subst (λ xs. Contains xs j) e h)))
           (λ o. inr (s.kept d.into o))
           (m.rest j d o enters))
           (λ p. inl p.3)
           (s.only j h);
     }
   where
-    on_stack : Contains stack place
-    on_stack = subst (λ xs. Contains xs place) (sym e) (Contains-push rest place)
+    on_stack : Contains stack number
+    on_stack = subst (λ xs. Contains xs number) (sym e) (Contains-push rest number)
 
     on_rest : (j : ℕ) → Contains rest j → Contains stack j
-    on_rest j h = subst (λ xs. Contains xs j) (sym e) (Contains-append_left rest (place ∷ []) j h)
+    on_rest j h = subst (λ xs. Contains xs j) (sym e) (Contains-append_left rest (number ∷ []) j h)
 
 pub all_marked : (gs : List GraphInst) (from : ℕ) (seen : List Bool) → IsMarked gs from seen [] → (j : ℕ) → ReachesBy gs from j → marked seen j ≡ true
 all_marked gs from seen m j (once _ e enters) = m.first e enters
@@ -143,9 +143,9 @@ none_marked (suc n) (suc j) = none_marked n j
 pub into_seen : (gs : List GraphInst) (seen : List Bool) → IsGraph gs → length seen ≡ length gs → (i : ℕ) (inst : GraphInst) → slice_get gs i ≡ Some inst → (e : Entered) → Contains inst.entered e → e.into < length seen
 into_seen gs seen graph same i inst is e h = omega (arith, same, graph.within i e (it_enters gs i inst e is h))
 
-pub place_inside : (gs : List GraphInst) (from place : ℕ) (seen : List Bool) (stack rest : List ℕ) → IsMarked gs from seen stack → stack ≡ rest ++ place ∷ [] → place < length gs
-place_inside gs from place seen stack rest m e =
-    let lt = marked_inside seen place (m.stacked place (subst (λ xs. Contains xs place) (sym e) (Contains-push rest place))) in
+pub number_inside : (gs : List GraphInst) (from number : ℕ) (seen : List Bool) (stack rest : List ℕ) → IsMarked gs from seen stack → stack ≡ rest ++ number ∷ [] → number < length gs
+number_inside gs from number seen stack rest m e =
+    let lt = marked_inside seen number (m.stacked number (subst (λ xs. Contains xs number) (sym e) (Contains-push rest number))) in
     omega (arith, m.same)
 
 pub nothing_left : (gs : List GraphInst) (from : ℕ) (seen : List Bool) (stack : List ℕ) → length stack ≡ 0 → IsMarked gs from seen stack → IsMarked gs from seen []

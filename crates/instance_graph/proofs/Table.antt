@@ -9,20 +9,20 @@ use Rattle.std.proofs.lemmas.List.Sums.{sum_by-set, sum_by-cons}
 use Rattle.std.proofs.lemmas.List.Elements.{Contains-push_cases, Contains-push, Contains-append_left}
 use Rattle.basics.specs.Items.{none_within}
 use Rattle.instance_graph.specs.declared.graph.GraphInst.{GraphInst}
-use Rattle.instance_graph.specs.declared.graph.Place.{Place}
+use Rattle.instance_graph.specs.declared.graph.ClosedNode.{ClosedNode}
 use Rattle.instance_graph.specs.declared.graph.Entered.{Entered}
 use Rattle.node_keys.specs.declared.keys.EdgeKind.TheVariants.{Local}
 use Rattle.instance_graph.specs.declared.graph.GraphWay.TheVariants.{Enters}
 use Rattle.instance_graph.specs.declared.found.Found.{Found}
-use Rattle.instance_graph.specs.Graph.{EntersAlong, HasPlace, IsGraph}
+use Rattle.instance_graph.specs.Graph.{EntersAlong, HasClosedNode, IsGraph}
 use Rattle.instance_graph.specs.Table.{at, IsOver, raised, one_if_found, one_if_missing, count_found, count_missing, IsSmall, IsSettled, IsSoundTable, IsInstStuck, IsVisit}
 
 -- stand-ins for a missing item
 abbrev pub no_entry : Entered
 no_entry = record { node = 0; offset = 0; way = Enters Local; into = 0 }
 
-abbrev pub no_place : Place
-no_place = record { node = 0; offset = 0 }
+abbrev pub no_node : ClosedNode
+no_node = record { node = 0; offset = 0 }
 
 pub more_within : {X : Type 0} (xs : List X) (i : ℕ) (d k : X) → i < length xs → Contains (take (i + 1) xs) k → Contains (take i xs) k ⊎ (get_or xs i d ≡ k)
 more_within xs i d k lt h = Contains-push_cases (take i xs) (get_or xs i d) k (subst (λ ys. Contains ys k) (take_more xs i d lt) h)
@@ -31,7 +31,7 @@ pub same_found : (x y : Found) (o : Option Found) → o ≡ Some x → o ≡ Som
 same_found x y o e e' = cc
 
 -- ---- above what an instance enters
-pub over_none : (back : ℕ) (offsets : List Place) (table : List (Option Found)) (g : ℕ) → ((p : Place) → Contains offsets p → p.offset ≤ g) → ((m : ℕ) → ((p : Place) → Contains offsets p → p.offset ≤ m) → g ≤ m) → IsOver back [] offsets table (record { rank = 0; need = g })
+pub over_none : (back : ℕ) (offsets : List ClosedNode) (table : List (Option Found)) (g : ℕ) → ((p : ClosedNode) → Contains offsets p → p.offset ≤ g) → ((m : ℕ) → ((p : ClosedNode) → Contains offsets p → p.offset ≤ m) → g ≤ m) → IsOver back [] offsets table (record { rank = 0; need = g })
 over_none back offsets table g above least =
     record {
       entered = λ e h. absurd (none_within h);
@@ -46,14 +46,14 @@ within_first xs i d k lt h = subst (λ ys. Contains ys k) (sym (take_more xs i d
 within_last : {X : Type 0} (xs : List X) (i : ℕ) (d : X) → i < length xs → Contains (take (i + 1) xs) (get_or xs i d)
 within_last xs i d lt = subst (λ ys. Contains ys (get_or xs i d)) (sym (take_more xs i d lt)) (Contains-push (take i xs) (get_or xs i d))
 
-pub greatest_more : (xs : List Place) (i : ℕ) (d : Place) (most most' : ℕ) → i < length xs → most' ≡ max most (get_or xs i d).offset → ((p : Place) → Contains (take i xs) p → p.offset ≤ most) → ((m : ℕ) → ((p : Place) → Contains (take i xs) p → p.offset ≤ m) → most ≤ m) → record { above : (p : Place) → Contains (take (i + 1) xs) p → p.offset ≤ most'; least : (m : ℕ) → ((p : Place) → Contains (take (i + 1) xs) p → p.offset ≤ m) → most' ≤ m }
+pub greatest_more : (xs : List ClosedNode) (i : ℕ) (d : ClosedNode) (most most' : ℕ) → i < length xs → most' ≡ max most (get_or xs i d).offset → ((p : ClosedNode) → Contains (take i xs) p → p.offset ≤ most) → ((m : ℕ) → ((p : ClosedNode) → Contains (take i xs) p → p.offset ≤ m) → most ≤ m) → record { above : (p : ClosedNode) → Contains (take (i + 1) xs) p → p.offset ≤ most'; least : (m : ℕ) → ((p : ClosedNode) → Contains (take (i + 1) xs) p → p.offset ≤ m) → most' ≤ m }
 greatest_more xs i d most most' lt e above least =
     record {
       above = λ p h. ⊎_elim (λ h. omega (arith, above p h)) (λ is. omega (arith, ap (λ q. q.offset) is)) (more_within xs i d p lt h);
       least = λ m all. let old = least m (λ p h. all p (within_first xs i d p lt h)) in let new = all (get_or xs i d) (within_last xs i d lt) in omega arith;
     }
 
-pub over_more : (back : ℕ) (es : List Entered) (offsets : List Place) (table : List (Option Found)) (i : ℕ) (d : Entered) (f x f' : Found) → i < length es → at table (get_or es i d).into ≡ Some x → f' ≡ raised back f (get_or es i d) x → IsOver back (take i es) offsets table f → IsOver back (take (i + 1) es) offsets table f'
+pub over_more : (back : ℕ) (es : List Entered) (offsets : List ClosedNode) (table : List (Option Found)) (i : ℕ) (d : Entered) (f x f' : Found) → i < length es → at table (get_or es i d).into ≡ Some x → f' ≡ raised back f (get_or es i d) x → IsOver back (take i es) offsets table f → IsOver back (take (i + 1) es) offsets table f'
 over_more back es offsets table i d f x f' lt is e over =
     let last = get_or es i d in
     let er : f'.rank ≡ max f.rank (x.rank + 1) = ap (λ y. y.rank) e in
@@ -69,11 +69,11 @@ over_more back es offsets table i d f x f' lt is e over =
     }
 
 -- for a list that the code has on the way
-pub over_more_at : (back : ℕ) (es es0 : List Entered) (offsets : List Place) (table : List (Option Found)) (i : ℕ) (d : Entered) (f x f' : Found) → es0 ≡ es → i < length es0 → at table (get_or es0 i d).into ≡ Some x → f' ≡ raised back f (get_or es0 i d) x → IsOver back (take i es) offsets table f → IsOver back (take (i + 1) es) offsets table f'
+pub over_more_at : (back : ℕ) (es es0 : List Entered) (offsets : List ClosedNode) (table : List (Option Found)) (i : ℕ) (d : Entered) (f x f' : Found) → es0 ≡ es → i < length es0 → at table (get_or es0 i d).into ≡ Some x → f' ≡ raised back f (get_or es0 i d) x → IsOver back (take i es) offsets table f → IsOver back (take (i + 1) es) offsets table f'
 over_more_at back es es0 offsets table i d f x f' e lt is raise over =
     subst (λ ys. IsOver back (take (i + 1) ys) offsets table f') e (over_more back es0 offsets table i d f x f' lt is raise (subst (λ ys. IsOver back (take i ys) offsets table f) (sym e) over))
 
-pub over_none_at : (back : ℕ) (offsets offsets0 : List Place) (table : List (Option Found)) (g : ℕ) → offsets0 ≡ offsets → ((p : Place) → Contains offsets0 p → p.offset ≤ g) → ((m : ℕ) → ((p : Place) → Contains offsets0 p → p.offset ≤ m) → g ≤ m) → IsOver back [] offsets table (record { rank = 0; need = g })
+pub over_none_at : (back : ℕ) (offsets offsets0 : List ClosedNode) (table : List (Option Found)) (g : ℕ) → offsets0 ≡ offsets → ((p : ClosedNode) → Contains offsets0 p → p.offset ≤ g) → ((m : ℕ) → ((p : ClosedNode) → Contains offsets0 p → p.offset ≤ m) → g ≤ m) → IsOver back [] offsets table (record { rank = 0; need = g })
 over_none_at back offsets offsets0 table g e above least =
     subst (λ os. IsOver back [] os table (record { rank = 0; need = g })) e (over_none back offsets0 table g above least)
 
@@ -94,13 +94,13 @@ module _ (back : ℕ) (byte : back < 256) (gs : List GraphInst) (table : List (O
   same_inst : (e : Entered) → EntersAlong gs i e → Contains inst.entered e
   same_inst e enters = let is : enters.inst ≡ inst = let a = enters.is in cc in subst (λ x. Contains x.entered e) is enters.has
 
-  same_offsets : (o : Place) → HasPlace gs i o → Contains inst.offsets o
+  same_offsets : (o : ClosedNode) → HasClosedNode gs i o → Contains inst.offsets o
   same_offsets o h = let is : h.inst ≡ inst = let a = h.is in cc in subst (λ x. Contains x.offsets o) is h.has
 
   enters_it : (e : Entered) → Contains inst.entered e → EntersAlong gs i e
   enters_it e h = record { inst = inst; is = here; has = h }
 
-  has_it : (p : Place) → Contains inst.offsets p → HasPlace gs i p
+  has_it : (p : ClosedNode) → Contains inst.offsets p → HasClosedNode gs i p
   has_it o h = record { inst = inst; is = here; has = h }
 
   pub stays_stuck : (e : Entered) → Contains inst.entered e → at table e.into ≡ None → IsInstStuck gs table i
@@ -157,7 +157,7 @@ module _ (back : ℕ) (byte : back < 256) (gs : List GraphInst) (table : List (O
         let p = over.entered e h in
         let same : p.0 ≡ x = same_found p.0 x (at table e.into) p.1 is in
         let lt : x.rank < f.rank = subst (λ y. y.rank < f.rank) same p.2 in
-        let a = graph.places i e (enters_it e h) in
+        let a = graph.edges i e (enters_it e h) in
         let b = (sound.small e.into x is).1 in
         omega arith) in
         (omega arith, n)

@@ -12,8 +12,8 @@ use Rattle.instance_graph.specs.declared.graph.GraphWay.{GraphWay}
 use Rattle.instance_graph.specs.declared.graph.GraphWay.TheVariants.{Enters, Recur}
 use Rattle.instance_graph.specs.declared.graph.GraphInst.{GraphInst}
 use Rattle.instance_graph.specs.declared.graph.Link.{Link}
-use Rattle.instance_graph.specs.declared.graph.Place.{Place}
-use Rattle.instance_graph.specs.Graph.{EntersAlong, HasPlace}
+use Rattle.instance_graph.specs.declared.graph.ClosedNode.{ClosedNode}
+use Rattle.instance_graph.specs.Graph.{EntersAlong, HasClosedNode}
 
 -- calls before interrupts; interrupts by vector, and one that keeps its own enable bit before one that clears it
 abbrev pub kind_numbers : EdgeKind → List ℕ
@@ -45,28 +45,28 @@ pub record IsFirst {X : Type 0} (Is : X → Type 0) (IsUpTo : X → X → Type 0
   pub is : Is x
   pub first : (y : X) → Is y → IsUpTo x y
 
--- places are ordered by node
-abbrev pub IsPlaceUpTo : Place → Place → Type 0
-IsPlaceUpTo p q = p.node ≤ q.node
+-- closed nodes are ordered by number
+abbrev pub IsNodeUpTo : ClosedNode → ClosedNode → Type 0
+IsNodeUpTo p q = p.node ≤ q.node
 
 -- edges are ordered by their numbers
 abbrev pub IsEdgeUpTo : List GraphInst → Entered → Entered → Type 0
 IsEdgeUpTo gs e d = edge_cmp gs d e ≢ Less
 
--- a place of instance i at which the stack is as deep as its need
-abbrev pub IsDeepPlace : List GraphInst → List ℕ → ℕ → Place → Type 0
-IsDeepPlace gs needs i p = HasPlace gs i p × (p.offset ≡ slice_index needs i)
+-- a closed node of instance i at which the stack is as deep as its need
+abbrev pub IsDeepNode : List GraphInst → List ℕ → ℕ → ClosedNode → Type 0
+IsDeepNode gs needs i p = HasClosedNode gs i p × (p.offset ≡ slice_index needs i)
 
 -- an edge out of instance i that attains its need, if a return address takes `back` bytes
 abbrev pub IsDeepEdge : ℕ → List GraphInst → List ℕ → ℕ → Entered → Type 0
 IsDeepEdge back gs needs i e = EntersAlong gs i e × (e.offset + back + slice_index needs e.into ≡ slice_index needs i)
 
--- The chain from instance i on, whose base is `above` bytes below the root's. It ends at the least place as deep as the need, if there is
--- one; else it follows the least edge that attains the need.
+-- The chain from instance i on, whose base is `above` bytes below the root's. It ends at the least closed node as deep as the need, if there
+-- is one; else it follows the least edge that attains the need.
 pub data IsChainFrom (back : ℕ) (gs : List GraphInst) (needs : List ℕ) : ℕ → ℕ → List Link → Type 0 where
-  ends : (i above : ℕ) (p : Place) → IsFirst (IsDeepPlace gs needs i) IsPlaceUpTo p
+  ends : (i above : ℕ) (p : ClosedNode) → IsFirst (IsDeepNode gs needs i) IsNodeUpTo p
       → IsChainFrom back gs needs i above (record { inst = i; node = p.node; depth = above + p.offset; way = None } ∷ [])
-  goes : (i above : ℕ) (e : Entered) (rest : List Link) → ((p : Place) → IsDeepPlace gs needs i p → ⊥) → IsFirst (IsDeepEdge back gs needs i) (IsEdgeUpTo gs) e
+  goes : (i above : ℕ) (e : Entered) (rest : List Link) → ((p : ClosedNode) → IsDeepNode gs needs i p → ⊥) → IsFirst (IsDeepEdge back gs needs i) (IsEdgeUpTo gs) e
       → IsChainFrom back gs needs e.into (above + e.offset + back) rest
       → IsChainFrom back gs needs i above (record { inst = i; node = e.node; depth = above + e.offset; way = Some e.way } ∷ rest)
 
@@ -74,11 +74,11 @@ pub data IsChainFrom (back : ℕ) (gs : List GraphInst) (needs : List ℕ) : ℕ
 abbrev pub IsChain : ℕ → List GraphInst → List ℕ → List Link → Type 0
 IsChain back gs needs links = IsChainFrom back gs needs 0 0 links
 
--- instance i has a place
+-- instance i has a closed node
 abbrev pub HasSome : List GraphInst → ℕ → Type 0
-HasSome gs i = (p : Place) × HasPlace gs i p
+HasSome gs i = (p : ClosedNode) × HasClosedNode gs i p
 
--- the root and each entered instance have a place
-pub record HavePlaces (gs : List GraphInst) : Type 0 where
+-- the root and each entered instance have a closed node
+pub record HaveClosedNodes (gs : List GraphInst) : Type 0 where
   pub root : HasSome gs 0
   pub entered : (i : ℕ) (e : Entered) → EntersAlong gs i e → HasSome gs e.into

@@ -20,7 +20,7 @@ number_of (Vector v) entry = v
 number_of Call entry = entry
 number_of Root entry = entry
 
--- instance i with key a comes up to instance j with key b: by group, then by vector or entry, then by place
+-- instance i with key a comes up to instance j with key b: by group, then by vector or entry, then by number
 abbrev pub IsNoLater : InstKey → ℕ → InstKey → ℕ → Type 0
 IsNoLater a i b j =
     (group_of a.kind < group_of b.kind)

@@ -3,16 +3,16 @@ use Rattle.std.specs.Prelude.{◌≡◌, ℕ, ◌+◌, ◌≤◌, List, [], ◌�
 use Rattle.instance_graph.specs.declared.graph.Entered.{Entered}
 use Rattle.instance_graph.specs.declared.graph.GraphInst.{GraphInst}
 use Rattle.instance_graph.specs.declared.graph.Link.{Link}
-use Rattle.instance_graph.specs.declared.graph.Place.{Place}
+use Rattle.instance_graph.specs.declared.graph.ClosedNode.{ClosedNode}
 use Rattle.instance_graph.specs.Chain.{IsChain}
 use Rattle.instance_graph.specs.Cycle.{IsNamed}
-use Rattle.instance_graph.specs.Graph.{EntersAlong, HasPlace, ReachesBy, AreGraphRanks, AreGraphNeeds}
+use Rattle.instance_graph.specs.Graph.{EntersAlong, HasClosedNode, ReachesBy, AreGraphRanks, AreGraphNeeds}
 use Rattle.instance_graph.specs.Least.{IsLeast}
 
--- Nested entries from instance i on lower the stack pointer by this many bytes below its base: at a place of its own, or through an edge,
--- with the `back` bytes of a return address, and on from the entered instance.
+-- Nested entries from instance i on lower the stack pointer by this many bytes below its base: at a closed node of its own, or through an
+-- edge, with the `back` bytes of a return address, and on from the entered instance.
 pub data Nests (back : ℕ) (gs : List GraphInst) : ℕ → ℕ → Type 0 where
-  here : (i : ℕ) (p : Place) → HasPlace gs i p → Nests back gs i p.offset
+  here : (i : ℕ) (p : ClosedNode) → HasClosedNode gs i p → Nests back gs i p.offset
   deeper : (i depth : ℕ) (e : Entered) → EntersAlong gs i e → Nests back gs e.into depth → Nests back gs i (e.offset + back + depth)
 
 -- if ranks exist, no instance is on a cycle

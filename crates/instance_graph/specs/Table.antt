@@ -4,19 +4,19 @@ use Rattle.std.specs.List.{sum_by}
 use Rattle.instance_graph.specs.declared.found.Found.{Found}
 use Rattle.instance_graph.specs.declared.graph.Entered.{Entered}
 use Rattle.instance_graph.specs.declared.graph.GraphInst.{GraphInst}
-use Rattle.instance_graph.specs.declared.graph.Place.{Place}
-use Rattle.instance_graph.specs.Graph.{EntersAlong, HasPlace, AreGraphRanks, AreGraphNeeds}
+use Rattle.instance_graph.specs.declared.graph.ClosedNode.{ClosedNode}
+use Rattle.instance_graph.specs.Graph.{EntersAlong, HasClosedNode, AreGraphRanks, AreGraphNeeds}
 
 -- the entry of instance i
 abbrev pub at : List (Option Found) → ℕ → Option Found
 at table i = slice_index_or table i None
 
 -- f is the least above these offsets, and above the entries of all entered instances, if a return address takes `back` bytes
-pub record IsOver (back : ℕ) (es : List Entered) (offsets : List Place) (table : List (Option Found)) (f : Found) : Type 0 where
+pub record IsOver (back : ℕ) (es : List Entered) (offsets : List ClosedNode) (table : List (Option Found)) (f : Found) : Type 0 where
   pub entered : (e : Entered) → Contains es e → (x : Found) × (at table e.into ≡ Some x) × (x.rank < f.rank) × (e.offset + back + x.need ≤ f.need)
-  pub above : (p : Place) → Contains offsets p → p.offset ≤ f.need
+  pub above : (p : ClosedNode) → Contains offsets p → p.offset ≤ f.need
   pub rank_least : (m : ℕ) → ((e : Entered) (x : Found) → Contains es e → at table e.into ≡ Some x → x.rank < m) → f.rank ≤ m
-  pub need_least : (m : ℕ) → ((p : Place) → Contains offsets p → p.offset ≤ m) → ((e : Entered) (x : Found) → Contains es e → at table e.into ≡ Some x → e.offset + back + x.need ≤ m) → f.need ≤ m
+  pub need_least : (m : ℕ) → ((p : ClosedNode) → Contains offsets p → p.offset ≤ m) → ((e : Entered) (x : Found) → Contains es e → at table e.into ≡ Some x → e.offset + back + x.need ≤ m) → f.need ≤ m
 
 -- f, raised above the cost of entering an instance with entry x
 abbrev pub raised : ℕ → Found → Entered → Found → Found
@@ -45,7 +45,7 @@ IsSmall x count = (x.rank < count) × (x.need ≤ 33023 * (x.rank + 1))
 -- x has the least rank and need of instance i, and all instances that it enters have entries
 pub record IsSettled (back : ℕ) (gs : List GraphInst) (table : List (Option Found)) (i : ℕ) (x : Found) : Type 0 where
   pub entered : (e : Entered) → EntersAlong gs i e → (y : Found) × (at table e.into ≡ Some y) × (y.rank < x.rank) × (e.offset + back + y.need ≤ x.need)
-  pub offsets : (p : Place) → HasPlace gs i p → p.offset ≤ x.need
+  pub offsets : (p : ClosedNode) → HasClosedNode gs i p → p.offset ≤ x.need
   pub rank_least : (rank : ℕ → ℕ) → AreGraphRanks gs rank → x.rank ≤ rank i
   pub need_least : (need : ℕ → ℕ) → AreGraphNeeds back gs need → x.need ≤ need i
 

@@ -5,17 +5,17 @@ use Rattle.instance_graph.specs.declared.chaining.ChainTurn.TheVariants.{Ends, E
 use Rattle.instance_graph.specs.declared.graph.Entered.{Entered}
 use Rattle.instance_graph.specs.declared.graph.GraphInst.{GraphInst}
 use Rattle.instance_graph.specs.declared.graph.Link.{Link}
-use Rattle.instance_graph.specs.declared.graph.Place.{Place}
+use Rattle.instance_graph.specs.declared.graph.ClosedNode.{ClosedNode}
 use Rattle.instance_graph.specs.Graph.{AreGraphNeeds}
-use Rattle.instance_graph.specs.Chain.{IsFirst, IsPlaceUpTo, IsEdgeUpTo, IsDeepPlace, IsDeepEdge, IsChainFrom, IsChain, HasSome}
+use Rattle.instance_graph.specs.Chain.{IsFirst, IsNodeUpTo, IsEdgeUpTo, IsDeepNode, IsDeepEdge, IsChainFrom, IsChain, HasSome}
 
 -- the first item of the list with the property, if any has it
 abbrev pub IsBest : {X : Type 0} → (X → Type 0) → (X → X → Type 0) → List X → Option X → Type 0
 IsBest {X} Is IsUpTo xs best = MatchOption best ((y : X) → Contains xs y → Is y → ⊥) (IsFirst (λ x. Contains xs x × Is x) IsUpTo)
 
--- the first place of this offset
-abbrev pub IsBestPlace : ℕ → List Place → Option Place → Type 0
-IsBestPlace need = IsBest (λ p. p.offset ≡ need) IsPlaceUpTo
+-- the first closed node of this offset
+abbrev pub IsBestNode : ℕ → List ClosedNode → Option ClosedNode → Type 0
+IsBestNode need = IsBest (λ p. p.offset ≡ need) IsNodeUpTo
 
 -- the first edge with this need, if a return address takes `back` bytes
 abbrev pub IsBestEdge : ℕ → List GraphInst → List ℕ → ℕ → List Entered → Option Entered → Type 0
@@ -23,8 +23,8 @@ IsBestEdge back gs needs need = IsBest (λ e. e.offset + back + slice_index need
 
 -- the next step of the chain from instance i
 abbrev pub IsTurn : ℕ → List GraphInst → List ℕ → ℕ → ChainTurn → Type 0
-IsTurn back gs needs i (Ends p) = IsFirst (IsDeepPlace gs needs i) IsPlaceUpTo p
-IsTurn back gs needs i (Enters e) = ((p : Place) → IsDeepPlace gs needs i p → ⊥) × IsFirst (IsDeepEdge back gs needs i) (IsEdgeUpTo gs) e
+IsTurn back gs needs i (Ends p) = IsFirst (IsDeepNode gs needs i) IsNodeUpTo p
+IsTurn back gs needs i (Enters e) = ((p : ClosedNode) → IsDeepNode gs needs i p → ⊥) × IsFirst (IsDeepEdge back gs needs i) (IsEdgeUpTo gs) e
 
 -- needs, the least ones
 pub record AreLeastNeeds (back : ℕ) (gs : List GraphInst) (needs : List ℕ) : Type 0 where
@@ -35,6 +35,6 @@ pub record AreLeastNeeds (back : ℕ) (gs : List GraphInst) (needs : List ℕ) :
 -- The chain from the root is these links, followed by the chain from instance i, whose base is `above` bytes below the root's.
 pub record IsOnWay (back : ℕ) (gs : List GraphInst) (needs : List ℕ) (i above : ℕ) (links : List Link) : Type 0 where
   pub inside : i < length gs
-  pub place : HasSome gs i
+  pub closed : HasSome gs i
   pub depth : above + slice_index needs i ≡ slice_index needs 0
   pub whole : (rest : List Link) → IsChainFrom back gs needs i above rest → IsChain back gs needs (links ++ rest)

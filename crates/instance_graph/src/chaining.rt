@@ -4,40 +4,40 @@ ghost use Rattle.std.specs.Prelude.{◌≡◌, ◌+◌, ◌<◌, ◌≤◌, IfOk
 ghost use Rattle.avr_model.specs.State.{SIZE};
 ghost use Rattle.std.specs.Ordering.{is_lt, nat_cmp};
 ghost use Rattle.instance_graph.specs.declared.graph.Entered.{Entered};
-ghost use Rattle.instance_graph.specs.declared.graph.Place.{Place};
+ghost use Rattle.instance_graph.specs.declared.graph.ClosedNode.{ClosedNode};
 ghost use Rattle.std.specs.Cmp.Lexicographic.{slice_cmp};
-ghost use Rattle.instance_graph.specs.Chain.{way_numbers, edge_cmp, entry_of, IsChain, HasSome, HavePlaces};
+ghost use Rattle.instance_graph.specs.Chain.{way_numbers, edge_cmp, entry_of, IsChain, HasSome, HaveClosedNodes};
 ghost use Rattle.instance_graph.specs.Graph.{IsGraph};
 ghost use Rattle.instance_graph.specs.Least.{IsLeast};
-ghost use Rattle.instance_graph.specs.Turn.{IsBestPlace, IsBestEdge, IsTurn, AreLeastNeeds};
+ghost use Rattle.instance_graph.specs.Turn.{IsBestNode, IsBestEdge, IsTurn, AreLeastNeeds};
 
 use crate::composing::Composed;
 use crate::depth_first::read;
-use crate::graph::{Entered, Graph, GraphInst, GraphWay, Link, Place};
+use crate::graph::{ClosedNode, Entered, Graph, GraphInst, GraphWay, Link};
 use std::alloc::{AllocError, Global};
 use std::cmp::Ordering;
 
 /// How a chain continues from an instance.
 #[derive(Clone, Copy)]
 pub enum ChainTurn {
-    /// It ends at this place.
-    Ends(Place),
+    /// It ends at this closed node.
+    Ends(ClosedNode),
     /// It follows this edge.
     Enters(Entered),
 }
 
-// The place of this offset with the least node.
-fn best_place(places: &[Place], need: u32) -> Option<Place>
-    ensures { IsBestPlace need places.now result }
+// The least closed node of this offset.
+fn best_node(nodes: &[ClosedNode], need: u32) -> Option<ClosedNode>
+    ensures { IsBestNode need nodes.now result }
 {
-    let mut best: Option<Place> = None;
-    for place in places {
+    let mut best: Option<ClosedNode> = None;
+    for closed in nodes {
         let first = match best {
             None => true,
-            Some(old) => place.node < old.node,
+            Some(old) => closed.node < old.node,
         };
-        if first && u32::from(place.offset) == need {
-            best = Some(*place);
+        if first && u32::from(closed.offset) == need {
+            best = Some(*closed);
         }
     }
     best
@@ -109,13 +109,13 @@ fn best_edge(
 fn goes_on(instances: &[GraphInst], needs: &[u32], inst: u32, back: u8) -> ChainTurn
     requires least { AreLeastNeeds back instances.now needs.now }
     requires within { inst < length instances.now }
-    requires place { HasSome instances.now inst }
+    requires closed { HasSome instances.now inst }
     ensures { IsTurn back instances.now needs.now inst result }
 {
     let here = &instances[inst as usize];
     let need = needs[inst as usize];
-    match best_place(here.offsets.as_slice(), need) {
-        Some(place) => ChainTurn::Ends(place),
+    match best_node(here.offsets.as_slice(), need) {
+        Some(closed) => ChainTurn::Ends(closed),
         None => match best_edge(instances, needs, here.entered.as_slice(), need, back) {
             Some(entered) => ChainTurn::Enters(entered),
             None => unreachable!(),
@@ -135,7 +135,7 @@ pub fn chain(
     requires graph { IsGraph graph.now.instances }
     requires least { IsLeast back graph.now.instances composed.now.ranks composed.now.needs }
     requires bound { slice_index composed.now.needs 0 ≤ SIZE }
-    requires places { HavePlaces graph.now.instances }
+    requires closed { HaveClosedNodes graph.now.instances }
     ensures { IfOk result (λ links. IsChain back graph.now.instances composed.now.needs links.items) }
 {
     let instances = graph.instances.as_slice();
@@ -145,11 +145,11 @@ pub fn chain(
     let mut above = 0;
     'links: loop {
         match goes_on(instances, needs, inst, back) {
-            ChainTurn::Ends(place) => {
+            ChainTurn::Ends(closed) => {
                 links.push(Link {
                     inst,
-                    node: place.node,
-                    depth: above + place.offset,
+                    node: closed.node,
+                    depth: above + closed.offset,
                     way: None,
                 })?;
                 return Ok(links);

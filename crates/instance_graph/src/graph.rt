@@ -5,7 +5,7 @@ use node_keys::{EdgeKind, InstKey};
 
 /// A node with a closed stack pointer.
 #[derive(Clone, Copy)]
-pub struct Place {
+pub struct ClosedNode {
     /// The number of the node.
     pub node: u32,
     /// The offset below the instance's base in bytes, at most 32,768.
@@ -40,7 +40,7 @@ pub struct GraphInst {
     /// The key.
     pub key: InstKey,
     /// The nodes with a closed stack pointer.
-    pub offsets: Listed<Place>,
+    pub offsets: Listed<ClosedNode>,
     /// The edges into instances.
     pub entered: Listed<Entered>,
 }

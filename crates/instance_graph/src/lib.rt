@@ -16,5 +16,5 @@ mod shape;
 pub use chaining::chain;
 pub use composing::{Composed, compose, compose_acyclic};
 pub use fault::ComposeFault;
-pub use graph::{Entered, Graph, GraphInst, GraphWay, Link, Place};
+pub use graph::{ClosedNode, Entered, Graph, GraphInst, GraphWay, Link};
 pub use node_keys::{EdgeKind, InstKey};

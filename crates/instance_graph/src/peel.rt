@@ -2,23 +2,23 @@
 
 ghost use Rattle.std.specs.Prelude.{◌≡◌, ℕ, ◌+◌, ◌*◌, ◌<◌, ◌≤◌, Contains, None, Some, IfSome, IfNone, IfOk, max, length, true, false};
 ghost use Rattle.instance_graph.specs.declared.graph.Entered.{Entered};
-ghost use Rattle.instance_graph.specs.declared.graph.Place.{Place};
+ghost use Rattle.instance_graph.specs.declared.graph.ClosedNode.{ClosedNode};
 ghost use Rattle.instance_graph.specs.declared.found.Found.{Found};
 ghost use Rattle.instance_graph.specs.Graph.{IsGraph};
 ghost use Rattle.instance_graph.specs.Table.{at, IsVisit, ArePassed, IsOver, IsSmall, IsSoundTable, IsInstStuck};
 
 use crate::found::Found;
-use crate::graph::{Entered, GraphInst, Place};
+use crate::graph::{ClosedNode, Entered, GraphInst};
 use std::alloc::{AllocError, Global};
 
 // The greatest offset; 0 if there is none.
-fn greatest(places: &[Place]) -> u32
-    ensures above { (p : Place) → Contains places.now p → p.offset ≤ result }
-    ensures least { (m : ℕ) → ((p : Place) → Contains places.now p → p.offset ≤ m) → result ≤ m }
+fn greatest(nodes: &[ClosedNode]) -> u32
+    ensures above { (p : ClosedNode) → Contains nodes.now p → p.offset ≤ result }
+    ensures least { (m : ℕ) → ((p : ClosedNode) → Contains nodes.now p → p.offset ≤ m) → result ≤ m }
 {
     let mut most: u32 = 0;
-    for place in places {
-        most = most.max(u32::from(place.offset));
+    for closed in nodes {
+        most = most.max(u32::from(closed.offset));
     }
     most
 }

@@ -37,7 +37,7 @@ pub fn reaches_itself(alloc: Global, graph: &[GraphInst], from: usize) -> Result
     'marks: loop {
         match stack.pop() {
             None => return Ok(marks[from]),
-            Some(place) => spread(&graph[place as usize], marks, &mut stack)?,
+            Some(number) => spread(&graph[number as usize], marks, &mut stack)?,
         }
     }
 }

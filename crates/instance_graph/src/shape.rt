@@ -3,11 +3,11 @@
 ghost use Rattle.std.specs.Prelude.{◌≡◌, ◌<◌, ◌≤◌, Contains, true, false};
 ghost use Rattle.avr_model.specs.State as model;
 ghost use Rattle.instance_graph.specs.declared.graph.Entered.{Entered};
-ghost use Rattle.instance_graph.specs.declared.graph.Place.{Place};
-ghost use Rattle.instance_graph.specs.Chain.{HasSome, HavePlaces};
+ghost use Rattle.instance_graph.specs.declared.graph.ClosedNode.{ClosedNode};
+ghost use Rattle.instance_graph.specs.Chain.{HasSome, HaveClosedNodes};
 ghost use Rattle.instance_graph.specs.Graph.{IsGraph};
 
-use crate::graph::{Entered, Graph, GraphInst, Place};
+use crate::graph::{ClosedNode, Entered, Graph, GraphInst};
 use avr_model::device::SIZE;
 
 const MOST_INSTANCES: usize = 65_537;
@@ -15,12 +15,12 @@ const MOST_INSTANCES: usize = 65_537;
 const GREATEST_OFFSET: u16 = SIZE;
 
 // Whether each offset is at most 32,768.
-fn are_low(places: &[Place]) -> bool
-    ensures yes { result ≡ true → (p : Place) → Contains places.now p → p.offset ≤ model.SIZE }
-    ensures no { result ≡ false → (p : Place) × Contains places.now p × (model.SIZE < p.offset) }
+fn are_low(nodes: &[ClosedNode]) -> bool
+    ensures yes { result ≡ true → (p : ClosedNode) → Contains nodes.now p → p.offset ≤ model.SIZE }
+    ensures no { result ≡ false → (p : ClosedNode) × Contains nodes.now p × (model.SIZE < p.offset) }
 {
-    for place in places {
-        if place.offset > GREATEST_OFFSET {
+    for closed in nodes {
+        if closed.offset > GREATEST_OFFSET {
             return false;
         }
     }
@@ -43,8 +43,8 @@ fn lead_inside(edges: &[Entered], count: usize) -> bool
     true
 }
 
-// Whether this instance exists and has a place.
-fn has_place(instances: &[GraphInst], inst: u32) -> bool
+// Whether this instance exists and has a closed node.
+fn has_closed_node(instances: &[GraphInst], inst: u32) -> bool
     ensures yes { result ≡ true → HasSome instances.now inst }
     ensures no { result ≡ false → HasSome instances.now inst → ⊥ }
 {
@@ -56,13 +56,13 @@ fn has_place(instances: &[GraphInst], inst: u32) -> bool
     !here.offsets.as_slice().is_empty()
 }
 
-// Whether each edge enters an instance with a place.
-fn lead_to_places(instances: &[GraphInst], edges: &[Entered]) -> bool
+// Whether each edge enters an instance with a closed node.
+fn lead_to_closed_nodes(instances: &[GraphInst], edges: &[Entered]) -> bool
     ensures yes { result ≡ true → (e : Entered) → Contains edges.now e → HasSome instances.now e.into }
     ensures no { result ≡ false → (e : Entered) × Contains edges.now e × (HasSome instances.now e.into → ⊥) }
 {
     for entered in edges {
-        if !has_place(instances, entered.into) {
+        if !has_closed_node(instances, entered.into) {
             return false;
         }
     }
@@ -95,18 +95,18 @@ impl Graph {
         true
     }
 
-    /// Whether the root and each entered instance have a place, as `chain` requires.
-    pub fn has_places(&self) -> bool
-        ensures yes { result ≡ true → HavePlaces self.now.instances }
-        ensures no { result ≡ false → HavePlaces self.now.instances → ⊥ }
+    /// Whether the root and each entered instance have a closed node, as `chain` requires.
+    pub fn has_closed_nodes(&self) -> bool
+        ensures yes { result ≡ true → HaveClosedNodes self.now.instances }
+        ensures no { result ≡ false → HaveClosedNodes self.now.instances → ⊥ }
     {
         let instances = self.instances.as_slice();
-        if !has_place(instances, 0) {
+        if !has_closed_node(instances, 0) {
             return false;
         }
         for i in 0..instances.len() {
             let here = &instances[i];
-            if !lead_to_places(instances, here.entered.as_slice()) {
+            if !lead_to_closed_nodes(instances, here.entered.as_slice()) {
                 return false;
             }
         }

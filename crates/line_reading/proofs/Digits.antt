@@ -21,7 +21,7 @@ one_letter bs (b ∷ behind) a is none = absurd (omega (arith, none))
 abbrev bad_by : Bool → Bool → Option ℕ
 bad_by p q = if p then (if q then None else Some 1) else Some 0
 
--- the place of the first of two bytes that fails the test
+-- the index of the first of two bytes that fails the test
 bad_of_two : (t : ℕ → Bool) (a b : ℕ) → position (λ c. not (t c)) (a ∷ b ∷ []) ≡ bad_by (t a) (t b)
 bad_of_two t a b = position_from-zero (λ c. not (t c)) (a ∷ b ∷ []) ∙ by (t a) (t b)
   where

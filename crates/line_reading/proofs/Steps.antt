@@ -83,8 +83,8 @@ pub line_refuses : {A : Type 0} (f : List ℕ → Option A) (p q : Position) →
 unfolding line_by
 line_refuses f p q e = taken_err (first_by f p.rest) p (passed p) q e
 
-pub same_place : (a b : ℕ) (xs ys : List TextLine) → a ≡ b → xs ≡ ys → ◌≡◌ {A = Position} (record { at = a; rest = xs }) (record { at = b; rest = ys })
-same_place a b xs ys e f = rw (e, f) refl
+pub same_position : (a b : ℕ) (xs ys : List TextLine) → a ≡ b → xs ≡ ys → ◌≡◌ {A = Position} (record { at = a; rest = xs }) (record { at = b; rest = ys })
+same_position a b xs ys e f = rw (e, f) refl
 
 pub passes_tail : (at : ℕ) (l m : TextLine) (ls ms : List TextLine) (q : Position) → Passes (record { at = at; rest = l ∷ ls }) (m ∷ ms) q → (l ≡ m) × Passes (record { at = at + size_of l; rest = ls }) ms q
 passes_tail at l m ls ms q h =
@@ -92,7 +92,7 @@ passes_tail at l m ls ms q h =
     (c.0, record { lines = c.1; offset = rw c.0 (omega (arith, h.offset)) })
 
 pub passes_end : (p q : Position) → Passes p [] q → p ≡ q
-passes_end p q h = same_place p.at q.at p.rest q.rest (omega (arith, h.offset)) h.lines
+passes_end p q h = same_position p.at q.at p.rest q.rest (omega (arith, h.offset)) h.lines
 
 line_again_at : {A : Type 0} (f : List ℕ → Option A) (at : ℕ) (ls : List TextLine) (q : Position) (text : List ℕ) (x : A) → f text ≡ Some x
     → Passes (record { at = at; rest = ls }) (record { text = text; whole = true } ∷ []) q → line_by f (record { at = at; rest = ls }) ≡ Ok (x, q)

@@ -49,7 +49,7 @@ abbrev pub then_at : {A B E : Type 0} → Result A E → (A → Result B E) → 
 then_at (Ok x) f = f x
 then_at (Err at) f = Err at
 
--- ---- lines whose refusal leaves the reader at the refused line: a refusal tells that place
+-- ---- lines whose refusal leaves the reader at the refused line: a refusal gives that position
 
 -- the text of the first line, which must have a line feed
 abbrev pub text_in : List TextLine → Option (List ℕ)
@@ -68,7 +68,7 @@ abbrev pub passed_from : ℕ → List TextLine → Position
 passed_from at [] = record { at = at; rest = [] }
 passed_from at (l ∷ ls) = record { at = at + size_of l; rest = ls }
 
--- the place after the next line
+-- the position after the next line
 abbrev pub passed : Position → Position
 passed p = passed_from p.at p.rest
 
@@ -76,11 +76,11 @@ abbrev pub taken : {A : Type 0} → Option A → Position → Position → Resul
 taken None here next = Err here
 taken (Some x) here next = Ok (x, next)
 
--- the next line, by a reading of its text, and the place after it
+-- the next line, by a reading of its text, and the position after it
 unfoldable pub line_by : {A : Type 0} → (List ℕ → Option A) → Position → Result (A × Position) Position
 line_by f p = taken (first_by f p.rest) p (passed p)
 
--- a call's result, and the reader's place after it, are those of the reading
+-- a call's result, and the reader's position after it, are those of the reading
 abbrev pub ReadsAt : {X Y : Type 0} → (X → Y) → Position → Result X Malformed → Result (Y × Position) Position → Type 0
 ReadsAt view after (Ok x) due = due ≡ Ok (view x, after)
 ReadsAt view after (Err fault) due = (due ≡ Err after) × (fault.0 ≡ after.at)

@@ -19,7 +19,7 @@ abbrev pub sizes : List TextLine → ℕ
 sizes [] = 0
 sizes (l ∷ ls) = size_of l + sizes ls
 
--- These lines are at the first place, and the second place is after them.
+-- These lines are at the first position, and the second position is after them.
 pub record Passes (p : Position) (ls : List TextLine) (q : Position) : Type 0 where
   pub lines : p.rest ≡ ls ++ q.rest
   pub offset : q.at ≡ p.at + sizes ls
@@ -58,12 +58,12 @@ LineIsWords = (text : List ℕ) → spaced (words_of text) ≡ text
 abbrev pub LinesStand : Type 0
 LinesStand = (wss : List (List (List ℕ))) (ls : List TextLine) → AllByRecursion (AllByRecursion IsWord) wss → AreLines ls → AreLines (map whole wss ++ ls)
 
--- the text from the place on begins with the text of these lines of words
+-- the text from the position on begins with the text of these lines of words
 pub record PassesText (p : Position) (wss : List (List (List ℕ))) (q : Position) : Type 0 where
   pub bytes : joined p.rest ≡ flat_map line wss ++ joined q.rest
   pub offset : q.at ≡ p.at + length (flat_map line wss)
 
--- lines are at a place exactly when the text there begins with theirs
+-- lines are at a position exactly when the text there begins with theirs
 abbrev pub LinesAreText : Type 0
 LinesAreText = (p : Position) (wss : List (List (List ℕ))) (q : Position) → Passes p (map whole wss) q → PassesText p wss q
 

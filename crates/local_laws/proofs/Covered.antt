@@ -42,12 +42,12 @@ use Rattle.local_rules.specs.Site.{Task, masks_by, site_at, task_with}
 
 module _ (ws : List ℕ) (A : List Entry) (m : State) (o : Origin) (k : NodeKey) (s : AbsState) (at : InBareFrame (reads_masks m.device A) m o k s) (b1 b2 : ℕ) (small : b1 < 256)
     (other : b2 < 256) (are : AreWords (image_of m.device ws)) where
-  -- the words, on the machine's device
-  abbrev words : Image
-  words = image_of m.device ws
+  -- the image, on the machine's device
+  abbrev image : Image
+  image = image_of m.device ws
 
   abbrev task : Task
-  task = task_with words A
+  task = task_with image A
 
   -- if no interrupt may come with a half-written stack pointer, and the frame fits SRAM, the row decides
   not_hung : (hung : Bool) (instr : Option Instr) (r : Raw) → CoversStep task m o k b1 b2 instr r → CoversStep task m o k b1 b2 instr (untracked_if hung k.pc r)
@@ -61,50 +61,50 @@ module _ (ws : List ℕ) (A : List Entry) (m : State) (o : Origin) (k : NodeKey)
   not_deep true offset (Some instr) r h = λ clean. absurd (let e = clean in cc)
   not_deep false offset instr r h = h
 
-  plain_covered : (instr : Instr) → instruction_at words m.pc ≡ Some instr
-      → CoversRow task m o k b1 b2 (is_scratch words m.pc) instr (plain_row task (is_scratch words m.pc) (site_at m.device k s) instr)
+  plain_covered : (instr : Instr) → instruction_at image m.pc ≡ Some instr
+      → CoversRow task m o k b1 b2 (is_scratch image m.pc) instr (plain_row task (is_scratch image m.pc) (site_at m.device k s) instr)
   plain_covered instr e =
       let t = before instr s in
       let there = forgetting_at m o k s (written instr) (sets_flags instr) (sets_carry instr) at in
       let spares = forgotten_spares (written instr) s.flags.carry in
-      let sized = sized_at words m.pc instr e in
+      let sized = sized_at image m.pc instr e in
       let le = node_less k t t there.node there.node (states_are_ordered.same t) in
-      let leads = row_less m.device task k (bare_key k s at.node) t t le (is_scratch words m.pc) instr (instruction_fits words m.pc instr e) in
+      let leads = row_less m.device task k (bare_key k s at.node) t t le (is_scratch image m.pc) instr (instruction_fits image m.pc instr e) in
       let row =
-      row_covered A m o k t there b1 b2 words (is_scratch words m.pc) small instr spares sized (λ scratch. scratch_makes_room words m.pc instr scratch e)
-      (λ names. addressed_covered task m o k t there (is_scratch words m.pc) b1 b2 are_written are small instr spares names refl) in
+      row_covered A m o k t there b1 b2 image (is_scratch image m.pc) small instr spares sized (λ scratch. scratch_makes_room image m.pc instr scratch e)
+      (λ names. addressed_covered task m o k t there (is_scratch image m.pc) b1 b2 are_written are small instr spares names refl) in
       λ clean unflagged.
-      settling_follows m o k s at (guarding (is_scratch words m.pc) A k.pc instr) b1 b2 (effect_by task m instr b1 b2) (row_of task (is_scratch words m.pc) (site_at m.device k t) instr)
+      settling_follows m o k s at (guarding (is_scratch image m.pc) A k.pc instr) b1 b2 (effect_by task m instr b1 b2) (row_of task (is_scratch image m.pc) (site_at m.device k t) instr)
       (λ to member. ((leads clean).moves to member).node.formed.count_registers)
-      ((row clean unflagged).leads (held words (reads_masks m.device A) m o k s b1 b2 instr are small other sized at))
+      ((row clean unflagged).leads (held image (reads_masks m.device A) m o k s b1 b2 instr are small other sized at))
 
-  at_instruction : (instr : Option Instr) → instruction_at words m.pc ≡ instr → CoversStep task m o k b1 b2 instr (row_at task (is_scratch words m.pc) (site_at m.device k s) instr)
+  at_instruction : (instr : Option Instr) → instruction_at image m.pc ≡ instr → CoversStep task m o k b1 b2 instr (row_at task (is_scratch image m.pc) (site_at m.device k s) instr)
   at_instruction None e = λ clean. absurd (let e = clean in cc)
   at_instruction (Some instr) e = λ clean unflagged.
-      subst (λ guarded. Follows (masks_by task) m o k guarded b1 b2 (effect_by task m instr b1 b2) (row_by s.facts task (is_scratch words m.pc) (site_at m.device k s) instr))
-      (guards_are words A m.pc k.pc instr at.place.pc) (by s.facts refl clean unflagged)
+      subst (λ guarded. Follows (masks_by task) m o k guarded b1 b2 (effect_by task m instr b1 b2) (row_by s.facts task (is_scratch image m.pc) (site_at m.device k s) instr))
+      (guards_are image A m.pc k.pc instr at.place.pc) (by s.facts refl clean unflagged)
     where
-      by : (f : Option PairFacts) → s.facts ≡ f → CoversRow task m o k b1 b2 (is_scratch words m.pc) instr (row_by f task (is_scratch words m.pc) (site_at m.device k s) instr)
+      by : (f : Option PairFacts) → s.facts ≡ f → CoversRow task m o k b1 b2 (is_scratch image m.pc) instr (row_by f task (is_scratch image m.pc) (site_at m.device k s) instr)
       by None is = plain_covered instr e
       by (Some f) is = paired_covered ws A m o k s at b1 b2 small other are f is instr e (plain_covered instr e)
 
   -- the machine's word is in its device's flash
-  is_fetched : instruction_at words m.pc ≡ fetched m.device words m.pc
-  is_fetched = sym (ap (λ (b : Bool). if b then instruction_at words m.pc else None) (lt-ltb m.pc (words_of m.device) at.machine.pc_small))
+  is_fetched : instruction_at image m.pc ≡ fetched m.device image m.pc
+  is_fetched = sym (ap (λ (b : Bool). if b then instruction_at image m.pc else None) (lt-ltb m.pc (words_of m.device) at.machine.pc_small))
 
   -- the local part covers the machine's instruction
   abbrev Covering : Raw → Type 0
-  Covering r = CoversStep task m o k b1 b2 (instruction_at words m.pc) r
+  Covering r = CoversStep task m o k b1 b2 (instruction_at image m.pc) r
 
   -- the node's row, for the machine's word
   row_in_covered : Covering (row_in m.device task k s)
   row_in_covered =
-      let here = subst (λ x. Covering (row_at task (is_scratch words m.pc) (site_at m.device k s) x)) is_fetched (at_instruction (instruction_at words m.pc) refl) in
-      subst (λ pc. Covering (row_at task (is_scratch words pc) (site_at m.device k s) (fetched m.device words pc))) at.place.pc here
+      let here = subst (λ x. Covering (row_at task (is_scratch image m.pc) (site_at m.device k s) x)) is_fetched (at_instruction (instruction_at image m.pc) refl) in
+      subst (λ pc. Covering (row_at task (is_scratch image pc) (site_at m.device k s) (fetched m.device image pc))) at.place.pc here
 
 module _ (ws : List ℕ) (A : List Entry) (m : State) (o : Origin) (k : NodeKey) (s : AbsState) (at : InBareFrame (reads_masks m.device A) m o k s) (b1 b2 : ℕ) (small : b1 < 256)
     (other : b2 < 256) (are : AreWords (image_of m.device ws)) where
-  -- the words, on the machine's device
+  -- the image, on the machine's device
   abbrev flash : Image
   flash = image_of m.device ws
 

@@ -77,8 +77,8 @@ carry_quiet k s Any set clear = (refl, refl)
 pub flag_branch_quiet : (n : ℕ) (k : NodeKey) (s : AbsState) (set clear : ℕ) (other : Raw) → Quiet other → Quiet (flag_branch n (record { key = k; state = s }) set clear other)
 flag_branch_quiet n k s set clear other h = if_quiet (n == 0) (carry_branch (carry_bit s) k s set clear) other (carry_quiet k s (carry_bit s) set clear) h
 
-pub skipping_quiet : (device : Device) (words : Image) (j k : NodeKey) (s : AbsState) (t : Tri) → Quiet (skipping words (site_at device j s) j k t)
-skipping_quiet device words j k s t = ways_quiet j k s t _ _
+pub skipping_quiet : (device : Device) (image : Image) (j k : NodeKey) (s : AbsState) (t : Tri) → Quiet (skipping image (site_at device j s) j k t)
+skipping_quiet device image j k s t = ways_quiet j k s t _ _
 
 pub going_by_quiet : (device : Device) (k : NodeKey) (s : AbsState) (c : Option Computed) (r : Raw) → Quiet r → Quiet (going_by (site_at device k s) c r)
 going_by_quiet device k s None r q = q

@@ -125,21 +125,21 @@ pub data IsRetold (t u : AbsState) : Type 0 where
   same : u ≡ t → IsRetold t u
   sets : (d : ℕ) (v : AbsByte) → u ≡ with_value t d v → ByteFits v → v.tag ≡ tag.None → IsRetold t u
 
-joined_was : (words : Image) (from : ℕ) (t u : AbsState) (d : ℕ) (permits : ℕ → Bool) (o : Option AbsByte) → flash_joined words from permits ≡ o → with_joined t d o ≡ Some u → IsRetold t u
-joined_was words from t u d permits None is e = absurd (cc)
-joined_was words from t u d permits (Some v) is e =
-    sets d v (sym (same_Some (with_value t d v) u e)) (flash_fits words from permits v is) (flash_untagged words from permits v is)
+joined_was : (image : Image) (from : ℕ) (t u : AbsState) (d : ℕ) (permits : ℕ → Bool) (o : Option AbsByte) → flash_joined image from permits ≡ o → with_joined t d o ≡ Some u → IsRetold t u
+joined_was image from t u d permits None is e = absurd (cc)
+joined_was image from t u d permits (Some v) is e =
+    sets d v (sym (same_Some (with_value t d v) u e)) (flash_fits image from permits v is) (flash_untagged image from permits v is)
 
-flash_was : (words : Image) (from : ℕ) (t u : AbsState) (d : ℕ) (permits : ℕ → Bool) → flash_read words from t d permits ≡ Some u → IsRetold t u
-flash_was words from t u d permits e = by (few_in_flash words from permits) e
+flash_was : (image : Image) (from : ℕ) (t u : AbsState) (d : ℕ) (permits : ℕ → Bool) → flash_read image from t d permits ≡ Some u → IsRetold t u
+flash_was image from t u d permits e = by (few_in_flash image from permits) e
   where
-    by : (few : Bool) → (if few then with_joined t d (flash_joined words from permits) else Some t) ≡ Some u → IsRetold t u
-    by true is = joined_was words from t u d permits (flash_joined words from permits) refl is
+    by : (few : Bool) → (if few then with_joined t d (flash_joined image from permits) else Some t) ≡ Some u → IsRetold t u
+    by true is = joined_was image from t u d permits (flash_joined image from permits) refl is
     by false is = same (sym (same_Some t u is))
 
-extended_was : (words : Image) (bank : Option ℕ) (t u : AbsState) (d : ℕ) (permits : ℕ → Bool) → extended_read words bank t d permits ≡ Some u → IsRetold t u
-extended_was words None t u d permits e = same (sym (same_Some t u e))
-extended_was words (Some b) t u d permits e = flash_was words (65536 * b) t u d permits e
+extended_was : (image : Image) (bank : Option ℕ) (t u : AbsState) (d : ℕ) (permits : ℕ → Bool) → extended_read image bank t d permits ≡ Some u → IsRetold t u
+extended_was image None t u d permits e = same (sym (same_Some t u e))
+extended_was image (Some b) t u d permits e = flash_was image (65536 * b) t u d permits e
 
 doubled_was : (s t : AbsState) (op : BinaryOp) (d : ℕ) → IsRetold t (doubled_by s op d t)
 doubled_was s t binary.Cpc d = same refl
@@ -163,35 +163,35 @@ binary_was s t u op d r e = by (d == r) (sym (same_Some (if d == r then doubled_
     by true is = subst (IsRetold t) (sym is) (doubled_was s t op d)
     by false is = same is
 
-pub retold_was : (words : Image) (s : AbsState) (f : PairFacts) (instr : Instr) (t u : AbsState) → retold words s f instr t ≡ Some u → IsRetold t u
-retold_was words s f (i.Binary op d r) t u e = binary_was s t u op d r e
-retold_was words s f (i.LpmZ d) t u e = flash_was words 0 t u d (pair_permits (z_of s f)) e
-retold_was words s f (i.LpmZPlus d) t u e = flash_was words 0 t u d (pair_permits (z_of s f)) e
-retold_was words s f i.Lpm t u e = flash_was words 0 t u 0 (pair_permits (z_of s f)) e
-retold_was words s f (i.ElpmZ d) t u e = extended_was words (rampz_of s) t u d (pair_permits (z_of s f)) e
-retold_was words s f (i.ElpmZPlus d) t u e = extended_was words (rampz_of s) t u d (pair_permits (z_of s f)) e
-retold_was words s f i.Elpm t u e = extended_was words (rampz_of s) t u 0 (pair_permits (z_of s f)) e
-retold_was words s f _ t u e = same (sym (same_Some t u e))
+pub retold_was : (image : Image) (s : AbsState) (f : PairFacts) (instr : Instr) (t u : AbsState) → retold image s f instr t ≡ Some u → IsRetold t u
+retold_was image s f (i.Binary op d r) t u e = binary_was s t u op d r e
+retold_was image s f (i.LpmZ d) t u e = flash_was image 0 t u d (pair_permits (z_of s f)) e
+retold_was image s f (i.LpmZPlus d) t u e = flash_was image 0 t u d (pair_permits (z_of s f)) e
+retold_was image s f i.Lpm t u e = flash_was image 0 t u 0 (pair_permits (z_of s f)) e
+retold_was image s f (i.ElpmZ d) t u e = extended_was image (rampz_of s) t u d (pair_permits (z_of s f)) e
+retold_was image s f (i.ElpmZPlus d) t u e = extended_was image (rampz_of s) t u d (pair_permits (z_of s f)) e
+retold_was image s f i.Elpm t u e = extended_was image (rampz_of s) t u 0 (pair_permits (z_of s f)) e
+retold_was image s f _ t u e = same (sym (same_Some t u e))
 
 -- ---- it says more than the plain rules
 
-joined_under : (words : Image) (from : ℕ) (t u : AbsState) (d : ℕ) (p : PairSet) → CoversFlash words from p (value_at t.registers d) → few_in_flash words from (pair_permits p) ≡ true
-    → (o : Option AbsByte) → flash_joined words from (pair_permits p) ≡ o → with_joined t d o ≡ Some u → IsStateWithin u t
-joined_under words from t u d p covers few None is e = absurd (cc)
-joined_under words from t u d p covers few (Some v) is e =
-    subst (λ (w : AbsState). IsStateWithin w t) (same_Some (with_value t d v) u e) (value_less t d v (flash_covered words from p (value_at t.registers d) covers few v is))
+joined_under : (image : Image) (from : ℕ) (t u : AbsState) (d : ℕ) (p : PairSet) → CoversFlash image from p (value_at t.registers d) → few_in_flash image from (pair_permits p) ≡ true
+    → (o : Option AbsByte) → flash_joined image from (pair_permits p) ≡ o → with_joined t d o ≡ Some u → IsStateWithin u t
+joined_under image from t u d p covers few None is e = absurd (cc)
+joined_under image from t u d p covers few (Some v) is e =
+    subst (λ (w : AbsState). IsStateWithin w t) (same_Some (with_value t d v) u e) (value_less t d v (flash_covered image from p (value_at t.registers d) covers few v is))
 
-flash_under : (words : Image) (from : ℕ) (t u : AbsState) (d : ℕ) (p : PairSet) → CoversFlash words from p (value_at t.registers d) → flash_read words from t d (pair_permits p) ≡ Some u → IsStateWithin u t
-flash_under words from t u d p covers e = by (few_in_flash words from (pair_permits p)) refl e
+flash_under : (image : Image) (from : ℕ) (t u : AbsState) (d : ℕ) (p : PairSet) → CoversFlash image from p (value_at t.registers d) → flash_read image from t d (pair_permits p) ≡ Some u → IsStateWithin u t
+flash_under image from t u d p covers e = by (few_in_flash image from (pair_permits p)) refl e
   where
-    by : (few : Bool) → few_in_flash words from (pair_permits p) ≡ few → (if few then with_joined t d (flash_joined words from (pair_permits p)) else Some t) ≡ Some u → IsStateWithin u t
-    by true few_is is = joined_under words from t u d p covers few_is (flash_joined words from (pair_permits p)) refl is
+    by : (few : Bool) → few_in_flash image from (pair_permits p) ≡ few → (if few then with_joined t d (flash_joined image from (pair_permits p)) else Some t) ≡ Some u → IsStateWithin u t
+    by true few_is is = joined_under image from t u d p covers few_is (flash_joined image from (pair_permits p)) refl is
     by false many is = subst (λ (w : AbsState). IsStateWithin w t) (same_Some t u is) (states_are_ordered.same t)
 
-extended_under : (words : Image) (bank : Option ℕ) (t u : AbsState) (d : ℕ) (p : PairSet) → ((b : ℕ) → bank ≡ Some b → CoversFlash words (65536 * b) p (value_at t.registers d))
-    → extended_read words bank t d (pair_permits p) ≡ Some u → IsStateWithin u t
-extended_under words None t u d p covers e = subst (λ (w : AbsState). IsStateWithin w t) (same_Some t u e) (states_are_ordered.same t)
-extended_under words (Some b) t u d p covers e = flash_under words (65536 * b) t u d p (covers b refl) e
+extended_under : (image : Image) (bank : Option ℕ) (t u : AbsState) (d : ℕ) (p : PairSet) → ((b : ℕ) → bank ≡ Some b → CoversFlash image (65536 * b) p (value_at t.registers d))
+    → extended_read image bank t d (pair_permits p) ≡ Some u → IsStateWithin u t
+extended_under image None t u d p covers e = subst (λ (w : AbsState). IsStateWithin w t) (same_Some t u e) (states_are_ordered.same t)
+extended_under image (Some b) t u d p covers e = flash_under image (65536 * b) t u d p (covers b refl) e
 
 doubled_under : (s t : AbsState) (op : BinaryOp) (d : ℕ) → CoversDoubled s op d (value_at t.registers d) → IsStateWithin (doubled_by s op d t) t
 doubled_under s t binary.Cpc d covers = states_are_ordered.same t
@@ -215,15 +215,15 @@ binary_under s t u op d r covers e = by (d == r) refl (sym (same_Some (if d == r
     by true few_is is = subst (λ (w : AbsState). IsStateWithin w t) (sym is) (doubled_under s t op d (covers (eqb-true d r few_is)))
     by false many is = subst (λ (w : AbsState). IsStateWithin w t) (sym is) (states_are_ordered.same t)
 
-pub retold_under : (words : Image) (s : AbsState) (f : PairFacts) (instr : Instr) (t u : AbsState) → CoversTold words s instr t → retold words s f instr t ≡ Some u → IsStateWithin u t
-retold_under words s f (i.Binary op d r) t u covers e = binary_under s t u op d r covers e
-retold_under words s f (i.LpmZ d) t u covers e = flash_under words 0 t u d (z_of s f) (covers f) e
-retold_under words s f (i.LpmZPlus d) t u covers e = flash_under words 0 t u d (z_of s f) (covers f) e
-retold_under words s f i.Lpm t u covers e = flash_under words 0 t u 0 (z_of s f) (covers f) e
-retold_under words s f (i.ElpmZ d) t u covers e = extended_under words (rampz_of s) t u d (z_of s f) (covers f) e
-retold_under words s f (i.ElpmZPlus d) t u covers e = extended_under words (rampz_of s) t u d (z_of s f) (covers f) e
-retold_under words s f i.Elpm t u covers e = extended_under words (rampz_of s) t u 0 (z_of s f) (covers f) e
-retold_under words s f _ t u covers e = subst (λ (w : AbsState). IsStateWithin w t) (same_Some t u e) (states_are_ordered.same t)
+pub retold_under : (image : Image) (s : AbsState) (f : PairFacts) (instr : Instr) (t u : AbsState) → CoversTold image s instr t → retold image s f instr t ≡ Some u → IsStateWithin u t
+retold_under image s f (i.Binary op d r) t u covers e = binary_under s t u op d r covers e
+retold_under image s f (i.LpmZ d) t u covers e = flash_under image 0 t u d (z_of s f) (covers f) e
+retold_under image s f (i.LpmZPlus d) t u covers e = flash_under image 0 t u d (z_of s f) (covers f) e
+retold_under image s f i.Lpm t u covers e = flash_under image 0 t u 0 (z_of s f) (covers f) e
+retold_under image s f (i.ElpmZ d) t u covers e = extended_under image (rampz_of s) t u d (z_of s f) (covers f) e
+retold_under image s f (i.ElpmZPlus d) t u covers e = extended_under image (rampz_of s) t u d (z_of s f) (covers f) e
+retold_under image s f i.Elpm t u covers e = extended_under image (rampz_of s) t u 0 (z_of s f) (covers f) e
+retold_under image s f _ t u covers e = subst (λ (w : AbsState). IsStateWithin w t) (same_Some t u e) (states_are_ordered.same t)
 
 -- ---- of more it is more
 
@@ -241,10 +241,10 @@ z_within s s' f f' le facts =
 abbrev IsMoreThan : AbsState → Option AbsState → Type 0
 IsMoreThan u o = (u' : AbsState) × (o ≡ Some u') × IsStateWithin u u'
 
-module _ (words : Image) (from : ℕ) (t t' u : AbsState) (d : ℕ) (count : length t.registers ≡ length t'.registers) (le : IsStateWithin t t') (p p' : PairSet) (more : IsPairWithin p p')
-    (covers : CoversFlash words from p' (value_at t'.registers d)) where
+module _ (image : Image) (from : ℕ) (t t' u : AbsState) (d : ℕ) (count : length t.registers ≡ length t'.registers) (le : IsStateWithin t t') (p p' : PairSet) (more : IsPairWithin p p')
+    (covers : CoversFlash image from p' (value_at t'.registers d)) where
   -- few numbers are permitted of both
-  both_few : (o : Option AbsByte) → flash_joined words from (pair_permits p) ≡ o → with_joined t d o ≡ Some u → IsMoreThan u (with_joined t' d (flash_joined words from (pair_permits p')))
+  both_few : (o : Option AbsByte) → flash_joined image from (pair_permits p) ≡ o → with_joined t d o ≡ Some u → IsMoreThan u (with_joined t' d (flash_joined image from (pair_permits p')))
   both_few None is e = absurd (cc)
   both_few (Some v) is e =
       let joined = joined_more (pair_permits p) (pair_permits p') _ (permits_more p p' more) v is in (
@@ -254,10 +254,10 @@ module _ (words : Image) (from : ℕ) (t t' u : AbsState) (d : ℕ) (count : len
       )
 
   -- too many are permitted of the second
-  first_few : few_in_flash words from (pair_permits p) ≡ true → (o : Option AbsByte) → flash_joined words from (pair_permits p) ≡ o → with_joined t d o ≡ Some u → IsStateWithin u t'
+  first_few : few_in_flash image from (pair_permits p) ≡ true → (o : Option AbsByte) → flash_joined image from (pair_permits p) ≡ o → with_joined t d o ≡ Some u → IsStateWithin u t'
   first_few few None is e = absurd (cc)
   first_few few (Some v) is e =
-      let above = flash_covered words from p (value_at t'.registers d) (λ z lt may. covers z lt (permits_more p p' more z lt may)) few v is in
+      let above = flash_covered image from p (value_at t'.registers d) (λ z lt may. covers z lt (permits_more p p' more z lt may)) few v is in
       subst (λ (w : AbsState). IsStateWithin w t') (same_Some (with_value t d v) u e) (record {
         registers = value_set (λ r w. IsByteWithin w (value_at t'.registers r)) t.registers d v above le.registers;
         flags = le.flags;
@@ -266,31 +266,31 @@ module _ (words : Image) (from : ℕ) (t t' u : AbsState) (d : ℕ) (count : len
         facts = le.facts;
       })
 
-  flash_more : flash_read words from t d (pair_permits p) ≡ Some u → IsMoreThan u (flash_read words from t' d (pair_permits p'))
-  flash_more e = by (few_in_flash words from (pair_permits p)) (few_in_flash words from (pair_permits p')) refl refl e
+  flash_more : flash_read image from t d (pair_permits p) ≡ Some u → IsMoreThan u (flash_read image from t' d (pair_permits p'))
+  flash_more e = by (few_in_flash image from (pair_permits p)) (few_in_flash image from (pair_permits p')) refl refl e
     where
-      by : (few few' : Bool) → few_in_flash words from (pair_permits p) ≡ few → few_in_flash words from (pair_permits p') ≡ few'
-          → (if few then with_joined t d (flash_joined words from (pair_permits p)) else Some t) ≡ Some u
-          → IsMoreThan u (if few' then with_joined t' d (flash_joined words from (pair_permits p')) else Some t')
-      by true true few_is few_is' is = both_few (flash_joined words from (pair_permits p)) refl is
-      by true false few_is many is = (t', refl, first_few few_is (flash_joined words from (pair_permits p)) refl is)
-      by false true many few_is is = absurd (false≢true (sym many ∙ few_less words from (pair_permits p) (pair_permits p') (permits_more p p' more) few_is))
+      by : (few few' : Bool) → few_in_flash image from (pair_permits p) ≡ few → few_in_flash image from (pair_permits p') ≡ few'
+          → (if few then with_joined t d (flash_joined image from (pair_permits p)) else Some t) ≡ Some u
+          → IsMoreThan u (if few' then with_joined t' d (flash_joined image from (pair_permits p')) else Some t')
+      by true true few_is few_is' is = both_few (flash_joined image from (pair_permits p)) refl is
+      by true false few_is many is = (t', refl, first_few few_is (flash_joined image from (pair_permits p)) refl is)
+      by false true many few_is is = absurd (false≢true (sym many ∙ few_less image from (pair_permits p) (pair_permits p') (permits_more p p' more) few_is))
       by false false many many' is = (t', refl, subst (λ (w : AbsState). IsStateWithin w t') (same_Some t u is) le)
 
 -- a bank that the greater knows is that of the lesser
 bank_within : (s s' : AbsState) → IsStateWithin s s' → (b : ℕ) → rampz_of s' ≡ Some b → rampz_of s ≡ Some b
 bank_within s s' le b e = constant_within (value_at s.registers RAMPZ).bits (value_at s'.registers RAMPZ).bits b (le.registers RAMPZ (omega arith)).bits e
 
-extended_more : (words : Image) (bank bank' : Option ℕ) (t t' u : AbsState) (d : ℕ) → length t.registers ≡ length t'.registers → IsStateWithin t t'
-    → (p p' : PairSet) → IsPairWithin p p' → ((b : ℕ) → bank' ≡ Some b → bank ≡ Some b) → ((b : ℕ) → bank ≡ Some b → CoversFlash words (65536 * b) p (value_at t.registers d))
-    → ((b : ℕ) → bank' ≡ Some b → CoversFlash words (65536 * b) p' (value_at t'.registers d)) → extended_read words bank t d (pair_permits p) ≡ Some u
-    → IsMoreThan u (extended_read words bank' t' d (pair_permits p'))
-extended_more words bank None t t' u d count le p p' more known covers covers' e =
-    (t', refl, states_are_ordered.through u t t' (extended_under words bank t u d p covers e) le)
-extended_more words bank (Some b) t t' u d count le p p' more known covers covers' e =
-    let here : flash_read words (65536 * b) t d (pair_permits p) ≡ Some u =
-    subst (λ (x : Option ℕ). extended_read words x t d (pair_permits p) ≡ Some u) (known b refl) e in
-    flash_more words (65536 * b) t t' u d count le p p' more (covers' b refl) here
+extended_more : (image : Image) (bank bank' : Option ℕ) (t t' u : AbsState) (d : ℕ) → length t.registers ≡ length t'.registers → IsStateWithin t t'
+    → (p p' : PairSet) → IsPairWithin p p' → ((b : ℕ) → bank' ≡ Some b → bank ≡ Some b) → ((b : ℕ) → bank ≡ Some b → CoversFlash image (65536 * b) p (value_at t.registers d))
+    → ((b : ℕ) → bank' ≡ Some b → CoversFlash image (65536 * b) p' (value_at t'.registers d)) → extended_read image bank t d (pair_permits p) ≡ Some u
+    → IsMoreThan u (extended_read image bank' t' d (pair_permits p'))
+extended_more image bank None t t' u d count le p p' more known covers covers' e =
+    (t', refl, states_are_ordered.through u t t' (extended_under image bank t u d p covers e) le)
+extended_more image bank (Some b) t t' u d count le p p' more known covers covers' e =
+    let here : flash_read image (65536 * b) t d (pair_permits p) ≡ Some u =
+    subst (λ (x : Option ℕ). extended_read image x t d (pair_permits p) ≡ Some u) (known b refl) e in
+    flash_more image (65536 * b) t t' u d count le p p' more (covers' b refl) here
 
 doubled_within : (s s' : AbsState) (d : ℕ) (low low' : Tri) → IsWithin (value_at s.registers d).bits (value_at s'.registers d).bits → IsTriWithin low low'
     → IsByteWithin (doubled_value s d low) (doubled_value s' d low')
@@ -327,19 +327,19 @@ module _ (s s' t t' : AbsState) (count : length t.registers ≡ length t'.regist
   plain_more : (u : AbsState) → Some t ≡ Some u → IsMoreThan u (Some t')
   plain_more u e = (t', refl, subst (λ (w : AbsState). IsStateWithin w t') (same_Some t u e) le)
 
-  pub retold_more : (words : Image) (f f' : PairFacts) (instr : Instr) (u : AbsState) → HasRegisters instr → AreFactsWithin f f' → CoversTold words s instr t
-      → CoversTold words s' instr t' → retold words s f instr t ≡ Some u → (u' : AbsState) × (retold words s' f' instr t' ≡ Some u') × IsStateWithin u u'
-  retold_more words f f' (i.Binary op d r) u fit facts covers covers' e = binary_more u op d r fit.0 e
-  retold_more words f f' (i.LpmZ d) u fit facts covers covers' e = flash_more words 0 t t' u d count le (z_of s f) (z_of s' f') (z_within s s' f f' within facts) (covers' f') e
-  retold_more words f f' (i.LpmZPlus d) u fit facts covers covers' e = flash_more words 0 t t' u d count le (z_of s f) (z_of s' f') (z_within s s' f f' within facts) (covers' f') e
-  retold_more words f f' i.Lpm u fit facts covers covers' e = flash_more words 0 t t' u 0 count le (z_of s f) (z_of s' f') (z_within s s' f f' within facts) (covers' f') e
-  retold_more words f f' (i.ElpmZ d) u fit facts covers covers' e =
-      extended_more words (rampz_of s) (rampz_of s') t t' u d count le (z_of s f) (z_of s' f') (z_within s s' f f' within facts) (bank_within s s' within) (covers f) (covers' f') e
-  retold_more words f f' (i.ElpmZPlus d) u fit facts covers covers' e =
-      extended_more words (rampz_of s) (rampz_of s') t t' u d count le (z_of s f) (z_of s' f') (z_within s s' f f' within facts) (bank_within s s' within) (covers f) (covers' f') e
-  retold_more words f f' i.Elpm u fit facts covers covers' e =
-      extended_more words (rampz_of s) (rampz_of s') t t' u 0 count le (z_of s f) (z_of s' f') (z_within s s' f f' within facts) (bank_within s s' within) (covers f) (covers' f') e
-  retold_more words f f' _ u fit facts covers covers' e = plain_more u e
+  pub retold_more : (image : Image) (f f' : PairFacts) (instr : Instr) (u : AbsState) → HasRegisters instr → AreFactsWithin f f' → CoversTold image s instr t
+      → CoversTold image s' instr t' → retold image s f instr t ≡ Some u → (u' : AbsState) × (retold image s' f' instr t' ≡ Some u') × IsStateWithin u u'
+  retold_more image f f' (i.Binary op d r) u fit facts covers covers' e = binary_more u op d r fit.0 e
+  retold_more image f f' (i.LpmZ d) u fit facts covers covers' e = flash_more image 0 t t' u d count le (z_of s f) (z_of s' f') (z_within s s' f f' within facts) (covers' f') e
+  retold_more image f f' (i.LpmZPlus d) u fit facts covers covers' e = flash_more image 0 t t' u d count le (z_of s f) (z_of s' f') (z_within s s' f f' within facts) (covers' f') e
+  retold_more image f f' i.Lpm u fit facts covers covers' e = flash_more image 0 t t' u 0 count le (z_of s f) (z_of s' f') (z_within s s' f f' within facts) (covers' f') e
+  retold_more image f f' (i.ElpmZ d) u fit facts covers covers' e =
+      extended_more image (rampz_of s) (rampz_of s') t t' u d count le (z_of s f) (z_of s' f') (z_within s s' f f' within facts) (bank_within s s' within) (covers f) (covers' f') e
+  retold_more image f f' (i.ElpmZPlus d) u fit facts covers covers' e =
+      extended_more image (rampz_of s) (rampz_of s') t t' u d count le (z_of s f) (z_of s' f') (z_within s s' f f' within facts) (bank_within s s' within) (covers f) (covers' f') e
+  retold_more image f f' i.Elpm u fit facts covers covers' e =
+      extended_more image (rampz_of s) (rampz_of s') t t' u 0 count le (z_of s f) (z_of s' f') (z_within s s' f f' within facts) (bank_within s s' within) (covers f) (covers' f') e
+  retold_more image f f' _ u fit facts covers covers' e = plain_more u e
 
 -- ---- it stands for what the instruction leaves
 
@@ -367,7 +367,7 @@ byte_small words z all = here (z % 2 == 0)
 abbrev StandsRetold : Origin → AbsState → Option AbsState → List ℕ → Type 0
 StandsRetold o t left registers = (u : AbsState) × (left ≡ Some u) × RegistersStand o u.registers registers × (u.facts ≡ t.facts)
 
-module _ (o : Origin) (m : State) (s t : AbsState) (n : ℕ) (at : IsBefore o s m) (words : Image) (are : All (λ w. w < 65536) words.words) (f : PairFacts)
+module _ (o : Origin) (m : State) (s t : AbsState) (n : ℕ) (at : IsBefore o s m) (image : Image) (are : All (λ w. w < 65536) image.words) (f : PairFacts)
     (h : HoldsAt (Some f) m.registers m.sreg) (registers : List ℕ) (stand : RegistersStand o t.registers registers) where
   plain_stands : StandsRetold o t (Some t) registers
   plain_stands = (t, refl, stand, refl)
@@ -385,8 +385,8 @@ module _ (o : Origin) (m : State) (s t : AbsState) (n : ℕ) (at : IsBefore o s 
         interval = h.intervals 15 (omega arith);
       }
 
-  flash_stands : (from d input : ℕ) → slice_index registers d ≡ byte_read words (from + pair m 30) input → StandsRetold o t (flash_read words from t d (pair_permits (z_of s f))) registers
-  flash_stands from d input is = by (few_in_flash words from (pair_permits (z_of s f))) refl
+  flash_stands : (from d input : ℕ) → slice_index registers d ≡ byte_read image (from + pair m 30) input → StandsRetold o t (flash_read image from t d (pair_permits (z_of s f))) registers
+  flash_stands from d input is = by (few_in_flash image from (pair_permits (z_of s f))) refl
     where
       z_small : pair m 30 < 65536
       z_small = omega (arith, at.bytes 30, at.bytes 31)
@@ -394,31 +394,31 @@ module _ (o : Origin) (m : State) (s t : AbsState) (n : ℕ) (at : IsBefore o s 
       may : pair_permits (z_of s f) (pair m 30) ≡ true
       may = pair_permits_it (z_of s f) (slice_index m.registers 30) (slice_index m.registers 31) z_stands
 
-      by : (few : Bool) → few_in_flash words from (pair_permits (z_of s f)) ≡ few
-          → StandsRetold o t (if few then with_joined t d (flash_joined words from (pair_permits (z_of s f))) else Some t) registers
+      by : (few : Bool) → few_in_flash image from (pair_permits (z_of s f)) ≡ few
+          → StandsRetold o t (if few then with_joined t d (flash_joined image from (pair_permits (z_of s f))) else Some t) registers
       by false many = plain_stands
       by true few_is =
-          let joined = joined_stands o words from (pair_permits (z_of s f)) (pair m 30) z_small may (byte_small words.words (from + pair m 30) are) in
-          let inside = is_in_flash words from (pair_permits (z_of s f)) (pair m 30) few_is z_small may in
-          let byte : slice_index registers d ≡ byte_at words.words (from + pair m 30) = is ∙ ap (λ (b : Bool). if b then byte_at words.words (from + pair m 30) else input) inside in
+          let joined = joined_stands o image from (pair_permits (z_of s f)) (pair m 30) z_small may (byte_small image.words (from + pair m 30) are) in
+          let inside = is_in_flash image from (pair_permits (z_of s f)) (pair m 30) few_is z_small may in
+          let byte : slice_index registers d ≡ byte_at image.words (from + pair m 30) = is ∙ ap (λ (b : Bool). if b then byte_at image.words (from + pair m 30) else input) inside in
           let set = value_stands d joined.0 (subst (ByteStands o joined.0) (sym byte) joined.1.1) in
           (set.0, ap (with_joined t d) joined.1.0 ∙ set.1, set.2, set.3)
 
   -- from bank 0, and from the bank in RAMPZ
-  first_stands : (d input : ℕ) → slice_index registers d ≡ byte_read words (pair m 30) input → StandsRetold o t (flash_read words 0 t d (pair_permits (z_of s f))) registers
+  first_stands : (d input : ℕ) → slice_index registers d ≡ byte_read image (pair m 30) input → StandsRetold o t (flash_read image 0 t d (pair_permits (z_of s f))) registers
   first_stands d input is =
-      let same : pair m 30 ≡ 0 + pair m 30 = omega arith in flash_stands 0 d input (is ∙ ap (λ (z : ℕ). byte_read words z input) same)
+      let same : pair m 30 ≡ 0 + pair m 30 = omega arith in flash_stands 0 d input (is ∙ ap (λ (z : ℕ). byte_read image z input) same)
 
-  extended_stands : (d input : ℕ) → slice_index registers d ≡ byte_read words (extended_byte m) input
-      → StandsRetold o t (extended_read words (rampz_of s) t d (pair_permits (z_of s f))) registers
+  extended_stands : (d input : ℕ) → slice_index registers d ≡ byte_read image (extended_byte m) input
+      → StandsRetold o t (extended_read image (rampz_of s) t d (pair_permits (z_of s f))) registers
   extended_stands d input is = by (rampz_of s) refl
     where
-      by : (bank : Option ℕ) → rampz_of s ≡ bank → StandsRetold o t (extended_read words bank t d (pair_permits (z_of s f))) registers
+      by : (bank : Option ℕ) → rampz_of s ≡ bank → StandsRetold o t (extended_read image bank t d (pair_permits (z_of s f))) registers
       by None none = plain_stands
       by (Some b) known =
           let rampz = at.registers RAMPZ (omega arith) in
           let holds : register m RAMPZ ≡ b = constant_member (value_at s.registers RAMPZ).bits b (register m RAMPZ) rampz.small known rampz.bits in
-          flash_stands (65536 * b) d input (is ∙ ap (λ (r : ℕ). byte_read words (65536 * r + pair m 30) input) holds)
+          flash_stands (65536 * b) d input (is ∙ ap (λ (r : ℕ). byte_read image (65536 * r + pair m 30) input) holds)
 
   doubled_stands : (d : ℕ) (low : Tri) (c : Bool) → d < 32 → Permits low (from_bool c) → slice_index registers d ≡ sum_of (slice_index m.registers d) (slice_index m.registers d) c % 256
       → StandsRetold o t (Some (with_value t d (doubled_value s d low))) registers
@@ -435,37 +435,37 @@ module _ (o : Origin) (m : State) (s t : AbsState) (n : ℕ) (at : IsBefore o s 
       carry_small true = omega arith
       carry_small false = omega arith
 
-module _ (o : Origin) (m : State) (s t : AbsState) (n : ℕ) (at : IsBefore o s m) (words : Image) (are : All (λ w. w < 65536) words.words) (f : PairFacts)
+module _ (o : Origin) (m : State) (s t : AbsState) (n : ℕ) (at : IsBefore o s m) (image : Image) (are : All (λ w. w < 65536) image.words) (f : PairFacts)
     (h : HoldsAt (Some f) m.registers m.sreg) (still : Bool) (b1 b2 : ℕ) where
   set_at : (d x : ℕ) → d < 32 → slice_index (slice_set m.registers d x) d ≡ x
   set_at d x lt = set_there m.registers d x (omega (arith, lt, at.count))
 
-  by_stands : (op : BinaryOp) (d : ℕ) → d < 32 → RegistersStand o t.registers (with_registers m.registers (binary_effect words m op d d).registers)
-      → StandsRetold o t (Some (doubled_by s op d t)) (with_registers m.registers (binary_effect words m op d d).registers)
+  by_stands : (op : BinaryOp) (d : ℕ) → d < 32 → RegistersStand o t.registers (with_registers m.registers (binary_effect image m op d d).registers)
+      → StandsRetold o t (Some (doubled_by s op d t)) (with_registers m.registers (binary_effect image m op d d).registers)
   by_stands binary.Cpc d lt stand = (t, refl, stand, refl)
   by_stands binary.Sbc d lt stand = (t, refl, stand, refl)
-  by_stands binary.Add d lt stand = doubled_stands o m s t n at words are f h _ stand d Zero false lt refl (set_at d _ lt)
+  by_stands binary.Add d lt stand = doubled_stands o m s t n at image are f h _ stand d Zero false lt refl (set_at d _ lt)
   by_stands binary.Cpse d lt stand = (t, refl, stand, refl)
   by_stands binary.Cp d lt stand = (t, refl, stand, refl)
   by_stands binary.Sub d lt stand = (t, refl, stand, refl)
   by_stands binary.Adc d lt stand =
-      doubled_stands o m s t n at words are f h _ stand d (tri_at s.flags.bits 0) (flag m.sreg 0) lt (flag_permitted s.flags.bits m.sreg at.flags.bits) (set_at d _ lt)
+      doubled_stands o m s t n at image are f h _ stand d (tri_at s.flags.bits 0) (flag m.sreg 0) lt (flag_permitted s.flags.bits m.sreg at.flags.bits) (set_at d _ lt)
   by_stands binary.And d lt stand = (t, refl, stand, refl)
   by_stands binary.Eor d lt stand = (t, refl, stand, refl)
   by_stands binary.Or d lt stand = (t, refl, stand, refl)
   by_stands binary.Mov d lt stand = (t, refl, stand, refl)
   by_stands binary.Mul d lt stand = (t, refl, stand, refl)
 
-  binary_stands : (op : BinaryOp) (d r : ℕ) → d < 32 → RegistersStand o t.registers (with_registers m.registers (binary_effect words m op d r).registers)
-      → StandsRetold o t (Some (if d == r then doubled_by s op d t else t)) (with_registers m.registers (binary_effect words m op d r).registers)
+  binary_stands : (op : BinaryOp) (d r : ℕ) → d < 32 → RegistersStand o t.registers (with_registers m.registers (binary_effect image m op d r).registers)
+      → StandsRetold o t (Some (if d == r then doubled_by s op d t else t)) (with_registers m.registers (binary_effect image m op d r).registers)
   binary_stands op d r lt stand = by (d == r) refl
     where
-      by : (b : Bool) → (d == r) ≡ b → StandsRetold o t (Some (if b then doubled_by s op d t else t)) (with_registers m.registers (binary_effect words m op d r).registers)
+      by : (b : Bool) → (d == r) ≡ b → StandsRetold o t (Some (if b then doubled_by s op d t else t)) (with_registers m.registers (binary_effect image m op d r).registers)
       by false many = (t, refl, stand, refl)
       by true few_is =
           let is = eqb-true d r few_is in
-          subst (λ (q : ℕ). StandsRetold o t (Some (doubled_by s op d t)) (with_registers m.registers (binary_effect words m op d q).registers)) is
-          (by_stands op d lt (subst (λ (q : ℕ). RegistersStand o t.registers (with_registers m.registers (binary_effect words m op d q).registers)) (sym is) stand))
+          subst (λ (q : ℕ). StandsRetold o t (Some (doubled_by s op d t)) (with_registers m.registers (binary_effect image m op d q).registers)) is
+          (by_stands op d lt (subst (λ (q : ℕ). RegistersStand o t.registers (with_registers m.registers (binary_effect image m op d q).registers)) (sym is) stand))
 
   -- after a pointer moved
   behind_pair : (d x lo hi : ℕ) → d < 32 → slice_index (slice_set (slice_set (slice_set m.registers 30 lo) 31 hi) d x) d ≡ x
@@ -479,13 +479,13 @@ module _ (o : Origin) (m : State) (s t : AbsState) (n : ℕ) (at : IsBefore o s 
       set_there (slice_set (slice_set (slice_set m.registers 30 lo) 31 hi) RAMPZ bank) d x
       (omega (arith, lt, at.count, length-set (slice_set (slice_set m.registers 30 lo) 31 hi) RAMPZ bank, length-set (slice_set m.registers 30 lo) 31 hi, length-set m.registers 30 lo))
 
-  pub retold_stands : (instr : Instr) → HasRegisters instr → RegistersStand o t.registers (registers_set words still m instr b1 b2)
-      → (u : AbsState) × (retold words s f instr t ≡ Some u) × RegistersStand o u.registers (registers_set words still m instr b1 b2) × (u.facts ≡ t.facts)
+  pub retold_stands : (instr : Instr) → HasRegisters instr → RegistersStand o t.registers (registers_set image still m instr b1 b2)
+      → (u : AbsState) × (retold image s f instr t ≡ Some u) × RegistersStand o u.registers (registers_set image still m instr b1 b2) × (u.facts ≡ t.facts)
   retold_stands (i.Binary op d r) fit stand = binary_stands op d r fit.0 stand
-  retold_stands (i.LpmZ d) fit stand = first_stands o m s t n at words are f h _ stand d b1 (set_at d _ fit)
-  retold_stands (i.LpmZPlus d) fit stand = first_stands o m s t n at words are f h _ stand d b1 (behind_pair d _ _ _ fit)
-  retold_stands i.Lpm fit stand = first_stands o m s t n at words are f h _ stand 0 b1 (set_at 0 _ (omega arith))
-  retold_stands (i.ElpmZ d) fit stand = extended_stands o m s t n at words are f h _ stand d b1 (set_at d _ fit)
-  retold_stands (i.ElpmZPlus d) fit stand = extended_stands o m s t n at words are f h _ stand d b1 (behind_bank d _ _ _ _ fit)
-  retold_stands i.Elpm fit stand = extended_stands o m s t n at words are f h _ stand 0 b1 (set_at 0 _ (omega arith))
+  retold_stands (i.LpmZ d) fit stand = first_stands o m s t n at image are f h _ stand d b1 (set_at d _ fit)
+  retold_stands (i.LpmZPlus d) fit stand = first_stands o m s t n at image are f h _ stand d b1 (behind_pair d _ _ _ fit)
+  retold_stands i.Lpm fit stand = first_stands o m s t n at image are f h _ stand 0 b1 (set_at 0 _ (omega arith))
+  retold_stands (i.ElpmZ d) fit stand = extended_stands o m s t n at image are f h _ stand d b1 (set_at d _ fit)
+  retold_stands (i.ElpmZPlus d) fit stand = extended_stands o m s t n at image are f h _ stand d b1 (behind_bank d _ _ _ _ fit)
+  retold_stands i.Elpm fit stand = extended_stands o m s t n at image are f h _ stand 0 b1 (set_at 0 _ (omega arith))
   retold_stands _ fit stand = (t, refl, stand, refl)

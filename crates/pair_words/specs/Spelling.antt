@@ -55,7 +55,7 @@ intervals_text r [] is = []
 intervals_text r (hull ∷ hulls) [] = []
 intervals_text r (hull ∷ hulls) (i ∷ is) = interval_text r hull i ++ intervals_text (r + 2) hulls is
 
--- a dash in place of an empty text
+-- a dash for an empty text
 abbrev pub or_dash : List ℕ → List ℕ
 or_dash [] = codes "-"
 or_dash (b ∷ bs) = b ∷ bs

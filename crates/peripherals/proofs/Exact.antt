@@ -211,7 +211,7 @@ module _ (device : Device) where
       let d = same_head_and_tail (filling b.setup.fill) (filling setup.fill) (source_lines b.setup.sources) ((source_lines setup.sources ++ ws ∷ []) ++ more) c.1 in
       no_more setup.sources b.setup.sources ws more d.1
 
-  -- the refusal of a text, by place
+  -- the refusal of a text, by position
   record StuckAt (p q : Position) : Type 0 where
     pub before : List (List (List ℕ))
     pub passed : Passes p (map whole before) q
@@ -299,7 +299,7 @@ module _ (device : Device) where
   refused_stuck k text at e =
       let q = malformed_err (setup_at device (start text)) at e in
       let s = refused_at k (start text) q.0 q.1 in
-      record { before = s.before; place = q.0; offset = q.2; passed = s.passed; more = s.more; begins = s.begins; stop = s.stop }
+      record { before = s.before; position = q.0; offset = q.2; passed = s.passed; more = s.more; begins = s.begins; stop = s.stop }
 
 -- ---- laws
 

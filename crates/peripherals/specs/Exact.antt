@@ -29,12 +29,12 @@ NoSetupGoesOn device before (l ∷ ls) = (ws : List (List ℕ)) (more : List (Li
 -- setup, but not with that line.
 pub record IsSetupStuck (device : Device) (text : List ℕ) (at : ℕ) : Type 0 where
   pub before : List (List (List ℕ))
-  pub place : Position
-  pub offset : place.at ≡ at
-  pub passed : Passes (record { at = 0; rest = lines_of text }) (map whole before) place
+  pub position : Position
+  pub offset : position.at ≡ at
+  pub passed : Passes (record { at = 0; rest = lines_of text }) (map whole before) position
   pub more : List (List (List ℕ))
   pub begins : BeginsSetup device before more
-  pub stop : NoSetupGoesOn device before place.rest
+  pub stop : NoSetupGoesOn device before position.rest
 
 -- the answer that is due for a text
 abbrev pub IsSetupDue : Device → List ℕ → Result Setup DevicesFault → Type 0

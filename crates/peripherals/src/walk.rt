@@ -59,7 +59,7 @@ fn choose<F: Fn(&Moment<'_>, &Menu) -> Option<usize>, G: Fn(&Moment<'_>, &Menu) 
     ensures known { IsProgressKnown wiring.now.devices.now progress.new }
     ensures bytes { HasBytes result }
     ensures chosen { IsChosen (setting_of F.Fn G.Fn wiring.now) progress.old machine.now.state result progress.new }
-    ensures legal { (words : _) (A : _) → result_of (step words A machine.now.state result) ≢ answer.Illegal }
+    ensures legal { (image : _) (A : _) → result_of (step image A machine.now.state result) ≢ answer.Illegal }
 {
     let answer = progress.answer(wiring.timers, wiring.receivers, &machine.menu());
     let choice = progress.choice(wiring.devices, answer);

@@ -132,18 +132,18 @@ module _
       let all : List ℕ = words_by device (is_elf bytes) bytes in
       let none = none_of (fault_by device (is_elf bytes) bytes) (outside_fault device all) e in
       let image = image_by device (is_elf bytes) bytes none.0 in
-      record { all = all; image = image; narrowed = narrowing.some device all (image_size device (is_elf bytes) bytes all image) (no_word device (outside_word device all) none.1) }
+      record { all = all; words = image; narrowed = narrowing.some device all (image_size device (is_elf bytes) bytes all image) (no_word device (outside_word device all) none.1) }
 
-  pub words_of : (device : Device) (bytes : List ℕ) (words : Image) → IsFirmware device bytes words → words ≡ firmware_image device bytes
-  words_of device bytes words h =
-      narrowing.words device h.all words (image_size device (is_elf bytes) bytes h.all h.image) h.narrowed
-      ∙ ap (λ (all : List ℕ). image_of device (take (count_of device) all)) (all_of device (is_elf bytes) bytes h.all h.image)
+  pub words_of : (device : Device) (bytes : List ℕ) (image : Image) → IsFirmware device bytes image → image ≡ firmware_image device bytes
+  words_of device bytes image h =
+      narrowing.words device h.all image (image_size device (is_elf bytes) bytes h.all h.words) h.narrowed
+      ∙ ap (λ (all : List ℕ). image_of device (take (count_of device) all)) (all_of device (is_elf bytes) bytes h.all h.words)
 
-  pub fault_of : (device : Device) (bytes : List ℕ) (words : Image) → IsFirmware device bytes words → firmware_fault device bytes ≡ None
-  fault_of device bytes words h =
-      let none = narrowing.none device h.all words (image_size device (is_elf bytes) bytes h.all h.image) h.narrowed in
-      ap (λ (o : Option (List ℕ)). fault_or o (outside_fault device (words_by device (is_elf bytes) bytes))) (image_fault device (is_elf bytes) bytes h.all h.image)
-      ∙ ap (outside_fault device) (sym (all_of device (is_elf bytes) bytes h.all h.image))
+  pub fault_of : (device : Device) (bytes : List ℕ) (image : Image) → IsFirmware device bytes image → firmware_fault device bytes ≡ None
+  fault_of device bytes image h =
+      let none = narrowing.none device h.all image (image_size device (is_elf bytes) bytes h.all h.words) h.narrowed in
+      ap (λ (o : Option (List ℕ)). fault_or o (outside_fault device (words_by device (is_elf bytes) bytes))) (image_fault device (is_elf bytes) bytes h.all h.words)
+      ∙ ap (outside_fault device) (sym (all_of device (is_elf bytes) bytes h.all h.words))
       ∙ ap (option_map (firmware_outside device)) none
 
   pub zero_image : (device : Device) (bytes : List ℕ) (next : Image → Reply) (text : List ℕ) → WithImage device bytes next exit.Done text
@@ -152,10 +152,10 @@ module _
       let by = zero_by (firmware_fault device bytes) (next (firmware_image device bytes)) text h in
       (firmware_here device bytes by.0, by.1)
 
-  pub image_zero : (device : Device) (bytes : List ℕ) (words : Image) (next : Image → Reply) (status : Status) (text : List ℕ) → IsFirmware device bytes words → next words status text → WithImage device bytes next status text
-  image_zero device bytes words next status text firmware h =
-      by_none (firmware_fault device bytes) (next (firmware_image device bytes)) status text (fault_of device bytes words firmware)
-      (subst (λ ws. next ws status text) (words_of device bytes words firmware) h)
+  pub image_zero : (device : Device) (bytes : List ℕ) (image : Image) (next : Image → Reply) (status : Status) (text : List ℕ) → IsFirmware device bytes image → next image status text → WithImage device bytes next status text
+  image_zero device bytes image next status text firmware h =
+      by_none (firmware_fault device bytes) (next (firmware_image device bytes)) status text (fault_of device bytes image firmware)
+      (subst (λ ws. next ws status text) (words_of device bytes image firmware) h)
 
 -- ---- the assumptions
 
@@ -376,10 +376,10 @@ module _
 
   -- ---- exactness
 
-  pub image_read : (bytes : List ℕ) (words : Image) (later : Image → Reply) (status : Status) (text : List ℕ) → IsFirmware device bytes words → WithImage device bytes later status text → later words status text
-  image_read bytes words later status text firmware h =
-      subst (λ ws. later ws status text) (sym (words_of one images narrowing device bytes words firmware))
-      (fault_none (firmware_fault device bytes) (later (firmware_image device bytes)) status text (fault_of one images narrowing device bytes words firmware) h)
+  pub image_read : (bytes : List ℕ) (image : Image) (later : Image → Reply) (status : Status) (text : List ℕ) → IsFirmware device bytes image → WithImage device bytes later status text → later image status text
+  image_read bytes image later status text firmware h =
+      subst (λ ws. later ws status text) (sym (words_of one images narrowing device bytes image firmware))
+      (fault_none (firmware_fault device bytes) (later (firmware_image device bytes)) status text (fault_of one images narrowing device bytes image firmware) h)
 
   pub list_read : (list : Option (List ℕ)) (A : List Entry) (later : List Entry → Reply) (status : Status) (text : List ℕ) → IsListOf device list A → WithList device list later status text → later A status text
   list_read None A later status text e h = subst (λ l. later l status text) (sym e) h

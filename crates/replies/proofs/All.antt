@@ -188,27 +188,27 @@ module _
   none_apart : (node pc : ℕ) → ◌≡◌ {A = ClearVerdict} clear.Clear (clear.Unclear node pc) → ⊥
   none_apart node pc e = cc
 
-  clear_by : (words : Image) (c : Claim) (status : Status) (text : List ℕ) (v : ClearVerdict) → IsClearVerdict words c v → ClearSays words c v status text → IsValid (bare words) c
-      → (cert : List ℕ) → SaysWhether (Clear cert) (bare words) c status
-  clear_by words c status text clear.Clear is says valid cert =
+  clear_by : (image : Image) (c : Claim) (status : Status) (text : List ℕ) (v : ClearVerdict) → IsClearVerdict image c v → ClearSays image c v status text → IsValid (bare image) c
+      → (cert : List ℕ) → SaysWhether (Clear cert) (bare image) c status
+  clear_by image c status text clear.Clear is says valid cert =
       record {
         accepted = (λ e. (valid, is), λ a. says.0);
         unclear = (
           λ e. absurd (not_unclear (sym says.0 ∙ e)),
-          λ b. absurd (none_apart b.1.0 b.1.1 (told_clear.one words c clear.Clear (clear.Unclear b.1.0 b.1.1) is b.1.2)),
+          λ b. absurd (none_apart b.1.0 b.1.1 (told_clear.one image c clear.Clear (clear.Unclear b.1.0 b.1.1) is b.1.2)),
         );
         rejected = (λ e. absurd (not_rejected (sym says.0 ∙ e)), λ n. absurd (n valid));
       }
-  clear_by words c status text (clear.Unclear node pc) is says valid cert =
+  clear_by image c status text (clear.Unclear node pc) is says valid cert =
       record {
-        accepted = (λ e. absurd (not_unclear (sym e ∙ says.0)), λ a. absurd (none_apart node pc (told_clear.one words c clear.Clear (clear.Unclear node pc) a.1 is)));
+        accepted = (λ e. absurd (not_unclear (sym e ∙ says.0)), λ a. absurd (none_apart node pc (told_clear.one image c clear.Clear (clear.Unclear node pc) a.1 is)));
         unclear = (λ e. (valid, (node, pc, is)), λ b. says.0);
         rejected = (λ e. absurd (rejected_apart_from_unclear (sym e ∙ says.0)), λ n. absurd (n valid));
       }
 
-  clear_says : (words : Image) (c : Claim) (status : Status) (text cert : List ℕ) → IsJudged (bare words) (ClearReply words) c status text → SaysWhether (Clear cert) (bare words) c status
-  clear_says words c status text cert (inl h) = clear_by words c status text h.1.verdict h.1.is h.1.says h.0 cert
-  clear_says words c status text cert (inr h) =
+  clear_says : (image : Image) (c : Claim) (status : Status) (text cert : List ℕ) → IsJudged (bare image) (ClearReply image) c status text → SaysWhether (Clear cert) (bare image) c status
+  clear_says image c status text cert (inl h) = clear_by image c status text h.1.verdict h.1.is h.1.says h.0 cert
+  clear_says image c status text cert (inr h) =
       record {
         accepted = (λ e. absurd (not_rejected (sym e ∙ h.1)), λ a. absurd (h.0 a.0));
         unclear = (λ e. absurd (rejected_apart_from_unclear (sym h.1 ∙ e)), λ b. absurd (h.0 b.0));
@@ -227,9 +227,9 @@ module _
       subst (λ B. SaysWhether (Clear cert) (task_with task.flash B) claim status) empty
       (clear_says task.flash claim status text cert (subst (λ B. IsJudged (task_with task.flash B) (ClearReply task.flash) claim status text) (sym empty) judged))
 
-  all_clear : (words : Image) (c : Claim) (text : List ℕ) (v : ClearVerdict) → IsClearVerdict words c v → ClearSays words c v exit.Done text → AreAllClear (bare words) c
-  all_clear words c text clear.Clear is says = is
-  all_clear words c text (clear.Unclear node pc) is says = absurd (not_unclear says.0)
+  all_clear : (image : Image) (c : Claim) (text : List ℕ) (v : ClearVerdict) → IsClearVerdict image c v → ClearSays image c v exit.Done text → AreAllClear (bare image) c
+  all_clear image c text clear.Clear is says = is
+  all_clear image c text (clear.Unclear node pc) is says = absurd (not_unclear says.0)
 
   clear_as : (device : Device) (cert : List ℕ) (seen : Contents) (text : List ℕ)
       → HoldsOf raw images narrowing lists read spelled bounds device (AcceptedReply device (Clear cert)) None seen text → HoldsAsRead device (Clear cert) None seen text
@@ -369,10 +369,10 @@ module _
       let first = zero_file fw seen.firmware _ text h in
       let second = zero_file dev seen.second _ text first.2 in
       let third = zero_optional assume seen.assumptions (AfterDevices device steps first.0 second.0) text second.2 in
-      let words : Image = firmware_image device first.0 in
-      let image = zero_image raw images narrowing device first.0 (λ ws. WithList device third.0 (λ B. SimulateReply (task_with ws B) steps (setup_in (device_of ws) second.0))) text third.2 in
-      let list = zero_list lists device third.0 (λ B. SimulateReply (task_with words B) steps (setup_in (device_of words) second.0)) text image.1 in
-      let setup = zero_setup (task_with words list.0) steps (setup_in (device_of words) second.0) text list.2 in
+      let image : Image = firmware_image device first.0 in
+      let loaded = zero_image raw images narrowing device first.0 (λ ws. WithList device third.0 (λ B. SimulateReply (task_with ws B) steps (setup_in (device_of ws) second.0))) text third.2 in
+      let list = zero_list lists device third.0 (λ B. SimulateReply (task_with image B) steps (setup_in (device_of image) second.0)) text loaded.1 in
+      let setup = zero_setup (task_with image list.0) steps (setup_in (device_of image) second.0) text list.2 in
       let reads = devices.read device second.0 setup.0 setup.1 in
       record {
         firmware = first.0;
@@ -380,12 +380,12 @@ module _
         list = third.0;
         read = record { loaded = record { firmware_read = first.1; list_read = third.1 }; second_read = second.1 };
         simulated = record {
-          task = task_with words list.0;
+          task = task_with image list.0;
           setup = setup.0;
-          mean = record { image = image.0; assumptions = list.1 };
+          mean = record { image = loaded.0; assumptions = list.1 };
           reads = reads;
           told = setup.2;
-          within = λ c claim valid. simulations device words list.0 setup.0 steps c.bound reads.fits (bounds (task_with words list.0) c (has first.0 first.1) claim valid.sound);
+          within = λ c claim valid. simulations device image list.0 setup.0 steps c.bound reads.fits (bounds (task_with image list.0) c (has first.0 first.1) claim valid.sound);
         };
       }
 

@@ -1,4 +1,4 @@
--- Each status has a number of its own: its place in the list of all.
+-- Each status has a number of its own: its index in the list of all.
 use Rattle.std.proofs.Common.{◌≡◌, List, [], ◌∷◌, Option, Some, slice_get, refl, sym, ap, ◌∙◌}
 use Rattle.replies.specs.declared.status.Status.{Status}
 use Rattle.replies.specs.declared.status.Status.TheVariants as exit

@@ -69,7 +69,7 @@ reached runs task bound (Some plan) fits h e =
     let run = runs (device_of task.flash) task.flash task.assumptions plan r.0 fits r.1 in
     record { state = _; reset = run.reset; choices = run.choices; run = run.run; ends = sym run.stop ∙ r.2; deep = sym run.depth ∙ r.3 }
 
--- ---- what is told in place of a certificate
+-- ---- what is told instead of a certificate
 
 never_spent : (t : Test) (n : ℕ) → refusal_of t ≢ refusal.Spent n
 never_spent (over limit) n e = cc

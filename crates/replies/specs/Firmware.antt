@@ -20,10 +20,10 @@ abbrev pub IsImage : Device → List ℕ → List ℕ → Type 0
 IsImage device bytes all = IsImageBy device (is_elf bytes) bytes all
 
 -- The image that a firmware file stands for on a device: the words that it gives, of which all behind the device's flash are erased.
-pub record IsFirmware (device : Device) (bytes : List ℕ) (words : Image) : Type 0 where
+pub record IsFirmware (device : Device) (bytes : List ℕ) (image : Image) : Type 0 where
   pub all : List ℕ
-  pub image : IsImage device bytes all
-  pub narrowed : IsNarrowed device all words
+  pub words : IsImage device bytes all
+  pub narrowed : IsNarrowed device all image
 
 -- the list of f at, f (at + 1), .., with n items
 unfoldable pub tabulated : ℕ → ℕ → (ℕ → ℕ) → List ℕ

@@ -339,11 +339,11 @@ RepliesAreExact = (command : Command) (seen : Contents) (status : Status) (text 
 -- lists of names that agree on each word give the same texts of words at which a step may be flagged
 abbrev pub PlacesSayTheSame : Type 0
 PlacesSayTheSame =
-    (words : Image) (names others : List Named) (bound : ℕ) (sites nevers : List ℕ) → SayTheSame names others
-    → premises_text words names bound sites nevers ≡ premises_text words others bound sites nevers
+    (image : Image) (names others : List Named) (bound : ℕ) (sites nevers : List ℕ) → SayTheSame names others
+    → premises_text image names bound sites nevers ≡ premises_text image others bound sites nevers
 
 -- they also give the same texts of these words with causes
 abbrev pub CausesSayTheSame : Type 0
 CausesSayTheSame =
-    (words : Image) (names others : List Named) (bound : ℕ) (places : List FlaggedPlace) (nevers : List ℕ) → SayTheSame names others
-    → why_text words names bound places nevers ≡ why_text words others bound places nevers
+    (image : Image) (names others : List Named) (bound : ℕ) (places : List FlaggedPlace) (nevers : List ℕ) → SayTheSame names others
+    → why_text image names bound places nevers ≡ why_text image others bound places nevers

@@ -163,7 +163,7 @@ abbrev pub run_text : Device → Report → List ℕ
 run_text device r =
     told (codes "steps" ∷ decimal r.steps ∷ codes "depth" ∷ decimal r.depth ∷ codes "stop" ∷ stop_words device r.stop)
 
--- ---- in place of a certificate
+-- ---- instead of a certificate
 
 -- the text of the instruction, or the word in digits if it is no instruction of the device
 abbrev pub instruction_words : Device → Option Instr → ℕ → ℕ → List (List ℕ)
@@ -187,7 +187,7 @@ fault_words words (fault.TooDeep at need) = cause_at (device_of words) (cause_of
 fault_words words (fault.UnknownPointer at) = cause_at (device_of words) (cause_of (fault.UnknownPointer at)) (codes "unknown-pointer") at (instruction_told words at)
 fault_words words fault.Memory = None
 
--- The words in place of a certificate: the assumption that does not fit the device, the cause with what it names, or the number of rounds
+-- The words instead of a certificate: the assumption that does not fit the device, the cause with what it names, or the number of rounds
 -- that did not suffice. Running out of memory has none.
 abbrev pub why_not_words : Image → Refusal → Option (List (List ℕ))
 why_not_words words (refusal.Misfit at) = Some (codes "entry" ∷ decimal at ∷ [])

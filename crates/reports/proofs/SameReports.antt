@@ -11,7 +11,7 @@ use Rattle.chain_explain.specs.declared.explanation.Part.{Part}
 use Rattle.cert_words.specs.KeySpelling.{inst_key_words}
 use Rattle.reports.specs.Report.{inst_line, name_word}
 use Rattle.reports.specs.Json.{inst_data}
-use Rattle.reports.specs.Explained.{explain_line, place_words, path_text, part_text}
+use Rattle.reports.specs.Explained.{explain_line, point_words, path_text, part_text}
 use Rattle.reports.specs.Laws.{NamesThatSayTheSame, ExplanationsSayTheSame, AsciiNamesStay}
 
 same_line : (device : Device) (names others : List Named) (x : Inst) → SayTheSame names others → inst_line device names x ≡ inst_line device others x
@@ -34,7 +34,7 @@ same_reports device c names others static_end same =
 
 same_part : (device : Device) (names others : List Named) (p : Part) → SayTheSame names others → part_text device names p ≡ part_text device others p
 same_part device names others p same =
-    ap (λ (o : Option (List ℕ)). line (codes "link" ∷ inst_key_words device p.inst ++ name_word o ∷ place_words device p.place ++ codes "adds" ∷ decimal p.adds ∷ []) ++ path_text device p.place) (same p.inst.entry)
+    ap (λ (o : Option (List ℕ)). line (codes "link" ∷ inst_key_words device p.inst ++ name_word o ∷ point_words device p.point ++ codes "adds" ∷ decimal p.adds ∷ []) ++ path_text device p.point) (same p.inst.entry)
 
 same_parts : (device : Device) (names others : List Named) (ps : List Part) → SayTheSame names others → flat_map (part_text device names) ps ≡ flat_map (part_text device others) ps
 same_parts device names others [] same = refl

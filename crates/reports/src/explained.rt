@@ -6,27 +6,27 @@ ghost use Rattle.text_base.specs.Lines.{line};
 ghost use Rattle.text_base.specs.Writing.{with_words, with_end};
 ghost use Rattle.line_reading.specs.Appending.{with_text};
 ghost use Rattle.assumption_files.specs.Spelling.{word_address_text};
-ghost use Rattle.reports.specs.Explained.{explain_line, place_words, link_line, path_line, path_text, part_text, explanation_text};
+ghost use Rattle.reports.specs.Explained.{explain_line, point_words, link_line, path_line, path_text, part_text, explanation_text};
 
 use crate::text::write_name;
 use assumption_files::write_word_address;
 use cert_writing::write_inst_key;
-use chain_explain::{Explanation, Part, PartPlace};
+use chain_explain::{Explanation, Part, PartPoint};
 use flash_image::{Device, Names};
 use line_reading::laws::appending_laws;
 use std::alloc::{AllocError, Global};
 use text_base::LineWriter;
 
-// Writes the word of a link's place, or the word of its recur edge.
-fn write_place(out: &mut LineWriter, device: Device, place: &PartPlace) -> Result<(), AllocError>
-    ensures { OnOk result (out.new ≡ with_words out.old (place_words device place.now)) }
+// Writes the word of a link's point, or the word of its recur edge.
+fn write_point(out: &mut LineWriter, device: Device, point: &PartPoint) -> Result<(), AllocError>
+    ensures { OnOk result (out.new ≡ with_words out.old (point_words device point.now)) }
 {
-    match place {
-        PartPlace::Node(pc, _) => {
+    match point {
+        PartPoint::Node(pc, _) => {
             out.word(b"at")?;
             write_word_address(out, device, *pc)
         }
-        PartPlace::Recur(word) => {
+        PartPoint::Recur(word) => {
             out.word(b"recur")?;
             write_word_address(out, device, *word)
         }
@@ -46,7 +46,7 @@ fn write_link(
     out.word(b"link")?;
     write_inst_key(out, alloc, device, &part.inst)?;
     write_name(out, names, part.inst.entry)?;
-    write_place(out, device, &part.place)?;
+    write_point(out, device, &part.point)?;
     out.word(b"adds")?;
     out.dec(u64::from(part.adds))?;
     out.end_line()
@@ -73,14 +73,14 @@ fn write_walk(out: &mut LineWriter, device: Device, walk: &[u32]) -> Result<(), 
     out.end_line()
 }
 
-// Writes the line of the path to a place; a recur edge has none.
-fn write_path(out: &mut LineWriter, device: Device, place: &PartPlace) -> Result<(), AllocError>
+// Writes the line of the path to a point; a recur edge has none.
+fn write_path(out: &mut LineWriter, device: Device, point: &PartPoint) -> Result<(), AllocError>
     requires { out.old.begun ≡ false }
-    ensures { OnOk result (out.new ≡ with_text out.old (path_text device place.now)) }
+    ensures { OnOk result (out.new ≡ with_text out.old (path_text device point.now)) }
 {
-    match place {
-        PartPlace::Node(_, walk) => write_walk(out, device, walk.as_slice()),
-        PartPlace::Recur(_) => Ok(()),
+    match point {
+        PartPoint::Node(_, walk) => write_walk(out, device, walk.as_slice()),
+        PartPoint::Recur(_) => Ok(()),
     }
 }
 
@@ -97,7 +97,7 @@ fn write_part(
 {
     appending_laws();
     write_link(out, alloc, device, names, part)?;
-    write_path(out, device, &part.place)
+    write_path(out, device, &part.point)
 }
 
 // Writes the lines of all links.
@@ -130,8 +130,8 @@ fn write_sum(out: &mut LineWriter, bound: u16, explanation: &Explanation) -> Res
 }
 
 /// The text of an explanation of a certificate with this bound for a device: the sum of its links, and for each link the instance with the name of its
-/// entry, the word of the place, the bytes that it adds, and the words of a shortest path to the place; for a recur edge the word that
-/// calls enter in place of both.
+/// entry, the word of the point, the bytes that it adds, and the words of a shortest path to the point; for a recur edge the word that
+/// calls enter instead of both.
 pub fn explanation_text(
     alloc: Global,
     device: Device,

@@ -259,8 +259,8 @@ module _ (task : Task) (f : Family) (keys : List InstKey) (gs : List GraphInst) 
       are_needs : AreNeeds task f (valued keys more_needs)
       are_needs = record {
         offsets = λ n offset has closed.
-            let h = is.all_places n offset has closed in
-            omega (arith, least.are_needs.offsets h.number h.place h.has, h.at, need_is h.number n.key.inst h.of);
+            let h = is.all_closed n offset has closed in
+            omega (arith, least.are_needs.offsets h.number h.closed h.has, h.at, need_is h.number n.key.inst h.of);
         entered = λ i j offset e.
             let h = is.all_entered i j offset e in
             omega (arith, least.are_needs.entered h.number h.edge h.enters, h.at, need_is h.number i h.from, need_le h.edge.into j h.to);
@@ -268,7 +268,7 @@ module _ (task : Task) (f : Family) (keys : List InstKey) (gs : List GraphInst) 
 
     graph_needs : (need : InstKey → ℕ) → AreNeeds task f need → graph.AreGraphNeeds (back_of (device_of task.flash)) gs (by_number need)
     graph_needs need are = record {
-      offsets = λ i p has. let x = is.places i p has in omega (arith, are.offsets x.node p.offset x.has x.closed, by_number_is need i x.node.key.inst x.of);
+      offsets = λ i p has. let x = is.closed i p has in omega (arith, are.offsets x.node p.offset x.has x.closed, by_number_is need i x.node.key.inst x.of);
       entered = λ i e h.
           let x = is.entered i e h in
           omega (arith, are.entered x.inst x.into e.offset x.entering, by_number_is need i x.inst x.from, by_number_le need e.into x.into x.to);

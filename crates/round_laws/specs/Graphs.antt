@@ -10,7 +10,7 @@ use Rattle.node_keys.specs.Order.{same_inst}
 use Rattle.local_rules.specs.declared.local.Node.{Node}
 use Rattle.instance_graph.specs.declared.graph.GraphInst.{GraphInst}
 use Rattle.instance_graph.specs.declared.graph.Entered.{Entered}
-use Rattle.instance_graph.specs.declared.graph.Place.{Place}
+use Rattle.instance_graph.specs.declared.graph.ClosedNode.{ClosedNode}
 use Rattle.instance_graph.specs.Graph as graph
 use Rattle.instance_graph.specs.Least.{IsLeast}
 use Rattle.instance_graph.specs.Cycle.{IsNamed, group_of}
@@ -44,16 +44,16 @@ pub record IsEntered (task : Task) (f : Family) (keys : List InstKey) (i : ℕ) 
   pub to : IsNumberFor keys e.into into
   pub entering : IsEntering task f inst into e.offset
 
--- a place of the graph for this node
-pub record HasNodePlace (keys : List InstKey) (gs : List GraphInst) (inst : InstKey) (offset : ℕ) : Type 0 where
+-- a closed node of the graph for this node
+pub record HasGraphNode (keys : List InstKey) (gs : List GraphInst) (inst : InstKey) (offset : ℕ) : Type 0 where
   pub number : ℕ
-  pub place : Place
-  pub has : graph.HasPlace gs number place
+  pub closed : ClosedNode
+  pub has : graph.HasClosedNode gs number closed
   pub of : IsNumber keys number inst
-  pub at : place.offset ≡ offset
+  pub at : closed.offset ≡ offset
 
--- a node of the family for this place
-pub record IsFamilyPlace (f : Family) (keys : List InstKey) (i offset : ℕ) : Type 0 where
+-- a node of the family for this closed node
+pub record IsFamilyNode (f : Family) (keys : List InstKey) (i offset : ℕ) : Type 0 where
   pub node : Node
   pub has : FamilyHas f node
   pub closed : node.key.sp ≡ Closed offset
@@ -68,8 +68,8 @@ pub record IsGraphOver (task : Task) (f : Family) (keys : List InstKey) (gs : Li
   pub numbered : (inst : InstKey) → FamilyHasInst f inst → (i : ℕ) × IsNumber keys i inst
   pub entered : (i : ℕ) (e : Entered) → graph.EntersAlong gs i e → IsEntered task f keys i e
   pub all_entered : (i j : InstKey) (offset : ℕ) → IsEntering task f i j offset → HasEntryEdge keys gs i j offset
-  pub places : (i : ℕ) (p : Place) → graph.HasPlace gs i p → IsFamilyPlace f keys i p.offset
-  pub all_places : (n : Node) (offset : ℕ) → FamilyHas f n → n.key.sp ≡ Closed offset → HasNodePlace keys gs n.key.inst offset
+  pub closed : (i : ℕ) (p : ClosedNode) → graph.HasClosedNode gs i p → IsFamilyNode f keys i p.offset
+  pub all_closed : (n : Node) (offset : ℕ) → FamilyHas f n → n.key.sp ≡ Closed offset → HasGraphNode keys gs n.key.inst offset
 
 -- the value of an instance by its number, 0 if it has none
 abbrev pub valued : List InstKey → List ℕ → InstKey → ℕ

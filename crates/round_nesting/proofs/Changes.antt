@@ -1,4 +1,4 @@
--- One more place or edge of an instance in a graph.
+-- One more closed node or edge of an instance in a graph.
 use Rattle.std.proofs.Common.{◌≡◌, ◌↔◌, refl, sym, ap, ◌∙◌, subst, ◌⊎◌, inl, inr, ⊎_elim, List, [], ◌∷◌, ◌++◌, Some, slice_get, set, ℕ, zero, suc, ◌<◌, length, arith}
 use Rattle.std.specs.List.{Contains}
 use Rattle.std.proofs.lemmas.Bool.{cases_eq}
@@ -7,9 +7,9 @@ use Rattle.std.proofs.lemmas.List.Elements.{Contains-push_cases, Contains-push, 
 use Rattle.std.proofs.lemmas.Option.{same_Some, slice_get_within}
 use Rattle.instance_graph.specs.declared.graph.Entered.{Entered}
 use Rattle.instance_graph.specs.declared.graph.GraphInst.{GraphInst}
-use Rattle.instance_graph.specs.declared.graph.Place.{Place}
-use Rattle.instance_graph.specs.Graph.{EntersAlong, HasPlace}
-use Rattle.round_nesting.specs.Drawn.{IsSame, HasPlaced, IsEntranceDrawn}
+use Rattle.instance_graph.specs.declared.graph.ClosedNode.{ClosedNode}
+use Rattle.instance_graph.specs.Graph.{EntersAlong, HasClosedNode}
+use Rattle.round_nesting.specs.Drawn.{IsSame, IsNodeDrawn, IsEntranceDrawn}
 
 set_here : {X : Type 0} (xs : List X) (i : ℕ) (y : X) → i < length xs → slice_get (set xs i y) i ≡ Some y
 set_here [] i y lt = absurd (omega (arith, lt))
@@ -83,24 +83,24 @@ module _ (gs : List GraphInst) (at : ℕ) (g h : GraphInst) (is : slice_get gs a
           ⊎_elim (λ m. (m.0, set_there gs at i h ne ∙ m.1, m.2)) (λ m. absurd (ne m.0)),
         )
 
-  abbrev offsets_of : GraphInst → List Place
+  abbrev offsets_of : GraphInst → List ClosedNode
   offsets_of x = x.offsets
 
   abbrev entered_of : GraphInst → List Entered
   entered_of x = x.entered
 
-  place_in : (fs : List GraphInst) (i : ℕ) (p : Place) → HasPlace fs i p ↔ In offsets_of fs i p
-  place_in fs i p = ((λ m. (m.inst, m.is, m.has)), (λ m. record { inst = m.0; is = m.1; has = m.2 }))
+  node_in : (fs : List GraphInst) (i : ℕ) (p : ClosedNode) → HasClosedNode fs i p ↔ In offsets_of fs i p
+  node_in fs i p = ((λ m. (m.inst, m.is, m.has)), (λ m. record { inst = m.0; is = m.1; has = m.2 }))
 
   edge_in : (fs : List GraphInst) (i : ℕ) (e : Entered) → EntersAlong fs i e ↔ In entered_of fs i e
   edge_in fs i e = ((λ m. (m.inst, m.is, m.has)), (λ m. record { inst = m.0; is = m.1; has = m.2 }))
 
-  pub placed : (place : Place) → h.key ≡ g.key → h.offsets ≡ g.offsets ++ place ∷ [] → h.entered ≡ g.entered → HasPlaced gs at place new
-  placed place key more rest = record {
+  pub node_added : (node : ClosedNode) → h.key ≡ g.key → h.offsets ≡ g.offsets ++ node ∷ [] → h.entered ≡ g.entered → IsNodeDrawn gs at node new
+  node_added node key more rest = record {
     same = same key;
-    places = λ i p. (
-      λ m. ⊎_elim (λ old. inl ((place_in gs i p).1 old)) (λ it. inr it) ((grown offsets_of place more i p).0 ((place_in new i p).0 m)),
-      λ m. (place_in new i p).1 ((grown offsets_of place more i p).1 (⊎_elim (λ old. inl ((place_in gs i p).0 old)) (λ it. inr it) m)),
+    closed = λ i p. (
+      λ m. ⊎_elim (λ old. inl ((node_in gs i p).1 old)) (λ it. inr it) ((grown offsets_of node more i p).0 ((node_in new i p).0 m)),
+      λ m. (node_in new i p).1 ((grown offsets_of node more i p).1 (⊎_elim (λ old. inl ((node_in gs i p).0 old)) (λ it. inr it) m)),
     );
     entered = λ i e. (
       λ m. (edge_in gs i e).1 ((kept entered_of rest i e).0 ((edge_in new i e).0 m)),
@@ -111,9 +111,9 @@ module _ (gs : List GraphInst) (at : ℕ) (g h : GraphInst) (is : slice_get gs a
   pub edged : (edge : Entered) → h.key ≡ g.key → h.offsets ≡ g.offsets → h.entered ≡ g.entered ++ edge ∷ [] → IsEntranceDrawn gs at edge new
   edged edge key rest more = record {
     same = same key;
-    places = λ i p. (
-      λ m. (place_in gs i p).1 ((kept offsets_of rest i p).0 ((place_in new i p).0 m)),
-      λ m. (place_in new i p).1 ((kept offsets_of rest i p).1 ((place_in gs i p).0 m)),
+    closed = λ i p. (
+      λ m. (node_in gs i p).1 ((kept offsets_of rest i p).0 ((node_in new i p).0 m)),
+      λ m. (node_in new i p).1 ((kept offsets_of rest i p).1 ((node_in gs i p).0 m)),
     );
     entered = λ i e. (
       λ m. ⊎_elim (λ old. inl ((edge_in gs i e).1 old)) (λ it. inr it) ((grown entered_of edge more i e).0 ((edge_in new i e).0 m)),

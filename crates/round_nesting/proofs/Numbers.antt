@@ -48,10 +48,10 @@ stands keys inst = by (cases_lt (number_of keys inst) (length keys))
     by (inl lt) = inl (found_at inst keys lt)
     by (inr le) = inr (le, none_at inst keys le)
 
-pub at_place : (keys : List InstKey) (inst : InstKey) (i : ℕ) → i < length keys → slice_index_or keys i inst ≡ inst → slice_get keys i ≡ Some inst
-at_place [] inst i lt e = absurd (omega (arith, lt))
-at_place (k ∷ ks) inst zero lt e = ap Some e
-at_place (k ∷ ks) inst (suc i) lt e = at_place ks inst i (omega (arith, lt)) e
+pub at_index : (keys : List InstKey) (inst : InstKey) (i : ℕ) → i < length keys → slice_index_or keys i inst ≡ inst → slice_get keys i ≡ Some inst
+at_index [] inst i lt e = absurd (omega (arith, lt))
+at_index (k ∷ ks) inst zero lt e = ap Some e
+at_index (k ∷ ks) inst (suc i) lt e = at_index ks inst i (omega (arith, lt)) e
 
 pub there : (keys : List InstKey) (i : ℕ) → i < length keys → (inst : InstKey) × (slice_get keys i ≡ Some inst)
 there [] i lt = absurd (omega arith)
@@ -64,7 +64,7 @@ numbered keys inst h = by (stands keys inst)
   where
     by : IsNumberFor keys (number_of keys inst) inst → IsNumber keys (number_of keys inst) inst
     by (inl is) = is
-    by (inr none) = absurd (none.1 h.0 (at_place keys inst h.0 h.1 h.2))
+    by (inr none) = absurd (none.1 h.0 (at_index keys inst h.0 h.1 h.2))
 
 -- ---- what a look-up finds
 

@@ -15,7 +15,7 @@ use Rattle.local_laws.proofs.AllLaws.{in_map}
 use Rattle.round_rules.specs.Families.{Family, node_of, nodes_of}
 use Rattle.round_laws.proofs.AllLaws.{families_are_their_nodes}
 use Rattle.round_nesting.specs.Nestings.{Noted, AreOnce, IsNestingOf, NestingsAreSmall}
-use Rattle.round_nesting.proofs.Numbers.{at_place}
+use Rattle.round_nesting.proofs.Numbers.{at_index}
 use Rattle.local_rules.specs.Site.{Task}
 
 abbrev inst_of : Node → InstKey
@@ -38,7 +38,7 @@ unfolding IsDistinct
 none_twice [] once = tt
 none_twice (k ∷ ks) once = (
   none_later k ks
-      (λ inst h e. let same : zero ≡ suc h.0 = once zero (suc h.0) inst (ap Some e) (at_place ks inst h.0 h.1 h.2) in absurd (omega (arith, same))),
+      (λ inst h e. let same : zero ≡ suc h.0 = once zero (suc h.0) inst (ap Some e) (at_index ks inst h.0 h.1 h.2) in absurd (omega (arith, same))),
   none_twice ks (λ i j inst e f. let same : suc i ≡ suc j = once (suc i) (suc j) inst e f in omega (arith, same)),
 )
 

@@ -8,10 +8,10 @@ use Rattle.avr_model.specs.State.{SIZE}
 use Rattle.node_keys.specs.declared.keys.InstKey.{InstKey}
 use Rattle.instance_graph.specs.declared.graph.Entered.{Entered}
 use Rattle.instance_graph.specs.declared.graph.GraphInst.{GraphInst}
-use Rattle.instance_graph.specs.declared.graph.Place.{Place}
-use Rattle.instance_graph.specs.Graph.{EntersAlong, HasPlace}
+use Rattle.instance_graph.specs.declared.graph.ClosedNode.{ClosedNode}
+use Rattle.instance_graph.specs.Graph.{EntersAlong, HasClosedNode}
 use Rattle.round_nesting.specs.Nestings.{Spot, Entrance}
-use Rattle.round_nesting.specs.Drawn.{number_of, HasPlaced, IsEntranceDrawn, IsSpotPlace, IsEdgeOf, HasSpot, HasEntranceEdge, IsDrawn}
+use Rattle.round_nesting.specs.Drawn.{number_of, IsNodeDrawn, IsEntranceDrawn, IsClosedNodeOf, IsEdgeOf, HasSpot, HasEntranceEdge, IsDrawn}
 use Rattle.round_nesting.proofs.Numbers.{number_within}
 
 -- a consequence of success
@@ -24,35 +24,35 @@ if_ok P Q (Ok v) h f = f v h
 if_ok P Q (Err e) h f = h
 
 module _ (keys : List InstKey) (spots : List Spot) (entrances : List Entrance) (old new : List GraphInst) (drawn : IsDrawn keys spots entrances old) where
-  pub spot_more : (s : Spot) (at : ℕ) (p : Place) → number_of keys s.inst ≡ at → s.offset ≡ p.offset → p.offset ≤ SIZE → HasPlaced old at p new
+  pub spot_more : (s : Spot) (at : ℕ) (p : ClosedNode) → number_of keys s.inst ≡ at → s.offset ≡ p.offset → p.offset ≤ SIZE → IsNodeDrawn old at p new
       → IsDrawn keys (spots ++ s ∷ []) entrances new
-  spot_more s at p number offset low placed = record {
+  spot_more s at p number offset low added = record {
     is_graph = record {
-      some = omega (arith, drawn.is_graph.some, placed.same.count);
-      few = omega (arith, drawn.is_graph.few, placed.same.count);
-      offsets = λ i q h. ⊎_elim (λ before. drawn.is_graph.offsets i q before) (λ it. subst (λ (x : Place). x.offset ≤ SIZE) (sym it.1) low) ((placed.places i q).0 h);
-      places = λ i e h. drawn.is_graph.places i e ((placed.entered i e).0 h);
-      within = λ i e h. let lt = drawn.is_graph.within i e ((placed.entered i e).0 h) in omega (arith, lt, placed.same.count);
+      some = omega (arith, drawn.is_graph.some, added.same.count);
+      few = omega (arith, drawn.is_graph.few, added.same.count);
+      offsets = λ i q h. ⊎_elim (λ before. drawn.is_graph.offsets i q before) (λ it. subst (λ (x : ClosedNode). x.offset ≤ SIZE) (sym it.1) low) ((added.closed i q).0 h);
+      edges = λ i e h. drawn.is_graph.edges i e ((added.entered i e).0 h);
+      within = λ i e h. let lt = drawn.is_graph.within i e ((added.entered i e).0 h) in omega (arith, lt, added.same.count);
     };
-    count = placed.same.count ∙ drawn.count;
-    keyed = λ i g inst e k. let before = placed.same.keys i g e in before.2 ∙ drawn.keyed i before.0 inst before.1 k;
-    places = λ i q h. ⊎_elim (λ before. earlier i q (drawn.places i q before)) (λ it. this i q it.0 it.1) ((placed.places i q).0 h);
-    all_places = λ x h. ⊎_elim (λ before. still x (drawn.all_places x before)) (λ same. subst (HasSpot keys new) same there) (Contains-push_cases spots s x h);
-    edges = λ i e h. drawn.edges i e ((placed.entered i e).0 h);
-    all_edges = λ x h. let e = drawn.all_edges x h in record { edge = e.edge; enters = (placed.entered (number_of keys x.from) e.edge).1 e.enters; into = e.into; at = e.at };
+    count = added.same.count ∙ drawn.count;
+    keyed = λ i g inst e k. let before = added.same.keys i g e in before.2 ∙ drawn.keyed i before.0 inst before.1 k;
+    closed = λ i q h. ⊎_elim (λ before. earlier i q (drawn.closed i q before)) (λ it. this i q it.0 it.1) ((added.closed i q).0 h);
+    all_closed = λ x h. ⊎_elim (λ before. still x (drawn.all_closed x before)) (λ same. subst (HasSpot keys new) same there) (Contains-push_cases spots s x h);
+    edges = λ i e h. drawn.edges i e ((added.entered i e).0 h);
+    all_edges = λ x h. let e = drawn.all_edges x h in record { edge = e.edge; enters = (added.entered (number_of keys x.from) e.edge).1 e.enters; into = e.into; at = e.at };
   }
     where
-      earlier : (i : ℕ) (q : Place) → IsSpotPlace keys spots i q → IsSpotPlace keys (spots ++ s ∷ []) i q
+      earlier : (i : ℕ) (q : ClosedNode) → IsClosedNodeOf keys spots i q → IsClosedNodeOf keys (spots ++ s ∷ []) i q
       earlier i q x = record { spot = x.spot; has = Contains-append_left spots (s ∷ []) x.spot x.has; of = x.of; at = x.at }
 
-      this : (i : ℕ) (q : Place) → i ≡ at → q ≡ p → IsSpotPlace keys (spots ++ s ∷ []) i q
-      this i q same is = record { spot = s; has = Contains-push spots s; of = number ∙ sym same; at = offset ∙ ap (λ (x : Place). x.offset) (sym is) }
+      this : (i : ℕ) (q : ClosedNode) → i ≡ at → q ≡ p → IsClosedNodeOf keys (spots ++ s ∷ []) i q
+      this i q same is = record { spot = s; has = Contains-push spots s; of = number ∙ sym same; at = offset ∙ ap (λ (x : ClosedNode). x.offset) (sym is) }
 
       still : (x : Spot) → HasSpot keys old x → HasSpot keys new x
-      still x h = record { place = h.place; has = (placed.places (number_of keys x.inst) h.place).1 (inl h.has); at = h.at }
+      still x h = record { closed = h.closed; has = (added.closed (number_of keys x.inst) h.closed).1 (inl h.has); at = h.at }
 
       there : HasSpot keys new s
-      there = record { place = p; has = (placed.places (number_of keys s.inst) p).1 (inr (number, refl)); at = offset }
+      there = record { closed = p; has = (added.closed (number_of keys s.inst) p).1 (inr (number, refl)); at = offset }
 
   pub entrance_more : (x : Entrance) (at : ℕ) (e : Entered) → number_of keys x.from ≡ at → number_of keys x.into ≡ e.into → x.offset ≡ e.offset → e.offset ≤ SIZE
       → IsEntranceDrawn old at e new → IsDrawn keys spots (entrances ++ x ∷ []) new
@@ -60,15 +60,15 @@ module _ (keys : List InstKey) (spots : List Spot) (entrances : List Entrance) (
     is_graph = record {
       some = omega (arith, drawn.is_graph.some, entered.same.count);
       few = omega (arith, drawn.is_graph.few, entered.same.count);
-      offsets = λ i p h. drawn.is_graph.offsets i p ((entered.places i p).0 h);
-      places = λ i q h. ⊎_elim (λ before. drawn.is_graph.places i q before) (λ it. subst (λ (y : Entered). y.offset ≤ SIZE) (sym it.1) low) ((entered.entered i q).0 h);
+      offsets = λ i p h. drawn.is_graph.offsets i p ((entered.closed i p).0 h);
+      edges = λ i q h. ⊎_elim (λ before. drawn.is_graph.edges i q before) (λ it. subst (λ (y : Entered). y.offset ≤ SIZE) (sym it.1) low) ((entered.entered i q).0 h);
       within = λ i q h. ⊎_elim (λ before. let lt = drawn.is_graph.within i q before in omega (arith, lt, entered.same.count))
           (λ it. subst (λ (y : Entered). y.into < length new) (sym it.1) inside) ((entered.entered i q).0 h);
     };
     count = entered.same.count ∙ drawn.count;
     keyed = λ i g inst is k. let before = entered.same.keys i g is in before.2 ∙ drawn.keyed i before.0 inst before.1 k;
-    places = λ i p h. drawn.places i p ((entered.places i p).0 h);
-    all_places = λ s h. let p = drawn.all_places s h in record { place = p.place; has = (entered.places (number_of keys s.inst) p.place).1 p.has; at = p.at };
+    closed = λ i p h. drawn.closed i p ((entered.closed i p).0 h);
+    all_closed = λ s h. let p = drawn.all_closed s h in record { closed = p.closed; has = (entered.closed (number_of keys s.inst) p.closed).1 p.has; at = p.at };
     edges = λ i q h. ⊎_elim (λ before. earlier i q (drawn.edges i q before)) (λ it. this i q it.0 it.1) ((entered.entered i q).0 h);
     all_edges = λ y h. ⊎_elim (λ before. still y (drawn.all_edges y before)) (λ same. subst (HasEntranceEdge keys new) same there) (Contains-push_cases entrances x y h);
   }
@@ -123,25 +123,25 @@ nothing_drawn keys last gs is few = subst (IsDrawn keys [] []) (sym is) (record 
   is_graph = record {
     some = omega (arith, bare_count keys last);
     few = omega (arith, bare_count keys last, few);
-    offsets = λ i p h. absurd (no_place i p h);
-    places = λ i e h. absurd (no_edge i e h);
+    offsets = λ i p h. absurd (no_node i p h);
+    edges = λ i e h. absurd (no_edge i e h);
     within = λ i e h. absurd (no_edge i e h);
   };
   count = bare_count keys last;
   keyed = bare_key keys last;
-  places = λ i p h. absurd (no_place i p h);
-  all_places = λ s h. absurd (none_in s h);
+  closed = λ i p h. absurd (no_node i p h);
+  all_closed = λ s h. absurd (none_in s h);
   edges = λ i e h. absurd (no_edge i e h);
   all_edges = λ x h. absurd (none_in x h);
 })
   where
-    no_place : (i : ℕ) (p : Place) → HasPlace (bares keys ++ bare last ∷ []) i p → ⊥
-    no_place i p h = none_in p (subst (λ l. Contains l p) (is_bare keys last i h.inst h.is).0 h.has)
+    no_node : (i : ℕ) (p : ClosedNode) → HasClosedNode (bares keys ++ bare last ∷ []) i p → ⊥
+    no_node i p h = none_in p (subst (λ l. Contains l p) (is_bare keys last i h.inst h.is).0 h.has)
 
     no_edge : (i : ℕ) (e : Entered) → EntersAlong (bares keys ++ bare last ∷ []) i e → ⊥
     no_edge i e h = none_in e (subst (λ l. Contains l e) (is_bare keys last i h.inst h.is).1 h.has)
 
--- ---- up to a place of the lists
+-- ---- up to an index of the lists
 
 pub spots_take : (keys : List InstKey) (spots : List Spot) (i : ℕ) (s : Spot) (gs : List GraphInst) → i < length spots → s ≡ get_or spots i s
     → IsDrawn keys (take i spots ++ s ∷ []) [] gs → IsDrawn keys (take (i + 1) spots) [] gs

@@ -12,13 +12,13 @@ use Rattle.node_keys.specs.Keys.{root_inst}
 use Rattle.edge_rules.specs.Nest.{recurs, enters as by_node}
 use Rattle.instance_graph.specs.declared.graph.Entered.{Entered}
 use Rattle.instance_graph.specs.declared.graph.GraphInst.{GraphInst}
-use Rattle.instance_graph.specs.declared.graph.Place.{Place}
+use Rattle.instance_graph.specs.declared.graph.ClosedNode.{ClosedNode}
 use Rattle.instance_graph.specs.Graph as graph
 use Rattle.instance_graph.specs.Cycle.{IsNamed, group_of}
 use Rattle.instance_graph.specs.Least.{IsLeast}
 use Rattle.round_rules.specs.Families.{Family, FamilyHas, FamilyHasInst}
 use Rattle.round_rules.specs.Rounds.{IsEntering}
-use Rattle.round_laws.specs.Graphs.{GraphsTell, IsGraphOver, IsNumber, IsNumberFor, IsEntered, HasEntryEdge, IsFamilyPlace as IsPlaceIn, HasNodePlace}
+use Rattle.round_laws.specs.Graphs.{GraphsTell, IsGraphOver, IsNumber, IsNumberFor, IsEntered, HasEntryEdge, IsFamilyNode as IsNodeIn, HasGraphNode}
 use Rattle.round_nesting.specs.declared.verdict.NestingVerdict.TheVariants.{Nests, ReEntry, Recursion, TooDeep}
 use Rattle.round_nesting.specs.Nestings.{Noted, AreOnce, IsNestingOf, TellsAll}
 use Rattle.round_nesting.specs.declared.verdict.NestingVerdict.{NestingVerdict}
@@ -63,9 +63,9 @@ module _ (n : Noted) (others : List InstKey) (gs : List GraphInst) (drawn : IsDr
           at = sym x.at;
         }
 
-    places : (i : ℕ) (p : Place) → graph.HasPlace gs i p → IsPlaceIn f keys i p.offset
-    places i p h =
-        let x = drawn.places i p h in
+    closed_nodes : (i : ℕ) (p : ClosedNode) → graph.HasClosedNode gs i p → IsNodeIn f keys i p.offset
+    closed_nodes i p h =
+        let x = drawn.closed i p h in
         let spot = (nesting.spots x.spot).0 x.has in
         record {
           node = spot.node;
@@ -74,11 +74,11 @@ module _ (n : Noted) (others : List InstKey) (gs : List GraphInst) (drawn : IsDr
           of = subst (λ k. IsNumber keys i k) (sym spot.of) (subst (λ j. IsNumber keys j x.spot.inst) x.of (number_is x.spot.inst (spot.node, spot.has, spot.of)));
         }
 
-    all_places : (node : Node) (offset : ℕ) → FamilyHas f node → node.key.sp ≡ Closed offset → HasNodePlace keys gs node.key.inst offset
-    all_places node offset has closed =
-        let x = drawn.all_places (record { inst = node.key.inst; offset = offset })
+    all_closed : (node : Node) (offset : ℕ) → FamilyHas f node → node.key.sp ≡ Closed offset → HasGraphNode keys gs node.key.inst offset
+    all_closed node offset has closed =
+        let x = drawn.all_closed (record { inst = node.key.inst; offset = offset })
         ((nesting.spots (record { inst = node.key.inst; offset = offset })).1 (record { node = node; has = has; of = refl; closed = closed })) in
-        record { number = number_of keys node.key.inst; place = x.place; has = x.has; of = number_is node.key.inst (node, has, refl); at = sym x.at }
+        record { number = number_of keys node.key.inst; closed = x.closed; has = x.has; of = number_is node.key.inst (node, has, refl); at = sym x.at }
 
     pub is_graph_of : IsGraphOver task f keys gs
     is_graph_of = record {
@@ -90,8 +90,8 @@ module _ (n : Noted) (others : List InstKey) (gs : List GraphInst) (drawn : IsDr
       numbered = λ inst h. (number_of keys inst, number_is inst h);
       entered = entered;
       all_entered = all_entered;
-      places = places;
-      all_places = all_places;
+      closed = closed_nodes;
+      all_closed = all_closed;
     }
 
   pub tells_all : (device : Device) (w : NestingVerdict) → GraphTells device gs w → TellsAll device n w

@@ -8,8 +8,8 @@ use Rattle.node_keys.specs.Keys.{root_inst}
 use Rattle.node_keys.specs.Order.{same_inst}
 use Rattle.instance_graph.specs.declared.graph.Entered.{Entered}
 use Rattle.instance_graph.specs.declared.graph.GraphInst.{GraphInst}
-use Rattle.instance_graph.specs.declared.graph.Place.{Place}
-use Rattle.instance_graph.specs.Graph.{IsGraph, EntersAlong, HasPlace}
+use Rattle.instance_graph.specs.declared.graph.ClosedNode.{ClosedNode}
+use Rattle.instance_graph.specs.Graph.{IsGraph, EntersAlong, HasClosedNode}
 use Rattle.round_rules.specs.Families.{Family}
 use Rattle.round_laws.specs.Graphs.{IsGraphOver}
 use Rattle.round_nesting.specs.Nestings.{Spot, Entrance, AreOnce, VerdictTells}
@@ -38,20 +38,20 @@ pub record IsSame (old new : List GraphInst) : Type 0 where
   pub count : length new ≡ length old
   pub keys : (i : ℕ) (g : GraphInst) → slice_get new i ≡ Some g → (h : GraphInst) × (slice_get old i ≡ Some h) × (g.key ≡ h.key)
 
--- the instance of this number has one more place
-pub record HasPlaced (old : List GraphInst) (at : ℕ) (place : Place) (new : List GraphInst) : Type 0 where
+-- the instance of this number has one more closed node
+pub record IsNodeDrawn (old : List GraphInst) (at : ℕ) (node : ClosedNode) (new : List GraphInst) : Type 0 where
   pub same : IsSame old new
-  pub places : (i : ℕ) (p : Place) → HasPlace new i p ↔ (HasPlace old i p ⊎ ((i ≡ at) × (p ≡ place)))
+  pub closed : (i : ℕ) (p : ClosedNode) → HasClosedNode new i p ↔ (HasClosedNode old i p ⊎ ((i ≡ at) × (p ≡ node)))
   pub entered : (i : ℕ) (e : Entered) → EntersAlong new i e ↔ EntersAlong old i e
 
 -- the instance of this number has one more edge
 pub record IsEntranceDrawn (old : List GraphInst) (at : ℕ) (edge : Entered) (new : List GraphInst) : Type 0 where
   pub same : IsSame old new
-  pub places : (i : ℕ) (p : Place) → HasPlace new i p ↔ HasPlace old i p
+  pub closed : (i : ℕ) (p : ClosedNode) → HasClosedNode new i p ↔ HasClosedNode old i p
   pub entered : (i : ℕ) (e : Entered) → EntersAlong new i e ↔ (EntersAlong old i e ⊎ ((i ≡ at) × (e ≡ edge)))
 
--- a spot for this place of instance i
-pub record IsSpotPlace (keys : List InstKey) (spots : List Spot) (i : ℕ) (p : Place) : Type 0 where
+-- a spot for this closed node of instance i
+pub record IsClosedNodeOf (keys : List InstKey) (spots : List Spot) (i : ℕ) (p : ClosedNode) : Type 0 where
   pub spot : Spot
   pub has : Contains spots spot
   pub of : number_of keys spot.inst ≡ i
@@ -65,11 +65,11 @@ pub record IsEdgeOf (keys : List InstKey) (entrances : List Entrance) (i : ℕ) 
   pub into : number_of keys entrance.into ≡ e.into
   pub at : entrance.offset ≡ e.offset
 
--- the graph has a place for the spot
+-- the graph has a closed node for the spot
 pub record HasSpot (keys : List InstKey) (gs : List GraphInst) (s : Spot) : Type 0 where
-  pub place : Place
-  pub has : HasPlace gs (number_of keys s.inst) place
-  pub at : s.offset ≡ place.offset
+  pub closed : ClosedNode
+  pub has : HasClosedNode gs (number_of keys s.inst) closed
+  pub at : s.offset ≡ closed.offset
 
 -- the graph has an edge for the entrance
 pub record HasEntranceEdge (keys : List InstKey) (gs : List GraphInst) (x : Entrance) : Type 0 where
@@ -83,8 +83,8 @@ pub record IsDrawn (keys : List InstKey) (spots : List Spot) (entrances : List E
   pub is_graph : IsGraph gs
   pub count : length gs ≡ length keys + 1
   pub keyed : (i : ℕ) (g : GraphInst) (inst : InstKey) → slice_get gs i ≡ Some g → slice_get keys i ≡ Some inst → g.key ≡ inst
-  pub places : (i : ℕ) (p : Place) → HasPlace gs i p → IsSpotPlace keys spots i p
-  pub all_places : (s : Spot) → Contains spots s → HasSpot keys gs s
+  pub closed : (i : ℕ) (p : ClosedNode) → HasClosedNode gs i p → IsClosedNodeOf keys spots i p
+  pub all_closed : (s : Spot) → Contains spots s → HasSpot keys gs s
   pub edges : (i : ℕ) (e : Entered) → EntersAlong gs i e → IsEdgeOf keys entrances i e
   pub all_edges : (x : Entrance) → Contains entrances x → HasEntranceEdge keys gs x
 

@@ -9,7 +9,7 @@ ghost use Rattle.round_nesting.specs.Drawn.{number_of, IsDrawn};
 use crate::notes::{NotedEntrance, NotedSpot};
 use avr_model::listed::Listed;
 use indexmap::IndexSet;
-use instance_graph::{Entered, Graph, GraphInst, GraphWay, Place};
+use instance_graph::{ClosedNode, Entered, Graph, GraphInst, GraphWay};
 use node_keys::{EdgeKind, InstKey};
 use std::alloc::{AllocError, Global};
 
@@ -28,7 +28,7 @@ pub(crate) fn number(others: &IndexSet<InstKey>, inst: &InstKey) -> usize
     }
 }
 
-// An instance without places and edges.
+// An instance without nodes and edges.
 fn bare(alloc: Global, key: InstKey) -> GraphInst
     ensures { result ≡ record { key = key; offsets = []; entered = [] } }
 {
@@ -53,7 +53,7 @@ fn instances(alloc: Global, others: &IndexSet<InstKey>) -> Result<Vec<GraphInst>
     Ok(instances)
 }
 
-// The places of spots. Nodes of an instance are not distinguished.
+// The closed nodes of spots. Nodes of an instance are not distinguished.
 fn draw_spots(
     others: &IndexSet<InstKey>,
     spots: &[NotedSpot],
@@ -66,7 +66,7 @@ fn draw_spots(
 {
     for spot in spots {
         let at = number(others, spot.inst());
-        instances[at].offsets.push(Place {
+        instances[at].offsets.push(ClosedNode {
             node: 0,
             offset: spot.offset(),
         })?;

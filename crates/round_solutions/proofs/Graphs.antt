@@ -25,7 +25,7 @@ use Rattle.edge_rules.specs.Views.{AreShown}
 use Rattle.edge_laws.specs.Laws.{with_state}
 use Rattle.instance_graph.specs.declared.graph.Entered.{Entered}
 use Rattle.instance_graph.specs.declared.graph.GraphInst.{GraphInst}
-use Rattle.instance_graph.specs.declared.graph.Place.{Place}
+use Rattle.instance_graph.specs.declared.graph.ClosedNode.{ClosedNode}
 use Rattle.instance_graph.specs.declared.graph.GraphWay.TheVariants.{Recur}
 use Rattle.instance_graph.specs.declared.graph.GraphWay.TheVariants.{Enters as Enters_by}
 use Rattle.instance_graph.specs.Graph as graph
@@ -155,27 +155,27 @@ module _ (task : Task) (n : ℕ) (f : Family) (solved : IsSolved task n f) where
           at = refl;
         }
 
-    -- ---- places
+    -- ---- closed nodes
 
-    graph_places : (i : ℕ) (p : Place) → graph.HasPlace gs i p → told.IsFamilyPlace f keys i p.offset
-    graph_places i p h =
-        let x = (of.places i p).0 h in
+    graph_nodes : (i : ℕ) (p : ClosedNode) → graph.HasClosedNode gs i p → told.IsFamilyNode f keys i p.offset
+    graph_nodes i p h =
+        let x = (of.closed i p).0 h in
         record {
-          node = x.place.node;
-          has = has_member f x.place.node (contained_at nodes p.node x.place.node x.place.at);
-          closed = x.place.closed;
-          of = subst (λ (k : InstKey). IsNumber keys i k) (sym x.place.same) x.is;
+          node = x.of.node;
+          has = has_member f x.of.node (contained_at nodes p.node x.of.node x.of.at);
+          closed = x.of.closed;
+          of = subst (λ (k : InstKey). IsNumber keys i k) (sym x.of.same) x.is;
         }
 
-    all_places : (m : Node) (offset : ℕ) → FamilyHas f m → m.key.sp ≡ Closed offset → told.HasNodePlace keys gs m.key.inst offset
-    all_places m offset has closed =
+    all_closed : (m : Node) (offset : ℕ) → FamilyHas f m → m.key.sp ≡ Closed offset → told.HasGraphNode keys gs m.key.inst offset
+    all_closed m offset has closed =
         let member = member_has f m has in
         let number = numbered m.key.inst (m, has, refl) in
-        let p : Place = record { node = member.0; offset = offset } in
+        let p : ClosedNode = record { node = member.0; offset = offset } in
         record {
           number = number.0;
-          place = p;
-          has = (of.places number.0 p).1 record { inst = m.key.inst; is = number.1; place = record { node = m; at = get_contained nodes m member; same = refl; closed = closed } };
+          closed = p;
+          has = (of.closed number.0 p).1 record { inst = m.key.inst; is = number.1; of = record { node = m; at = get_contained nodes m member; same = refl; closed = closed } };
           of = number.1;
           at = refl;
         }
@@ -195,8 +195,8 @@ module _ (task : Task) (n : ℕ) (f : Family) (solved : IsSolved task n f) where
       numbered = numbered;
       entered = graph_entered;
       all_entered = all_entered;
-      places = graph_places;
-      all_places = all_places;
+      closed = graph_nodes;
+      all_closed = all_closed;
     }
 
     acyclic : (at : ℕ) → IsNamed gs at → ⊥

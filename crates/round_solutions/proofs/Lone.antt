@@ -60,7 +60,7 @@ module _ (task : Task) where
           let l = solved.closed only.node only.edge (has_member f only.node from_member) only.is in
           subst (IsStateWithin s) (same_Some l.at t (sym l.is ∙ ap (get f) only.leads ∙ is)) l.above
 
-      -- the family with the edge's state in place of the node's
+      -- the family with the edge's state instead of the node's
       abbrev h : Family
       h = insert f k s
 

@@ -1,8 +1,10 @@
 -- Gathered targets.
-use Rattle.std.proofs.Common.{◌≡◌, refl, sym, ap, ◌∙◌, subst, inl, inr, ⊎_elim, List, [], ◌∷◌, ◌++◌, Bool, Some, Result, Ok, Err, IfOk, OnOk, append_assoc}
+use Rattle.std.proofs.Common.{◌≡◌, refl, sym, ap, ◌∙◌, subst, inl, inr, ⊎_elim, List, [], ◌∷◌, ◌++◌, Bool, Some, Result, Ok, Err, IfOk, OnOk}
 use Rattle.std.proofs.lemmas.List.{append-nil}
 use Rattle.std.proofs.lemmas.List.Elements.{Contains-append_left, Contains-push, Contains-push_cases}
+use Rattle.std.proofs.lemmas.Grind.{flat_map-append}
 use Rattle.std.specs.FinMap.{get, empty, get-empty}
+use Rattle.std.specs.List.{flat_map}
 use Rattle.basics.specs.Items.{none_in, first_in}
 use Rattle.std.proofs.lemmas.Option.{same_Some}
 use Rattle.avr_model.specs.declared.device.Device.{Device}
@@ -15,7 +17,6 @@ use Rattle.local_rules.specs.declared.local.Node.{Node}
 use Rattle.local_rules.specs.Cover.{IsNodeIn}
 use Rattle.local_laws.specs.Laws.{AreNodesIn}
 use Rattle.local_laws.proofs.AllLaws.{each_of}
-use Rattle.family_edges.specs.Next.{gathered}
 use Rattle.round_rules.specs.Families.{Family, nodes_of, FamilyHas, Lands, AreFormed}
 use Rattle.round_laws.specs.Steps.{joined_with, raised, AreJoined}
 use Rattle.round_laws.proofs.AllLaws.{families_are_their_nodes, rounds_are_joins, lands_up, lands_covered, at_keys, get_other}
@@ -93,9 +94,8 @@ module _ (device : Device) (followed : Bool) (f old : Family) (all : List Node) 
 
 -- ---- look by look
 
-pub gathered_push : {X Y : Type 0} (f : X → List Y) (xs : List X) (x : X) → gathered f (xs ++ x ∷ []) ≡ gathered f xs ++ f x
-gathered_push f [] x = append-nil (f x)
-gathered_push f (y ∷ ys) x = ap (λ l. f y ++ l) (gathered_push f ys x) ∙ sym (append_assoc (f y) (gathered f ys) (f x))
+pub flat_map_push : {X Y : Type 0} (f : X → List Y) (xs : List X) (x : X) → flat_map f (xs ++ x ∷ []) ≡ flat_map f xs ++ f x
+flat_map_push f xs x = flat_map-append f xs (x ∷ []) ∙ ap (λ l. flat_map f xs ++ l) (append-nil (f x))
 
 -- the gathered nodes
 pub are_beyond : (device : Device) (followed : Bool) (f : Family) (all : List Node) (g : Family) → AreTargetsGathered device followed f all g → AreBeyond device followed f all (nodes_of g)

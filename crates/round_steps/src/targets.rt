@@ -1,4 +1,4 @@
-//! The targets of edges.
+//! The edges of visited nodes, and their targets.
 
 ghost use Rattle.std.specs.Prelude.{ℕ, Bool, ◌≡◌, ◌<◌, ◌++◌, List, map, OnOk, IfOk};
 ghost use Rattle.avr_model.specs.declared.device.Device.{Device};
@@ -7,19 +7,23 @@ ghost use Rattle.abs_state.specs.Formed.{NamesRegister};
 ghost use Rattle.avr_model.specs.State.{REGISTERS};
 ghost use Rattle.local_rules.specs.declared.local.Node as node_type;
 ghost use Rattle.local_laws.specs.Laws.{AreNodesIn};
-ghost use Rattle.round_steps.specs.Targets.{entry_node, returned_to, back_at, backs_in, all_backs, onward_at, onwards_if, crossings_of, targets_of, all_targets};
-ghost use Rattle.round_steps.specs.Gathers.{IsOwnState, AreOwn, AreOwnNodes, IsTargetGathered, AreTargetsGathered, AreBeyond};
+ghost use Rattle.edge_rules.specs.Edges.{target};
 ghost use Rattle.family_edges.specs.Clauses.{Grows};
-ghost use Rattle.family_edges.specs.Callers.{caller_node};
-ghost use Rattle.family_edges.specs.Next.{node_of};
+ghost use Rattle.family_edges.specs.Callers.{caller_node, leaver_of};
+ghost use Rattle.family_edges.specs.Next.{returns_by};
+ghost use Rattle.round_steps.specs.Targets.{noted_leaver, noted_leavers, onward_at, onwards_if, all_interprocedural, edges_of, targets_of, all_targets};
+ghost use Rattle.round_steps.specs.Gathers.{IsOwnState, AreOwn, AreOwnNodes, IsTargetGathered, AreTargetsGathered, AreBeyond};
 
 use crate::looking::Look;
 use crate::noting::Notes;
 use abs_state::AbsState;
+use avr_model::listed::Listed;
 use family_edges::ways::Way;
-use family_edges::{Caller, returned};
+use family_edges::{
+    Caller, Edge, Leaver, Leavers, Start, add_interprocedural, add_moves, add_return,
+};
 use local_rules::{Exit, Node};
-use node_keys::{InstKey, NodeKey};
+use node_keys::InstKey;
 use round_table::{Crossing, GatheredStates, Table};
 use std::alloc::{AllocError, Global};
 
@@ -31,112 +35,53 @@ struct NotedFamily<'a> {
     notes: &'a Notes,
 }
 
-// A node that leaves its instance.
-#[derive(Clone, Copy)]
-struct Leaver<'a> {
-    inst: &'a InstKey,
-    state: &'a AbsState,
-    exit: Exit,
-}
-
-// Into other instances.
-fn add_entries(
-    targets: &mut Vec<Node>,
-    alloc: Global,
-    state: &AbsState,
-    ways: &[Way],
-) -> Result<(), AllocError>
-    ensures { Grows result targets.old.items targets.new.items (map (entry_node state.now) ways.now) }
-{
-    for at in 0..ways.len() {
-        let state = state.entered(alloc)?;
-        targets.push(Node {
-            key: NodeKey::entry(&ways[at].inst),
-            state,
-        })?;
-    }
-    Ok(())
-}
-
-// The return to a caller by an exit, if the states fit.
-fn add_return(
-    targets: &mut Vec<Node>,
-    alloc: Global,
-    caller: &Caller<'_>,
-    exit: &Exit,
-    leaving: &AbsState,
-) -> Result<(), AllocError>
-    requires { (r : ℕ) → r < REGISTERS → NamesRegister (value_at leaving.now.registers r).tag }
-    ensures { Grows result targets.old.items targets.new.items (returned_to (caller_node caller.now) caller.now.way exit.now leaving.now) }
-{
-    let Some(node) = returned(alloc, caller, exit, leaving)? else {
-        return Ok(());
-    };
-    targets.push(node)?;
-    Ok(())
-}
-
 // ---- from the nodes that leave what a node enters
 
-fn add_back(
-    targets: &mut Vec<Node>,
+// Adds the edge back to a caller from one of them, if the family has it.
+fn add_leaver(
+    edges: &mut Listed<Edge>,
     family: &NotedFamily<'_>,
     caller: &Caller<'_>,
     leaver: &Crossing,
 ) -> Result<(), AllocError>
     requires { AreOwn family.now.table.now }
-    ensures { Grows result targets.old.items targets.new.items (back_at family.now.table.now (caller_node caller.now) caller.now.way leaver.now) }
+    ensures { Grows result edges.old edges.new (returns_by (caller_node caller.now) caller.now.way (noted_leaver family.now.table.now leaver.now)) }
 {
-    let Some(leaving) = family.table.get(&leaver.node) else {
+    let Some(state) = family.table.get(&leaver.node) else {
         return Ok(());
     };
-    add_return(targets, family.alloc, caller, &leaver.exit, leaving)
+    let exit = leaver.exit;
+    add_return(family.alloc, edges, caller, &Leaver { exit, state })
 }
 
-fn add_backs(
-    targets: &mut Vec<Node>,
-    family: &NotedFamily<'_>,
-    caller: &Caller<'_>,
-) -> Result<(), AllocError>
-    requires { AreOwn family.now.table.now }
-    ensures { Grows result targets.old.items targets.new.items (backs_in family.now.table.now family.now.notes.now.leavers (caller_node caller.now) caller.now.way) }
-{
-    let Some(list) = family.notes.leavers.at(&caller.way.inst) else {
-        return Ok(());
-    };
-    for at in 0..list.len() {
-        add_back(targets, family, caller, &list[at])?;
-    }
-    Ok(())
-}
+impl Leavers for NotedFamily<'_> {
+    ghost leavers = { λ s. noted_leavers s.table.now s.notes.now.leavers };
 
-fn add_all_backs(
-    targets: &mut Vec<Node>,
-    family: &NotedFamily<'_>,
-    key: &NodeKey,
-    state: &AbsState,
-    ways: &[Way],
-) -> Result<(), AllocError>
-    requires { AreOwn family.now.table.now }
-    ensures { Grows result targets.old.items targets.new.items (all_backs family.now.table.now family.now.notes.now.leavers (node_of key.now state.now) ways.now) }
-{
-    for at in 0..ways.len() {
-        let way = ways[at];
-        add_backs(targets, family, &Caller { key, state, way })?;
+    ghost can_return = { λ s. AreOwn s.table.now };
+
+    fn add_returns(&self, edges: &mut Listed<Edge>, caller: &Caller<'_>) -> Result<(), AllocError> {
+        let Some(list) = self.notes.leavers.at(&caller.way.inst) else {
+            return Ok(());
+        };
+        for at in 0..list.len() {
+            add_leaver(edges, self, caller, &list[at])?;
+        }
+        Ok(())
     }
-    Ok(())
 }
 
 // ---- to the nodes that enter what a node leaves
 
+// Adds the edge back to one of them, if the family has it.
 fn add_onward(
-    targets: &mut Vec<Node>,
+    edges: &mut Listed<Edge>,
     family: &NotedFamily<'_>,
+    inst: &InstKey,
     leaver: &Leaver<'_>,
     entering: &Crossing,
 ) -> Result<(), AllocError>
     requires { (r : ℕ) → r < REGISTERS → NamesRegister (value_at leaver.now.state.now.registers r).tag }
-    ensures { Grows result targets.old.items targets.new.items (onward_at family.now.table.now leaver.now.inst.now leaver.now.state.now leaver.now.exit entering.now) }
+    ensures { Grows result edges.old edges.new (onward_at family.now.table.now inst.now (leaver_of leaver.now) entering.now) }
 {
     let key = &entering.node;
     let Some(state) = family.table.get(key) else {
@@ -144,22 +89,22 @@ fn add_onward(
     };
     let way = Way {
         kind: entering.kind,
-        inst: *leaver.inst,
+        inst: *inst,
         back: entering.back,
     };
-    let caller = Caller { key, state, way };
-    add_return(targets, family.alloc, &caller, &leaver.exit, leaver.state)
+    add_return(family.alloc, edges, &Caller { key, state, way }, leaver)
 }
 
+// Adds the edges back to all of them, if the node has an exit.
 fn add_onwards(
-    targets: &mut Vec<Node>,
+    edges: &mut Listed<Edge>,
     family: &NotedFamily<'_>,
     inst: &InstKey,
     state: &AbsState,
     exit: Option<Exit>,
 ) -> Result<(), AllocError>
     requires { (r : ℕ) → r < REGISTERS → NamesRegister (value_at state.now.registers r).tag }
-    ensures { Grows result targets.old.items targets.new.items (onwards_if family.now.table.now family.now.notes.now.callers inst.now state.now exit) }
+    ensures { Grows result edges.old edges.new (onwards_if family.now.table.now family.now.notes.now.callers inst.now state.now exit) }
 {
     let Some(exit) = exit else {
         return Ok(());
@@ -167,42 +112,42 @@ fn add_onwards(
     let Some(list) = family.notes.callers.at(inst) else {
         return Ok(());
     };
-    let leaver = Leaver { inst, state, exit };
+    let leaver = Leaver { exit, state };
     for at in 0..list.len() {
-        add_onward(targets, family, &leaver, &list[at])?;
+        add_onward(edges, family, inst, &leaver, &list[at])?;
     }
     Ok(())
 }
 
 // ---- of nodes
 
-// Entries of other instances, returns from these, and returns from the node's own.
-fn add_crossings(
-    targets: &mut Vec<Node>,
+// Adds the edges into other instances, those back from them, and those back from the node's own.
+fn add_all_interprocedural(
+    edges: &mut Listed<Edge>,
     family: &NotedFamily<'_>,
     x: &Look,
     state: &AbsState,
 ) -> Result<(), AllocError>
     requires own { AreOwn family.now.table.now }
     requires named { (r : ℕ) → r < REGISTERS → NamesRegister (value_at state.now.registers r).tag }
-    ensures { Grows result targets.old.items targets.new.items (crossings_of family.now.table.now family.now.notes.now x.now state.now) }
+    ensures { Grows result edges.old edges.new (all_interprocedural family.now.table.now family.now.notes.now x.now state.now) }
 {
-    add_entries(targets, family.alloc, state, &x.ways)?;
-    add_all_backs(targets, family, &x.key, state, &x.ways)?;
-    add_onwards(targets, family, &x.key.inst, state, x.part.exit)
+    let start = Start { key: &x.key, state };
+    add_interprocedural(family.alloc, edges, &start, &x.ways, family)?;
+    add_onwards(edges, family, &x.key.inst, state, x.part.exit)
 }
 
-// `drop` releases the look: a call is one step of the proof, whatever it owns.
-fn add_targets(targets: &mut Vec<Node>, family: &NotedFamily<'_>, x: Look) -> Result<(), AllocError>
+// Adds all edges of a visited node. `drop` releases the look: a call is one step of the proof, whatever it owns.
+fn add_edges(edges: &mut Listed<Edge>, family: &NotedFamily<'_>, x: Look) -> Result<(), AllocError>
     requires { AreOwn family.now.table.now }
-    ensures { Grows result targets.old.items targets.new.items (targets_of family.now.table.now family.now.notes.now x) }
+    ensures { Grows result edges.old edges.new (edges_of family.now.table.now family.now.notes.now x) }
 {
     let Some(state) = family.table.get(&x.key) else {
         drop(x);
         return Ok(());
     };
-    match add_crossings(targets, family, &x, state) {
-        Ok(()) => targets.append(&mut x.part.same.into_vec()),
+    match add_all_interprocedural(edges, family, &x, state) {
+        Ok(()) => add_moves(edges, x.part.same.into_vec()),
         Err(error) => {
             drop(x);
             Err(error)
@@ -222,11 +167,16 @@ fn gather_one(next: &mut GatheredStates, table: &Table, node: Node) -> Result<()
     next.raise(node)
 }
 
-fn gather(next: &mut GatheredStates, table: &Table, nodes: Vec<Node>) -> Result<(), AllocError>
-    requires { AreOwnNodes nodes.items }
-    ensures { (device : Device) (followed : Bool) (before : List node_type.Node) → AreNodesIn device followed nodes.items → AreTargetsGathered device followed table.now before next.old → OnOk result (AreTargetsGathered device followed table.now (before ++ nodes.items) next.new) }
+// Gathers the targets of edges.
+fn gather(next: &mut GatheredStates, table: &Table, edges: Vec<Edge>) -> Result<(), AllocError>
+    requires { AreOwnNodes (map target edges.items) }
+    ensures { (device : Device) (followed : Bool) (before : List node_type.Node) → AreNodesIn device followed (map target edges.items) → AreTargetsGathered device followed table.now before next.old → OnOk result (AreTargetsGathered device followed table.now (before ++ map target edges.items) next.new) }
 {
-    for node in nodes {
+    for edge in edges {
+        let node = Node {
+            key: edge.to,
+            state: edge.state,
+        };
         gather_one(next, table, node)?;
     }
     Ok(())
@@ -242,11 +192,11 @@ fn gather_targets(
     requires nodes { AreOwnNodes (targets_of family.now.table.now family.now.notes.now x) }
     ensures { (device : Device) (followed : Bool) (before : List node_type.Node) → AreNodesIn device followed (targets_of family.now.table.now family.now.notes.now x) → AreTargetsGathered device followed family.now.table.now before next.old → OnOk result (AreTargetsGathered device followed family.now.table.now (before ++ targets_of family.now.table.now family.now.notes.now x) next.new) }
 {
-    let mut nodes = Vec::new(family.alloc);
-    match add_targets(&mut nodes, family, x) {
-        Ok(()) => gather(next, family.table, nodes),
+    let mut edges = Listed::empty(family.alloc);
+    match add_edges(&mut edges, family, x) {
+        Ok(()) => gather(next, family.table, edges.into_vec()),
         Err(error) => {
-            drop(nodes);
+            drop(edges);
             Err(error)
         }
     }

@@ -28,15 +28,17 @@ use Rattle.commands.specs.Commands.{Work, Check, Analyse, Run, Report, Explain, 
 use Rattle.replies.specs.declared.status.Status.{Status}
 use Rattle.replies.specs.declared.status.Status.TheVariants as exit
 use Rattle.replies.specs.Firmware.{firmware_image, firmware_fault}
-use Rattle.replies.specs.Texts.{read_fault, assumptions_refused, certificate_refused, devices_refused, why_not_status, why_not_text}
+use Rattle.replies.specs.Texts.{too_long, assumptions_refused, certificate_refused, devices_refused, why_not_status, why_not_text}
 use Rattle.replies.specs.Reading as read
 use Rattle.replies.specs.Reading.{Seen, Unread, Whole, Long}
 use Rattle.replies.specs.Reply.{Reply, Says, Refuses, WithFile, WithBytes, WithOptional, ImageBy, ListBy, WithList, attains, AttainedBy, WitnessReply, VerdictReply, CertificateReply, told_of, ClearSays, ClearReply, AcceptedReply, RunReply, EndsBefore, ScheduleReply, WhyNotReply, AnalyseReply, SimulateReply, DemoReply, FlashReply, ImageReply, WorkReply, IsReply}
 use Rattle.replies.specs.Headline.{HasWords, ReadsWords, AcceptingRepliesHold, RepliesAreExact}
 use Rattle.stack_core.specs.declared.reply.Reply.{Reply as Answered}
-use Rattle.stack_core.specs.Reading.{seen_under, seen_whole, AreBytes}
+use Rattle.stack_core.specs.declared.reading.Unread.{Unread as Unfetched}
+use Rattle.stack_core.specs.declared.reading.Unread.TheVariants as unread
+use Rattle.stack_core.specs.Reading.{UnreadReply, seen_under, seen_whole, AreBytes, IsTooLong, IsUngathered}
 use Rattle.stack_core.proofs.Gathering.{whole_reply}
-use Rattle.stack_core.specs.Answer.{IsAnswered, IsReplyWritten, IsReadFault, IsSettledAnswer, IsOutcome, IsCutOff}
+use Rattle.stack_core.specs.Answer.{IsAnswered, IsReplyWritten, IsSettledAnswer, IsOutcome, IsCutOff}
 use Rattle.local_rules.specs.Site.{Task, task_with, bare}
 
 -- ---- no reply has a status that isn't the reply's
@@ -167,12 +169,12 @@ run_apart : (device : Device) (x : Result Replayed ℕ) → IsPlainApart (RunRep
 run_apart device (Err step) s t h = at exit.BadSchedule s schedule_plain h.0
 run_apart device (Ok r) s t h = at exit.Done s done_plain h.0
 
-ends_apart : (ls : List TextLine) (place : ℕ) (reply : Reply) → IsPlainApart reply → IsPlainApart (EndsBefore ls place reply)
-ends_apart [] place reply f s t h = f s t h
-ends_apart (l ∷ ls) place reply f s t h = at exit.BadSchedule s schedule_plain h.0
+ends_apart : (ls : List TextLine) (offset : ℕ) (reply : Reply) → IsPlainApart reply → IsPlainApart (EndsBefore ls offset reply)
+ends_apart [] offset reply f s t h = f s t h
+ends_apart (l ∷ ls) offset reply f s t h = at exit.BadSchedule s schedule_plain h.0
 
 schedule_apart : (task : Task) (x : Result (Plan × Position) ℕ) → IsPlainApart (ScheduleReply task x)
-schedule_apart task (Err place) s t h = at exit.BadSchedule s schedule_plain h.0
+schedule_apart task (Err offset) s t h = at exit.BadSchedule s schedule_plain h.0
 schedule_apart task (Ok r) s t h = ends_apart r.1.rest r.1.at (RunReply (device_of task.flash) (replay_of task.flash task.assumptions r.0)) (run_apart (device_of task.flash) (replay_of task.flash task.assumptions r.0)) s t h
 
 flash_apart : (device : Device) (work : Work) (firmware bytes : List ℕ) (task : Task) → IsPlainApart (FlashReply device work firmware bytes task)
@@ -244,18 +246,45 @@ module _ (hold : AcceptingRepliesHold) (exact : RepliesAreExact) where
         exact = exact c seen status text reply;
       }))
 
-  pub worked_result : (c : Command) (holds : List ℕ → Held) (before after : ℕ) (blamed : Blamed) {E : Type 0} (firmware second : List ℕ) (list : Option (List ℕ)) (x : Result Answered E)
-      → AreBytes c holds firmware second list × (after ≡ before)
+  pub worked_result : (o : Option Command) (c : Command) (holds : List ℕ → Held) (before after : ℕ) (blamed : Blamed) {E : Type 0} (firmware second : List ℕ) (list : Option (List ℕ)) (x : Result Answered E)
+      → o ≡ Some c → AreBytes c holds firmware second list × (after ≡ before)
       → IfOk x (λ r. WorkReply c firmware second list r.status r.text.items) → IfOk x (λ r. r.status ≡ exit.Done → HasWords c firmware)
-      → MatchResult x (λ r. IsOutcome (Some c) holds before after blamed r.status r.text.items) (λ e. IsCutOff (Some c) holds before after blamed)
-  worked_result c holds before after blamed firmware second list (Ok r) read work image = worked c holds before after blamed firmware second list r.status r.text.items read work image
-  worked_result c holds before after blamed firmware second list (Err e) read work image = inl read.1
+      → MatchResult x (λ r. IsOutcome o holds before after blamed r.status r.text.items) (λ e. IsCutOff o holds before after blamed)
+  worked_result o c holds before after blamed firmware second list (Ok r) is read work image =
+      subst (λ d. IsOutcome d holds before after blamed r.status r.text.items) (sym is) (worked c holds before after blamed firmware second list r.status r.text.items read work image)
+  worked_result o c holds before after blamed firmware second list (Err e) is read work image = inl read.1
 
-pub failed : (o : Option Command) (holds : List ℕ → Held) (before after : ℕ) (blamed : Blamed) (name : List ℕ) (status : Status) (text : List ℕ)
-    → IsReadFault o holds before after blamed name → status ≡ exit.ReadFault → text ≡ read_fault name → IsOutcome o holds before after blamed status text
-failed o holds before after blamed name status text fault three told = inr (record { is_fault = three; name = name; fault = fault; text_is = told })
+  -- ---- a file that was not read
 
--- ---- where memory is wanting
+  too_long_settles : (c : Command) (holds : List ℕ → Held) (before after : ℕ) (name : List ℕ) (status : Status) (text : List ℕ) → IsTooLong c holds name × (after ≡ before) → Says exit.TooLong (too_long name) status text
+      → IsSettledAnswer (Some c) holds before after status text
+  too_long_settles c holds before after name status text h says =
+      let reply : IsReply c h.0.seen status text = subst (λ s. IsReply c h.0.seen s text) (sym says.0) (subst (IsReply c h.0.seen exit.TooLong) (sym says.1) h.0.reply) in
+      settle c holds before after status text h.1
+      (record {
+        seen = h.0.seen;
+        agrees = h.0.agrees;
+        reply = reply;
+        headline = hold c h.0.seen status text reply (λ zero. absurd (let wrong : ◌≡◌ {A = Status} exit.TooLong exit.Done = sym says.0 ∙ zero in cc));
+        exact = exact c h.0.seen status text reply;
+      })
+
+  unread_outcome : (c : Command) (holds : List ℕ → Held) (before after : ℕ) (blamed : Blamed) (e : Unfetched) (status : Status) (text : List ℕ) → IsUngathered c holds before after blamed e → UnreadReply e status text
+      → IsOutcome (Some c) holds before after blamed status text
+  unread_outcome c holds before after blamed (unread.Long n) status text h says = inl (too_long_settles c holds before after n.now status text h says)
+  unread_outcome c holds before after blamed (unread.Failed n) status text h says = inr (record { is_fault = says.0; name = n.now; fault = h; text_is = says.1 })
+  unread_outcome c holds before after blamed unread.Memory status text h says = absurd says
+
+  unread_cut : (c : Command) (holds : List ℕ → Held) (before after : ℕ) (blamed : Blamed) (e : Unfetched) → IsUngathered c holds before after blamed e → IsCutOff (Some c) holds before after blamed
+  unread_cut c holds before after blamed (unread.Long n) h = inl h.1
+  unread_cut c holds before after blamed (unread.Failed n) h = inr (n.now, h)
+  unread_cut c holds before after blamed unread.Memory h = inl h
+
+  pub unread_result : (o : Option Command) (c : Command) (holds : List ℕ → Held) (before after : ℕ) (blamed : Blamed) {E : Type 0} (e : Unfetched) (x : Result Answered E)
+      → o ≡ Some c → IsUngathered c holds before after blamed e → IfOk x (λ r. UnreadReply e r.status r.text.items)
+      → MatchResult x (λ r. IsOutcome o holds before after blamed r.status r.text.items) (λ e. IsCutOff o holds before after blamed)
+  unread_result o c holds before after blamed e (Ok r) is h says = subst (λ d. IsOutcome d holds before after blamed r.status r.text.items) (sym is) (unread_outcome c holds before after blamed e r.status r.text.items h says)
+  unread_result o c holds before after blamed e (Err fault) is h says = subst (λ d. IsCutOff d holds before after blamed) (sym is) (unread_cut c holds before after blamed e h)
 
 -- ---- where the whole text was written
 

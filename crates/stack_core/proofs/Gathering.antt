@@ -10,7 +10,7 @@ use Rattle.replies.specs.Reading.{Seen, Unread, Whole, Long, firmware_cap, secon
 use Rattle.replies.specs.Reply.{Reply, WithBytes, WithOptional, WorkReply, IsReply}
 use Rattle.stack_core.specs.declared.reading.Unread.{Unread as Unfetched}
 use Rattle.stack_core.specs.declared.reading.Unread.TheVariants as unread
-use Rattle.stack_core.specs.Reading.{AreFetched, IsFetchedUnder, IsUnfetchedUnder, GoTogether, whole_of, GoWith, seen_under, seen_whole, AreBytes, IsUngathered}
+use Rattle.stack_core.specs.Reading.{AreFetched, IsUnfetchedUnder, GoTogether, whole_of, GoWith, seen_under, seen_whole, IsUngathered}
 
 all_agree : (c : Command) (holds : List ℕ → Held) (seen : read.Contents) → AgreesUnder holds firmware_cap (name_of c Firmware) seen.firmware → AgreesUnder holds (second_cap c) (name_of c Second) seen.second
     → AgreesUnder holds assumption_cap (name_of c Assumptions) seen.assumptions → AllAgree c holds seen
@@ -163,26 +163,3 @@ third_stops c holds there fw second before middle after blamed (Some a) (unread.
   subst (λ x. Rose x after) two.quiet h.1,
 )
 third_stops c holds there fw second before middle after blamed (Some a) unread.Memory is same two h = h ∙ two.quiet
-
--- ---- all files are read whole
-
-whole_under : (holds there : List ℕ → Held) (cap before after : ℕ) (o list : Option (List ℕ)) → ((n : List ℕ) → there n ≡ holds n) → IsFetchedUnder there cap before after o list
-    → AgreesUnder holds cap o (whole_of list) × GoTogether o list × (after ≡ before)
-whole_under holds there cap before after None None same h = (tt, tt, h)
-whole_under holds there cap before after None (Some b) same h = absurd h
-whole_under holds there cap before after (Some n) None same h = absurd h
-whole_under holds there cap before after (Some n) (Some b) same h = (subst (λ x. Agrees x cap (Whole b)) (same n) h.0, tt, h.1)
-
-pub all_read : (c : Command) (holds there : List ℕ → Held) (fw second : List ℕ) (list : Option (List ℕ)) (before middle after : ℕ) (o : Option (List ℕ)) → name_of c Assumptions ≡ o
-    → ((n : List ℕ) → there n ≡ holds n) → AreTwoRead c holds fw second before middle → IsFetchedUnder there assumption_cap middle after o list
-    → AreBytes c holds fw second list × (after ≡ before)
-all_read c holds there fw second list before middle after o is same two h =
-    let w = whole_under holds there assumption_cap middle after o list same h in (
-      record {
-        agree = all_agree c holds _ two.first.agrees two.next.agrees (subst (λ x. AgreesUnder holds assumption_cap x (whole_of list)) (sym is) w.0);
-        with_firmware = two.first.goes;
-        with_second = two.next.goes;
-        with_list = subst (λ x. GoTogether x list) (sym is) w.1;
-      },
-      w.2 ∙ two.quiet,
-    )

@@ -1,5 +1,5 @@
 -- Replies by their parts.
-use Rattle.std.proofs.Common.{◌≡◌, ◌≢◌, ℕ, Bool, true, false, List, [], Option, Some, None, Result, Ok, Err, refl, sym, ap, ◌∙◌, subst}
+use Rattle.std.proofs.Common.{◌≡◌, ◌≢◌, ℕ, Bool, true, false, List, Option, Some, None, Result, Ok, Err, refl, sym, ap, ◌∙◌, subst}
 use Rattle.std.specs.Option.{option_copied, is_some}
 use Rattle.std.specs.Prelude.{◌↔◌, IfOk, IsTrue}
 use Rattle.std.proofs.lemmas.Bool.{false_from_ne_true}
@@ -30,15 +30,17 @@ use Rattle.replies.specs.declared.status.Status.{Status}
 use Rattle.replies.specs.declared.status.Status.TheVariants as exit
 use Rattle.replies.specs.Firmware.{firmware_fault, firmware_image, firmware_names, firmware_end}
 use Rattle.replies.specs.Texts.{witness_rejected, rejected, assumptions_refused}
-use Rattle.replies.specs.Reply.{Reply, Says, Refuses, ListBy, WithList, attains, AttainedBy, WitnessReply, VerdictReply, JudgedReply, CertificateReply, report_by, ExplainReply, PremisesReply, WhyReply, PlacesReply, AttainReply, AcceptedReply, FlashReply, ImageReply}
+use Rattle.replies.specs.Reply.{Reply, Says, Refuses, ImageBy, ListBy, WithImage, WithList, attains, AttainedBy, WitnessReply, VerdictReply, JudgedReply, CertificateReply, report_by, ExplainReply, PremisesReply, WhyReply, PlacesReply, AttainReply, AcceptedReply, FlashReply, ImageReply}
 use Rattle.replies.specs.Headline.{PlacesSayTheSame, CausesSayTheSame}
 use Rattle.cert_words.specs.Text.{text_of}
 use Rattle.guided_trials.specs.Attaining.{IsCompleted}
 use Rattle.replies.proofs.AllLaws.{attained_by, witness_zero, by_none}
-use Rattle.stack_core.specs.Answering.{GivesOn, ListingReadsAs, IsJudgedAs, LoadedReply}
+use Rattle.stack_core.specs.Answering.{GivesOn, nothing, AreGivenAssumptions, ListsAs, PreparesAs, LoadedReply}
 use Rattle.stack_core.specs.declared.reply.Reply.{Reply as Answered}
-use Rattle.stack_core.specs.declared.judging.Judged.{Judged}
-use Rattle.stack_core.specs.declared.loading.Listing.TheVariants.{Unlisted}
+use Rattle.stack_core.specs.declared.loading.Prepared.{Prepared}
+use Rattle.stack_core.specs.declared.loading.Prepared.TheVariants.{Ready}
+use Rattle.stack_core.specs.declared.loading.Prepared.TheVariants as prepared
+use Rattle.local_rules.specs.Machine.{AreWords}
 use Rattle.local_rules.specs.Site.{Task, task_with}
 
 -- ---- simulate
@@ -76,10 +78,6 @@ copied_is_some (Some s) None e = absurd (let wrong = e in cc)
 copied_is_some (Some s) (Some p) e = refl
 
 -- ---- a certificate's text
-
--- a certificate that is read
-pub read_claim : {E : Type 0} (task : Task) (x : Result Claim CertFault) (c : Claim) (j : Result Judged E) → x ≡ Ok c → IfOk j (IsJudgedAs task (Ok c)) → IfOk j (IsJudgedAs task x)
-read_claim task x c j e h = subst (λ y. IfOk j (IsJudgedAs task y)) (sym e) h
 
 -- if an accepted certificate gets one of two replies alike, so does each text
 attained_alike : (next other : Reply) (attained : Bool) (status : Status) (text : List ℕ) → (next status text → other status text) → AttainedBy next attained status text → AttainedBy other attained status text
@@ -125,12 +123,50 @@ attain_reply task n c d text h valid told =
 pub refused_by : (n : Status) (o : Option (List ℕ)) (status : Status) (text : List ℕ) → status ≡ n → o ≡ Some text → Refuses n o status text
 refused_by n o status text s t = subst (λ x. Refuses n x status text) (sym t) (s, refl)
 
--- ---- an assumption file
+-- ---- a file that is refused
 
-pub unlisted : (device : Device) (bytes : List ℕ) (f : AssumeText) (r : Answered) → (f ≢ assume.Memory → entries_in device bytes ≡ Err f) → r.status ≡ exit.BadAssumptions → assumptions_refused f ≡ Some r.text.items → ListingReadsAs device bytes (Unlisted r)
-unlisted device bytes (assume.Malformed line) r e s t = (assume.Malformed line, e (λ w. cc), s, t)
-unlisted device bytes (assume.Order line) r e s t = (assume.Order line, e (λ w. cc), s, t)
-unlisted device bytes assume.Memory r e s t = absurd (let wrong = t in cc)
+not_memory : (f : AssumeText) (text : List ℕ) → assumptions_refused f ≡ Some text → f ≢ assume.Memory
+not_memory f text t w = let wrong : assumptions_refused assume.Memory ≡ Some text = subst (λ x. assumptions_refused x ≡ Some text) w t in absurd (let none = wrong in cc)
+
+-- the answer to a list that is refused
+pub list_refused : (device : Device) (bytes : List ℕ) (f : AssumeText) (status : Status) (text : List ℕ) → (f ≢ assume.Memory → entries_in device bytes ≡ Err f) → status ≡ exit.BadAssumptions → assumptions_refused f ≡ Some text
+    → WithList device (Some bytes) nothing status text
+list_refused device bytes f status text e s t =
+    subst (λ x. ListBy x nothing status text) (sym (e (not_memory f text t))) (refused_by exit.BadAssumptions (assumptions_refused f) status text s t)
+
+-- with the firmware that was loaded
+prepared_by : (device : Device) (bytes : List ℕ) (list : Option (List ℕ)) (before : Loaded) (p : Prepared) → GivesOn device bytes before → ListsAs before list p → PreparesAs device bytes list p
+prepared_by device bytes list before (Ready loaded A) g h = (
+  record { loads = g.loads; words = h.0.0 ∙ g.words; names = subst (λ names. SayTheSame names (firmware_names device bytes)) (sym h.0.1.0) g.names; static_end = h.0.1.1 ∙ g.static_end },
+  subst (λ ws. AreGivenAssumptions (device_of ws) list A) g.words h.1,
+)
+prepared_by device bytes list before (prepared.Refused r) g h =
+    by_none (firmware_fault device bytes) (WithList device list nothing) r.status r.text.items g.loads (subst (λ ws. WithList (device_of ws) list nothing r.status r.text.items) g.words h)
+
+pub prepared_result : {E : Type 0} (device : Device) (bytes : List ℕ) (list : Option (List ℕ)) (before : Loaded) (x : Result Prepared E) → GivesOn device bytes before → IfOk x (ListsAs before list)
+    → IfOk x (PreparesAs device bytes list)
+prepared_result device bytes list before (Err e) g h = tt
+prepared_result device bytes list before (Ok p) g h = prepared_by device bytes list before p g h
+
+-- a refusal isn't an answer of 0
+refusal_is : (n : Status) (o : Option (List ℕ)) (status : Status) (text : List ℕ) → Refuses n o status text → status ≡ n
+refusal_is n None status text h = absurd h
+refusal_is n (Some t) status text h = h.0
+
+read_refuses : (x : Result (List Entry) AssumeText) (status : Status) (text : List ℕ) → ListBy x nothing status text → status ≡ exit.BadAssumptions
+read_refuses (Ok A) status text h = absurd h
+read_refuses (Err fault) status text h = refusal_is exit.BadAssumptions (assumptions_refused fault) status text h
+
+list_refuses : (device : Device) (list : Option (List ℕ)) (status : Status) (text : List ℕ) → WithList device list nothing status text → status ≡ exit.BadAssumptions
+list_refuses device None status text h = absurd h
+list_refuses device (Some bytes) status text h = read_refuses (entries_in device bytes) status text h
+
+file_refuses : (o : Option (List ℕ)) (device : Device) (list : Option (List ℕ)) (status : Status) (text : List ℕ) → ImageBy o (WithList device list nothing) status text → status ≢ exit.Done
+file_refuses (Some refusal) device list status text h zero = let wrong : ◌≡◌ {A = Status} exit.BadFirmware exit.Done = sym h.0 ∙ zero in cc
+file_refuses None device list status text h zero = let wrong : ◌≡◌ {A = Status} exit.BadAssumptions exit.Done = sym (list_refuses device list status text h) ∙ zero in cc
+
+pub refused_apart : (device : Device) (firmware : List ℕ) (list : Option (List ℕ)) (status : Status) (text : List ℕ) → WithImage device firmware (λ image. WithList device list nothing) status text → status ≢ exit.Done
+refused_apart device firmware list status text h = file_refuses (firmware_fault device firmware) device list status text h
 
 -- ---- a firmware
 
@@ -188,18 +224,41 @@ flash_alike laws texts places causes device (Premises cert why) firmware bytes l
 flash_alike laws texts places causes device (Attain cert trials) firmware bytes loaded A status text names end h = h
 flash_alike laws texts places causes device (Simulate devices steps) firmware bytes loaded A status text names end h = h
 
-list_alike : (x : Result (List Entry) AssumeText) (next other : List Entry → Reply) (status : Status) (text : List ℕ) → ((A : List Entry) → next A status text → other A status text) → ListBy x next status text → ListBy x other status text
-list_alike (Ok A) next other status text f h = f A h
-list_alike (Err fault) next other status text f h = h
+list_alike : (x : Result (List Entry) AssumeText) (next : List Entry → Reply) (status : Status) (text : List ℕ) → ListBy x nothing status text → ListBy x next status text
+list_alike (Ok A) next status text h = absurd h
+list_alike (Err fault) next status text h = h
 
-next_alike : (device : Device) (list : Option (List ℕ)) (next other : List Entry → Reply) (status : Status) (text : List ℕ) → ((A : List Entry) → next A status text → other A status text) → WithList device list next status text → WithList device list other status text
-next_alike device None next other status text f h = f [] h
-next_alike device (Some bytes) next other status text f h = list_alike (entries_in device bytes) next other status text f h
+refused_alike : (o : Option (List ℕ)) (device : Device) (list : Option (List ℕ)) (next : List Entry → Reply) (status : Status) (text : List ℕ) → ImageBy o (WithList device list nothing) status text → ImageBy o (WithList device list next) status text
+refused_alike (Some refusal) device list next status text h = h
+refused_alike None device None next status text h = absurd h
+refused_alike None device (Some bytes) next status text h = list_alike (entries_in device bytes) next status text h
 
-pub loaded_reply : (laws : NamesThatSayTheSame) (texts : ExplanationsSayTheSame) (places : PlacesSayTheSame) (causes : CausesSayTheSame) (device : Device) (work : Work) (firmware second : List ℕ) (list : Option (List ℕ)) (loaded : Loaded) (status : Status) (text : List ℕ) → GivesOn device firmware loaded
-    → WithList (device_of loaded.flash) list (λ A. LoadedReply device work loaded second A) status text → ImageReply device work firmware second list status text
-loaded_reply laws texts places causes device work firmware second list loaded status text g h =
-    let there : WithList (device_of loaded.flash) list (λ A. FlashReply device work firmware second (task_with loaded.flash A)) status text =
-    next_alike (device_of loaded.flash) list (λ A. LoadedReply device work loaded second A) (λ A. FlashReply device work firmware second (task_with loaded.flash A)) status text (λ A k. flash_alike laws texts places causes device work firmware second loaded A status text g.names g.static_end k) h in
-    by_none (firmware_fault device firmware) (WithList device list (λ A. FlashReply device work firmware second (task_with (firmware_image device firmware) A))) status text g.loads
-    (subst (λ ws. WithList (device_of ws) list (λ A. FlashReply device work firmware second (task_with ws A)) status text) g.words there)
+-- the answer to a file that is refused is that of each work
+pub refused_reply : (device : Device) (work : Work) (firmware second : List ℕ) (list : Option (List ℕ)) (status : Status) (text : List ℕ) → WithImage device firmware (λ image. WithList device list nothing) status text
+    → ImageReply device work firmware second list status text
+refused_reply device work firmware second list status text h =
+    refused_alike (firmware_fault device firmware) device list (λ A. FlashReply device work firmware second (task_with (firmware_image device firmware) A)) status text h
+
+listed_reply : (device : Device) (list : Option (List ℕ)) (A : List Entry) (next : List Entry → Reply) (status : Status) (text : List ℕ) → AreGivenAssumptions device list A → next A status text → WithList device list next status text
+listed_reply device None A next status text e h = subst (λ B. next B status text) e h
+listed_reply device (Some bytes) A next status text e h = subst (λ x. ListBy x next status text) (sym e) h
+
+loaded_reply : (laws : NamesThatSayTheSame) (texts : ExplanationsSayTheSame) (places : PlacesSayTheSame) (causes : CausesSayTheSame) (device : Device) (work : Work) (firmware second : List ℕ) (list : Option (List ℕ)) (loaded : Loaded) (A : List Entry) (status : Status) (text : List ℕ)
+    → PreparesAs device firmware list (Ready loaded A) → LoadedReply device work loaded second A status text → ImageReply device work firmware second list status text
+loaded_reply laws texts places causes device work firmware second list loaded A status text g h =
+    let there : FlashReply device work firmware second (task_with loaded.flash A) status text = flash_alike laws texts places causes device work firmware second loaded A status text g.0.names g.0.static_end h in
+    by_none (firmware_fault device firmware) (WithList device list (λ B. FlashReply device work firmware second (task_with (firmware_image device firmware) B))) status text g.0.loads
+    (listed_reply device list A (λ B. FlashReply device work firmware second (task_with (firmware_image device firmware) B)) status text g.1
+    (subst (λ ws. FlashReply device work firmware second (task_with ws A) status text) g.0.words there))
+
+-- the answer of a work on what was prepared
+pub loaded_result : {E : Type 0} (laws : NamesThatSayTheSame) (texts : ExplanationsSayTheSame) (places : PlacesSayTheSame) (causes : CausesSayTheSame) (device : Device) (work : Work) (firmware second : List ℕ) (list : Option (List ℕ)) (loaded : Loaded) (A : List Entry) (x : Result Answered E)
+    → PreparesAs device firmware list (Ready loaded A) → IfOk x (λ r. LoadedReply device work loaded second A r.status r.text.items) → IfOk x (λ r. ImageReply device work firmware second list r.status r.text.items)
+loaded_result laws texts places causes device work firmware second list loaded A (Err e) g h = tt
+loaded_result laws texts places causes device work firmware second list loaded A (Ok r) g h = loaded_reply laws texts places causes device work firmware second list loaded A r.status r.text.items g h
+
+-- the words of what was prepared have 16 bits
+pub ready_words : {E : Type 0} (device : Device) (firmware : List ℕ) (list : Option (List ℕ)) (loaded : Loaded) (A : List Entry) (x : Result Answered E) → PreparesAs device firmware list (Ready loaded A) → AreWords loaded.flash
+    → IfOk x (λ r. r.status ≡ exit.Done → AreWords (firmware_image device firmware))
+ready_words device firmware list loaded A (Err e) g h = tt
+ready_words device firmware list loaded A (Ok r) g h = λ zero. subst AreWords g.0.words h

@@ -16,8 +16,8 @@ use Rattle.local_rules.specs.Site.{Task}
 
 -- ---- the answer where no call failed and memory sufficed
 
--- Each file of a command has one value, by its place, which agrees with what the files object reports, also if one name occurs twice. The
--- answer is the one reply to these values. A reply that accepts a certificate says that the bound holds, and comes exactly if the
+-- Each file of a command has one value, by its position, which agrees with what the files object reports, also if one name occurs twice.
+-- The answer is the one reply to these values. A reply that accepts a certificate says that the bound holds, and comes exactly if the
 -- certificate is valid. One that writes a certificate says that it is the least, and its status says how the rounds end.
 pub record IsAnswered (command : Command) (holds : List ℕ → Held) (status : Status) (text : List ℕ) : Type 0 where
   pub seen : Contents

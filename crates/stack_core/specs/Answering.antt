@@ -1,6 +1,5 @@
 -- Intermediate values for a firmware and an assumption file, and their answers.
-use Rattle.std.specs.Prelude.{ℕ, ◌≡◌, List, [], Bool, length, Option, Some, None, Result, Ok, Err}
-use Rattle.std.specs.Global.{Vec}
+use Rattle.std.specs.Prelude.{ℕ, ◌≡◌, List, [], Bool, length, Option, Some, None, Result, Ok}
 use Rattle.avr_model.specs.declared.assumption.Entry.{Entry}
 use Rattle.avr_model.specs.declared.device.Device.{Device}
 use Rattle.avr_model.specs.Image.{IsNarrowed}
@@ -8,26 +7,24 @@ use Rattle.avr_model.specs.Devices.{device_of, limit_of}
 use Rattle.flash_image.specs.Naming.{SayTheSame}
 use Rattle.elf_load.specs.Elf.{is_elf}
 use Rattle.elf_load.specs.declared.Loaded.{Loaded as Firmware}
-use Rattle.assumption_files.specs.declared.fault.AssumeText.{AssumeText}
 use Rattle.assumption_files.specs.Reading.{entries_in}
 use Rattle.witness_replay.specs.Spelling.{Plan}
 use Rattle.certificate.specs.Claims.{Claim}
 use Rattle.certificate.specs.Valid.{IsAttained, IsValid}
-use Rattle.family_edges.specs.declared.worked.WorkedOut.{WorkedOut}
 use Rattle.cert_check.specs.Verdict.{IsFamilyOf}
 use Rattle.cert_words.specs.Text.{text_of}
 use Rattle.cert_format.specs.declared.fault.CertFault.{CertFault}
 use Rattle.cert_format.specs.Reading.{certificate_in}
 use Rattle.commands.specs.Commands.{Work, Report, Explain, Premises}
 use Rattle.replies.specs.declared.status.Status.TheVariants as exit
-use Rattle.replies.specs.Texts.{assumptions_refused}
 use Rattle.replies.specs.Firmware.{words_by, fault_by, names_by, end_by, outside_fault, firmware_image, firmware_fault, firmware_names, firmware_end}
 use Rattle.replies.specs.Analysis.{TrialsFind}
-use Rattle.replies.specs.Reply.{Reply, Says, report_by, ExplainReply, PlacesReply, CertificateReply, FlashReply}
+use Rattle.replies.specs.Reply.{Reply, Says, WithImage, WithList, report_by, ExplainReply, PlacesReply, CertificateReply, FlashReply}
 use Rattle.stack_core.specs.declared.loading.Loading.{Loading}
 use Rattle.stack_core.specs.declared.loading.Loading.TheVariants.{Loaded, Refused}
-use Rattle.stack_core.specs.declared.loading.Listing.{Listing}
-use Rattle.stack_core.specs.declared.loading.Listing.TheVariants.{Listed, Unlisted}
+use Rattle.stack_core.specs.declared.loading.Prepared.{Prepared}
+use Rattle.stack_core.specs.declared.loading.Prepared.TheVariants.{Ready}
+use Rattle.stack_core.specs.declared.loading.Prepared.TheVariants as prepared
 use Rattle.stack_core.specs.declared.judging.Judged.{Judged}
 use Rattle.stack_core.specs.declared.judging.Judged.TheVariants.{Accepted}
 use Rattle.stack_core.specs.declared.judging.Judged.TheVariants as judged
@@ -67,30 +64,30 @@ abbrev pub LoadsOn : Device → List ℕ → Loading → Type 0
 LoadsOn device bytes (Loaded loaded) = GivesOn device bytes loaded
 LoadsOn device bytes (Refused r) = (r.status ≡ exit.BadFirmware) × (firmware_fault device bytes ≡ Some r.text.items)
 
--- a list that was read, or its refusal
-abbrev pub ListingReadsAs : Device → List ℕ → Listing → Type 0
-ListingReadsAs device bytes (Listed A) = entries_in device bytes ≡ Ok A
-ListingReadsAs device bytes (Unlisted r) = (fault : AssumeText) × (entries_in device bytes ≡ Err fault) × (r.status ≡ exit.BadAssumptions) × (assumptions_refused fault ≡ Some r.text.items)
-
--- the list of an optional file, or its refusal; without a file the list is empty
-abbrev pub ListsAs : Device → Option (List ℕ) → Listing → Type 0
-ListsAs device None (Listed A) = A ≡ []
-ListsAs device None (Unlisted r) = ⊥
-ListsAs device (Some bytes) listing = ListingReadsAs device bytes listing
-
 -- no answer
-abbrev pub nothing : Claim → Reply
-nothing c status text = ⊥
+abbrev pub nothing : {A : Type 0} → A → Reply
+nothing x status text = ⊥
+
+-- the assumptions of an optional file, or none without it
+abbrev pub AreGivenAssumptions : Device → Option (List ℕ) → List Entry → Type 0
+AreGivenAssumptions device None A = A ≡ []
+AreGivenAssumptions device (Some bytes) A = entries_in device bytes ≡ Ok A
+
+-- the same firmware under the assumptions of an optional file, or the answer to a list that is refused
+abbrev pub ListsAs : Firmware → Option (List ℕ) → Prepared → Type 0
+ListsAs before list (Ready loaded A) =
+    ((loaded.flash ≡ before.flash) × ((loaded.names ≡ before.names) × (loaded.static_end ≡ before.static_end))) × AreGivenAssumptions (device_of before.flash) list A
+ListsAs before list (prepared.Refused r) = WithList (device_of before.flash) list nothing r.status r.text.items
+
+-- the firmware of a file for a device under the assumptions of an optional file, or the answer to the file that is refused
+abbrev pub PreparesAs : Device → List ℕ → Option (List ℕ) → Prepared → Type 0
+PreparesAs device bytes list (Ready loaded A) = GivesOn device bytes loaded × AreGivenAssumptions device list A
+PreparesAs device bytes list (prepared.Refused r) = WithImage device bytes (λ image. WithList device list nothing) r.status r.text.items
 
 -- a valid certificate with its family, or the answer to one that isn't valid or isn't read
 abbrev pub IsJudgedAs : Task → Result Claim CertFault → Judged → Type 0
 IsJudgedAs task x (Accepted c family) = ((x ≡ Ok c) × IsValid task c) × IsFamilyOf task c family
 IsJudgedAs task x (judged.Refused r) = CertificateReply task nothing x r.status r.text.items
-
--- a certificate is accepted with its family, unless a line refuses it
-abbrev pub judged_by : Claim → Result WorkedOut (Vec ℕ) → Judged
-judged_by c (Ok family) = Accepted c family
-judged_by c (Err text) = judged.Refused (record { status = exit.Rejected; text = text })
 
 -- the certificate is the least one with the schedule that the trials find, which attains its bound
 pub record IsWitnessed (task : Task) (least c : Claim) : Type 0 where

@@ -5,10 +5,10 @@ use Rattle.std.specs.Global.{Vec}
 use Rattle.text_base.specs.Outside.{Held, Blamed, Rose, IsBlamed}
 use Rattle.commands.specs.Commands.{Command, Firmware, Second, Assumptions, name_of}
 use Rattle.replies.specs.declared.status.Status.TheVariants as exit
-use Rattle.replies.specs.Texts.{too_long}
+use Rattle.replies.specs.Texts.{too_long, read_fault}
 use Rattle.replies.specs.Reading as read
 use Rattle.replies.specs.Reading.{Seen, Unread, Whole, Long, Agrees, AllAgree, IsFirstFailed}
-use Rattle.replies.specs.Reply.{IsReply}
+use Rattle.replies.specs.Reply.{Reply, Says, IsReply}
 use Rattle.stack_core.specs.declared.reading.Unread.{Unread as Unfetched}
 use Rattle.stack_core.specs.declared.reading.Unread.TheVariants as unread
 use Rattle.stack_core.specs.declared.reading.Contents.{Contents}
@@ -39,6 +39,12 @@ IsFetchedUnder holds cap before after (Some name) (Some bytes) = IsFetched (hold
 abbrev pub IsUnfetchedUnder : (List ℕ → Held) → ℕ → ℕ → ℕ → Blamed → Option (List ℕ) → Unfetched → Type 0
 IsUnfetchedUnder holds cap before after blamed None e = ⊥
 IsUnfetchedUnder holds cap before after blamed (Some name) e = IsUnfetched (holds name) cap name before after blamed e
+
+-- the answer to a file that is too long or could not be read; there is none if memory ran out
+abbrev pub UnreadReply : Unfetched → Reply
+UnreadReply (unread.Long n) status text = Says exit.TooLong (too_long n.now) status text
+UnreadReply (unread.Failed n) status text = Says exit.ReadFault (read_fault n.now) status text
+UnreadReply unread.Memory status text = ⊥
 
 -- ---- all files of a command
 

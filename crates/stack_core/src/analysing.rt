@@ -24,7 +24,7 @@ use std::alloc::{AllocError, Global};
 use vector_table::Assumptions;
 use witness_search::search;
 
-// The status in place of a certificate.
+// The status instead of a certificate.
 fn why_not_status(refusal: &Refusal) -> Status
     ensures { result ≡ why_not_status refusal.now }
 {

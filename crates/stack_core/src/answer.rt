@@ -1,47 +1,34 @@
 //! The answer to the words of the command line, before it is written.
 
-ghost use Rattle.std.specs.Prelude.{MatchResult, Some};
-ghost use Rattle.commands.specs.Commands.{command_of};
-ghost use Rattle.commands.specs.Views.{command_seen};
+ghost use Rattle.std.specs.Prelude.{MatchResult};
+ghost use Rattle.stack_core.specs.Reading.{UnreadReply};
 ghost use Rattle.stack_core.specs.Answer.{IsOutcome, IsCutOff};
-ghost use Rattle.stack_core.specs.Clauses.{called};
+ghost use Rattle.stack_core.specs.Clauses.{Returns, called};
 
 use crate::reading::{Unread, gather};
 use crate::reply::Reply;
 use crate::work::work;
-use commands::{Command, command_of};
+use commands::command_of;
 use replies::laws::replies_are_claims;
 use replies::status::Status;
 use replies::texts;
 use std::alloc::{AllocError, Global};
 use text_base::Files;
 
-// The answer to a command.
-fn answer_to<F: Files>(
-    alloc: Global,
-    command: &Command<'_>,
-    files: &mut F,
-) -> Result<Reply, AllocError>
-    ensures { MatchResult result (λ r. IsOutcome (Some (command_seen command.now)) (F.holds files.old) (F.faults files.old) (F.faults files.new) (F.blamed files.new) r.status r.text.items) (λ e. IsCutOff (Some (command_seen command.now)) (F.holds files.old) (F.faults files.old) (F.faults files.new) (F.blamed files.new)) }
+// The reply to a file that is too long or could not be read.
+fn unread_reply(alloc: Global, unread: &Unread<'_>) -> Result<Reply, AllocError>
+    ensures { Returns result (UnreadReply unread.now) }
 {
-    replies_are_claims();
-    match gather(alloc, files, command) {
-        Ok(read) => work(
-            alloc,
-            command,
-            &read.firmware,
-            &read.second,
-            &read.assumptions,
-        ),
-        Err(Unread::Long(name)) => Ok(Reply {
+    match *unread {
+        Unread::Long(name) => Ok(Reply {
             status: Status::TooLong,
             text: texts::too_long(alloc, name)?,
         }),
-        Err(Unread::Failed(name)) => Ok(Reply {
+        Unread::Failed(name) => Ok(Reply {
             status: Status::ReadFault,
             text: texts::read_fault(alloc, name)?,
         }),
-        Err(Unread::Memory) => Err(AllocError),
+        Unread::Memory => Err(AllocError),
     }
 }
 
@@ -49,8 +36,18 @@ fn answer_to<F: Files>(
 pub fn answer<F: Files>(alloc: Global, words: &[&str], files: &mut F) -> Result<Reply, AllocError>
     ensures { MatchResult result (λ r. IsOutcome (called words.now) (F.holds files.old) (F.faults files.old) (F.faults files.new) (F.blamed files.new) r.status r.text.items) (λ e. IsCutOff (called words.now) (F.holds files.old) (F.faults files.old) (F.faults files.new) (F.blamed files.new)) }
 {
+    replies_are_claims();
     match command_of(alloc, words) {
-        Ok(Some(command)) => answer_to(alloc, &command, files),
+        Ok(Some(command)) => match gather(alloc, files, &command) {
+            Ok(read) => work(
+                alloc,
+                &command,
+                &read.firmware,
+                &read.second,
+                &read.assumptions,
+            ),
+            Err(unread) => unread_reply(alloc, &unread),
+        },
         Ok(None) => Ok(Reply {
             status: Status::Usage,
             text: texts::usage(alloc)?,

@@ -5,7 +5,7 @@ ghost use Rattle.std.specs.Option.{is_some};
 ghost use Rattle.cert_format.specs.Reading.{certificate_in};
 ghost use Rattle.replies.specs.Texts.{accepted};
 ghost use Rattle.replies.specs.Reply.{Says, report_by, CertificateReply};
-ghost use Rattle.stack_core.specs.Answering.{IsJudgedAs, judged_by};
+ghost use Rattle.stack_core.specs.Answering.{IsJudgedAs};
 ghost use Rattle.family_edges.specs.Tasks.{task_of};
 ghost use Rattle.stack_core.specs.Clauses.{Returns};
 
@@ -60,40 +60,33 @@ fn reported(
     })
 }
 
-// The family of an accepted certificate, or the line of a rejected one.
-fn weighed(
-    task: &Task<'_>,
-    certificate: &Certificate,
-) -> Result<Result<WorkedOut, Vec<u8>>, AllocError>
-    ensures { IfOk result (λ w. IsJudgedAs (task_of task.now) (Ok certificate.now) (judged_by certificate.now w)) }
-{
-    match judge_family(task, certificate)? {
-        Judgement::Accepted(family) => {
-            if is_attained(task, certificate) {
-                return Ok(Ok(family));
-            }
-            drop(family);
-            Ok(Err(texts::witness_rejected(task.alloc)?))
-        }
-        Judgement::Rejected(reason) => Ok(Err(texts::rejected(
-            task.alloc,
-            task.flash.device(),
-            &reason,
-        )?)),
-    }
-}
-
 // Judges a certificate that was read.
 fn judge_claim(task: &Task<'_>, certificate: Certificate) -> Result<Judged, AllocError>
     ensures { IfOk result (λ j. IsJudgedAs (task_of task.now) (Ok certificate) j) }
 {
-    match weighed(task, &certificate) {
-        Ok(Ok(family)) => Ok(Judged::Accepted(certificate, family)),
-        Ok(Err(text)) => Ok(Judged::Refused(Reply {
-            status: Status::Rejected,
-            text,
-        })),
-        Err(fault) => Err(fault),
+    match judge_family(task, &certificate) {
+        Ok(Judgement::Accepted(family)) => {
+            if is_attained(task, &certificate) {
+                return Ok(Judged::Accepted(certificate, family));
+            }
+            drop(certificate);
+            drop(family);
+            Ok(Judged::Refused(Reply {
+                status: Status::Rejected,
+                text: texts::witness_rejected(task.alloc)?,
+            }))
+        }
+        Ok(Judgement::Rejected(reason)) => {
+            drop(certificate);
+            Ok(Judged::Refused(Reply {
+                status: Status::Rejected,
+                text: texts::rejected(task.alloc, task.flash.device(), &reason)?,
+            }))
+        }
+        Err(fault) => {
+            drop(certificate);
+            Err(fault)
+        }
     }
 }
 

@@ -3,7 +3,7 @@
 ghost use Rattle.std.specs.Prelude.{◌≡◌, IfOk, false, length};
 ghost use Rattle.avr_model.specs.Devices.{limit_of};
 ghost use Rattle.stack_core.specs.Reading.{bytes_of};
-ghost use Rattle.stack_core.specs.Answering.{LoadsBy, LoadsAs, NarrowedTo, LoadsOn, ListsAs};
+ghost use Rattle.stack_core.specs.Answering.{LoadsBy, LoadsAs, NarrowedTo, LoadsOn, ListsAs, PreparesAs};
 
 use crate::reply::Reply;
 use assumption_files::read as read_list;
@@ -16,18 +16,18 @@ use replies::texts;
 use std::alloc::{AllocError, Global};
 use vector_table::Assumptions;
 
+/// What a command works on: flash with names and the end of static data, under assumptions; or the reply to a refused file.
+#[derive(Drop)]
+pub enum Prepared {
+    Ready(Loaded, Assumptions),
+    Refused(Reply),
+}
+
 /// The result of loading a firmware file: flash with names and the end of static data, or a refusal.
 #[derive(Drop)]
 pub enum Loading {
     Loaded(Loaded),
     Refused(Reply),
-}
-
-/// The result of reading an assumption file: a list, or a refusal.
-#[derive(Drop)]
-pub enum Listing {
-    Listed(Assumptions),
-    Unlisted(Reply),
 }
 
 // The flash of a raw file, which has no names and no static data.
@@ -69,22 +69,6 @@ fn whole(alloc: Global, device: Device, bytes: &[u8]) -> Result<Loading, AllocEr
     }
 }
 
-/// The same firmware, with its widening thresholds if the list has the line `pairs`, so that no rule works them out at each look.
-pub fn marked(mut loaded: Loaded, assumptions: &Assumptions) -> Result<Loaded, AllocError>
-    ensures { IfOk result (λ l. (l.flash ≡ loaded.flash) × ((l.names ≡ loaded.names) × (l.static_end ≡ loaded.static_end))) }
-{
-    if !assumptions.has_pairs() {
-        return Ok(loaded);
-    }
-    match loaded.flash.keep_marks() {
-        Ok(()) => Ok(loaded),
-        Err(fault) => {
-            drop(loaded);
-            Err(fault)
-        }
-    }
-}
-
 // The same firmware on a device.
 fn narrowed(alloc: Global, device: Device, loaded: Loaded) -> Result<Loading, AllocError>
     requires { length loaded.flash.words ≡ limit_of device }
@@ -109,8 +93,8 @@ fn narrowed(alloc: Global, device: Device, loaded: Loaded) -> Result<Loading, Al
     }
 }
 
-/// The firmware of a file for a device.
-pub fn loaded(alloc: Global, device: Device, bytes: &[u8]) -> Result<Loading, AllocError>
+// The firmware of a file for a device.
+fn loaded(alloc: Global, device: Device, bytes: &[u8]) -> Result<Loading, AllocError>
     ensures { IfOk result (λ i. LoadsOn device bytes.now i) }
 {
     narrowing_is_exact();
@@ -120,18 +104,55 @@ pub fn loaded(alloc: Global, device: Device, bytes: &[u8]) -> Result<Loading, Al
     }
 }
 
-/// The assumptions of an optional file, for a device.
-pub fn listed(alloc: Global, device: Device, list: &Option<Vec<u8>>) -> Result<Listing, AllocError>
-    ensures { IfOk result (λ l. ListsAs device (bytes_of list.now) l) }
+// The same firmware, with its widening thresholds if the list has the line `pairs`, so that no rule works them out at each look.
+fn marked(mut loaded: Loaded, assumptions: &Assumptions) -> Result<Loaded, AllocError>
+    ensures { IfOk result (λ l. (l.flash ≡ loaded.flash) × ((l.names ≡ loaded.names) × (l.static_end ≡ loaded.static_end))) }
+{
+    if !assumptions.has_pairs() {
+        return Ok(loaded);
+    }
+    match loaded.flash.keep_marks() {
+        Ok(()) => Ok(loaded),
+        Err(fault) => {
+            drop(loaded);
+            Err(fault)
+        }
+    }
+}
+
+// The same firmware under the assumptions of an optional file.
+fn listed(alloc: Global, loaded: Loaded, list: &Option<Vec<u8>>) -> Result<Prepared, AllocError>
+    ensures { IfOk result (λ p. ListsAs loaded (bytes_of list.now) p) }
 {
     let Some(bytes) = list else {
-        return Ok(Listing::Listed(Assumptions::empty(alloc)));
+        return Ok(Prepared::Ready(loaded, Assumptions::empty(alloc)));
     };
-    match read_list(alloc, device, bytes) {
-        Ok(assumptions) => Ok(Listing::Listed(assumptions)),
-        Err(fault) => Ok(Listing::Unlisted(Reply {
-            status: Status::BadAssumptions,
-            text: texts::assumptions_refused(alloc, &fault)?,
-        })),
+    match read_list(alloc, loaded.flash.device(), bytes) {
+        Ok(assumptions) => {
+            let loaded = marked(loaded, &assumptions)?;
+            Ok(Prepared::Ready(loaded, assumptions))
+        }
+        Err(fault) => {
+            drop(loaded);
+            Ok(Prepared::Refused(Reply {
+                status: Status::BadAssumptions,
+                text: texts::assumptions_refused(alloc, &fault)?,
+            }))
+        }
+    }
+}
+
+/// The firmware of a file for a device, under the assumptions of an optional file.
+pub fn prepare(
+    alloc: Global,
+    device: Device,
+    firmware: &[u8],
+    list: &Option<Vec<u8>>,
+) -> Result<Prepared, AllocError>
+    ensures { IfOk result (λ p. PreparesAs device firmware.now (bytes_of list.now) p) }
+{
+    match loaded(alloc, device, firmware)? {
+        Loading::Loaded(loaded) => listed(alloc, loaded, list),
+        Loading::Refused(reply) => Ok(Prepared::Refused(reply)),
     }
 }

@@ -1,4 +1,3 @@
-pub mod Order
 pub mod Marks
 pub mod Io
 pub mod Scans

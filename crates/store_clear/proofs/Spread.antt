@@ -16,7 +16,7 @@ use Rattle.local_rules.specs.declared.local.Node.{Node}
 use Rattle.edge_rules.specs.declared.edge.Edge.{Edge}
 use Rattle.edge_rules.specs.Edges.{IsEdge, is_entry}
 use Rattle.edge_rules.specs.Places.{found_at}
-use Rattle.edge_rules.specs.Views.{place_of}
+use Rattle.edge_rules.specs.Views.{index_of}
 use Rattle.node_keys.specs.declared.keys.NodeKey.{NodeKey}
 use Rattle.family_edges.specs.declared.landing.Landing.{Landing}
 use Rattle.family_edges.specs.Landings.{AreLandingsOf, AreLandings}
@@ -48,7 +48,7 @@ local_is kind.Call e = absurd cc
 local_is (kind.Interrupt v clears) e = absurd cc
 local_is kind.Return e = absurd cc
 
-inside_at : (nodes : List Node) (k : NodeKey) (at : ℕ) → place_of k nodes ≡ Some at → at < length nodes
+inside_at : (nodes : List Node) (k : NodeKey) (at : ℕ) → index_of k nodes ≡ Some at → at < length nodes
 inside_at nodes k at e = let w = found_at k nodes at e in slice_get_within nodes at w.node w.is
 
 -- ---- one node

@@ -1,3 +1,4 @@
+pub mod Guards
 pub mod Stores
 pub mod Spreading
 pub mod Numbers

@@ -16,13 +16,12 @@ ghost use Rattle.family_edges.specs.Tasks.{task_of};
 ghost use Rattle.store_clear.specs.Stores.{task_in, store_of};
 
 use crate::by_word::{ByWord, by_word};
+use crate::guards::Guard;
 use crate::listing::ListedNodes;
 use crate::moving::may_move;
-use crate::need::is_unfixed;
 use crate::store::GivenStore;
 use crate::words::addresses;
 use crate::writes::{may_write_live, may_write_protected};
-use abs_state::AbsState;
 use avr_model::instruction::Instr;
 use avr_model::listed::Listed;
 use certificate::Certificate;
@@ -42,13 +41,12 @@ struct WordSite<'a> {
 
 // Marks the addresses that a store may write and that are flagged as protected.
 #[tactic(auto, using(crate::proofs::Io::most_io))]
-fn mark_addresses(store: &GivenStore<'_>, marks: &mut [bool])
+fn mark_addresses(store: &GivenStore<'_, '_>, marks: &mut [bool])
     requires { length marks.old ≡ io_end (device_of store.now.flash.now) + 1 }
     ensures { AreMarkedBeside (IsProtectedWrite (task_in store.now) (store_of store.now)) marks.old marks.new }
 {
-    let unfixed = is_unfixed(store);
     for address in 0..store.flash.device().io_end() + 1 {
-        if may_write_protected(store, unfixed, address) {
+        if may_write_protected(store, address) {
             marks[usize::from(address)] = true;
         }
     }
@@ -64,12 +62,14 @@ fn mark_nodes(task: &Task<'_>, told: &ListedNodes<'_>, site: &WordSite<'_>, mark
     let _count = told.nodes.count();
     let mut at = site.first;
     while at < told.conditions.len() {
+        let state = told.nodes.state(at);
         let store = GivenStore {
             flash: task.flash,
             assumptions: task.assumptions,
             pc: site.pc,
-            state: told.nodes.state(at),
+            state,
             instr: site.instr,
+            guard: Guard::of(task, site.pc, state, site.instr),
         };
         mark_addresses(&store, marks);
         at = site.later[at];
@@ -107,23 +107,16 @@ fn may_happen(
     task: &Task<'_>,
     bound: u16,
     key: &NodeKey,
-    state: &AbsState,
-    site: &WordSite<'_>,
+    store: &GivenStore<'_, '_>,
     other: Other,
 ) -> bool
-    requires { bound ≤ size_of (device_of task.now.flash.now) }
-    ensures { result ≡ may_happen (task_of task.now) bound other site.now.pc site.now.instr.now (record { key = key.now; state = state.now }) }
+    requires small { bound ≤ size_of (device_of task.now.flash.now) }
+    requires same { task_in store.now ≡ task_of task.now }
+    ensures { result ≡ may_happen (task_of task.now) bound other store.now.pc store.now.instr.now (record { key = key.now; state = store.now.state.now }) }
 {
-    let store = GivenStore {
-        flash: task.flash,
-        assumptions: task.assumptions,
-        pc: site.pc,
-        state,
-        instr: site.instr,
-    };
     match other {
-        Other::Live => may_write_live(task, bound, key, &store),
-        Other::Moves => may_move(task, key, state, site.instr),
+        Other::Live => may_write_live(task, bound, key, store),
+        Other::Moves => may_move(task, key, store.state, store.instr),
     }
 }
 
@@ -144,7 +137,15 @@ fn happens_at(
     let mut at = site.first;
     while at < told.conditions.len() {
         let (key, state) = (told.nodes.key(at), told.nodes.state(at));
-        if may_happen(task, bound, key, state, site, other) {
+        let store = GivenStore {
+            flash: task.flash,
+            assumptions: task.assumptions,
+            pc: site.pc,
+            state,
+            instr: site.instr,
+            guard: Guard::of(task, site.pc, state, site.instr),
+        };
+        if may_happen(task, bound, key, &store, other) {
             return true;
         }
         at = site.later[at];

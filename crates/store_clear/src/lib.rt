@@ -9,6 +9,7 @@ mod calls;
 mod causes;
 pub mod clearing;
 mod discharging;
+mod guards;
 mod listing;
 mod moving;
 mod need;

@@ -7,7 +7,7 @@ ghost use Rattle.family_edges.specs.Tasks.{task_of};
 ghost use Rattle.clear_laws.specs.Clear.{may_reach, written_bits, may_set, may_move};
 ghost use Rattle.local_rules.specs.Writes as writes;
 
-use crate::need::stored_bits;
+use crate::guards::stored_bits;
 use crate::writes::may_write;
 use abs_state::AbsState;
 use avr_model::device::Device;

@@ -6,7 +6,7 @@ ghost use Rattle.avr_model.specs.Bits.{all_below};
 ghost use Rattle.avr_model.specs.Devices.{device_of, size_of};
 ghost use Rattle.avr_model.specs.Sites.{instruction_at};
 ghost use Rattle.avr_model.specs.Step as steps;
-ghost use Rattle.clear_laws.specs.Clear.{stored_bits, is_guarded, is_flagged_address, is_address_harmless, is_reach_harmless, is_aim_harmless, permits_pair, target_bank, is_target_listed, is_bank_listed, are_targets_listed, is_transfer_listed, calls_cut, may_move, is_clear_by, store_at, is_slot_harmless};
+ghost use Rattle.clear_laws.specs.Clear.{stored_bits, is_guarded, is_flagged_address, is_address_harmless, is_reach_harmless, is_aim_harmless, permits_pair, target_bank, is_target_listed, is_bank_listed, are_targets_listed, is_transfer_listed, calls_cut, may_move, is_clear_by, is_slot_harmless};
 ghost use Rattle.clear_laws.specs.Needs.{meets};
 ghost use Rattle.family_edges.specs.Tasks.{task_of};
 ghost use Rattle.store_clear.specs.Stores.{task_in, store_of};
@@ -14,6 +14,7 @@ ghost use Rattle.node_keys.specs.Keys.{offset_of};
 
 use crate::aims::aim;
 use crate::calls::calls_cut;
+use crate::guards::Guard;
 use crate::moving::may_move;
 use crate::numbers::are_addresses_harmless;
 use crate::store::GivenStore;
@@ -27,7 +28,7 @@ use family_edges::Task;
 use flash_image::Flash;
 use local_reads::members::permits_number;
 use local_reads::pointers::has;
-use local_rows::registers::{bits, pair, value_at};
+use local_rows::registers::{pair, value_at};
 use local_rows::transfer::base_register;
 use node_keys::{NodeKey, may_enable_barred};
 use vector_table::{is_core, is_protected};
@@ -70,48 +71,23 @@ fn lists_word(items: &[u32], item: u32) -> bool
     items.iter().any(|other| *other == item)
 }
 
-// The bits of the byte that a pointer store stores.
-pub(crate) fn stored_bits(state: &AbsState, instr: &Instr) -> TriByte
-    ensures { result ≡ stored_bits state.now instr.now }
-{
-    match instr {
-        Instr::Std(_, _, r) => bits(state, *r),
-        Instr::St(_, r) => bits(state, *r),
-        _ => TriByte::any(),
-    }
-}
-
-// Whether the instruction is `st` or `std` at a site that isn't fixed.
-pub(crate) fn is_unfixed(store: &GivenStore<'_>) -> bool
-    ensures { result ≡ (steps.is_pointer_store store.now.instr.now && not (assumed.is_fixed_site store.now.flash.now store.now.assumptions.now store.now.pc)) }
-{
-    matches!(store.instr, Instr::Std(..) | Instr::St(..))
-        && !store.flash.is_fixed_site(store.assumptions, store.pc)
-}
-
-// Whether writing the store's byte to this protected address is flagged, at a site that isn't fixed.
-pub(crate) fn is_guarded(store: &GivenStore<'_>, address: u16) -> bool
-    ensures { result ≡ is_guarded (device_of store.now.flash.now) store.now.assumptions.now store.now.pc (stored_bits store.now.state.now store.now.instr.now) address }
-{
-    let assumptions = store.assumptions;
-    let device = store.flash.device();
-    if assumptions.admits_enables(device, store.pc) {
-        let value = stored_bits(store.state, store.instr);
-        is_core(device, address) || may_enable_barred(device, assumptions, address, &value)
-    } else {
-        is_protected(device, address) && !lists(assumptions.stores(store.pc), address)
-    }
-}
-
 // Whether writing this address at this word may be flagged as protected.
-pub(crate) fn is_flagged_address(store: &GivenStore<'_>, address: u16) -> bool
+pub(crate) fn is_flagged_address(store: &GivenStore<'_, '_>, address: u16) -> bool
     ensures { result ≡ is_flagged_address (task_in store.now) (store_of store.now) address }
 {
-    is_unfixed(store) && is_guarded(store, address)
+    let device = store.flash.device();
+    match store.guard {
+        Guard::Nothing => false,
+        Guard::Barred(value) => {
+            is_core(device, address)
+                || may_enable_barred(device, store.assumptions, address, &value)
+        }
+        Guard::Unlisted(listed) => is_protected(device, address) && !lists(listed, address),
+    }
 }
 
 // Whether the address is no pushed byte's and a write of it isn't flagged, if the stack takes at most this many bytes.
-pub(crate) fn is_address_harmless(store: &GivenStore<'_>, bound: u16, address: u16) -> bool
+pub(crate) fn is_address_harmless(store: &GivenStore<'_, '_>, bound: u16, address: u16) -> bool
     requires { bound ≤ size_of (device_of store.now.flash.now) }
     ensures { result ≡ is_address_harmless (task_in store.now) bound (store_of store.now) address }
 {
@@ -123,7 +99,7 @@ pub(crate) fn is_address_harmless(store: &GivenStore<'_>, bound: u16, address: u
 }
 
 // Whether a store to one of these addresses writes neither a live byte nor a flagged address.
-fn is_reach_harmless(store: &GivenStore<'_>, bound: u16, reach: Reach) -> bool
+fn is_reach_harmless(store: &GivenStore<'_, '_>, bound: u16, reach: Reach) -> bool
     requires { bound ≤ size_of (device_of store.now.flash.now) }
     ensures { result ≡ is_reach_harmless (task_in store.now) bound (store_of store.now) reach }
 {
@@ -143,14 +119,13 @@ fn is_reach_harmless(store: &GivenStore<'_>, bound: u16, reach: Reach) -> bool
 
 // The condition of a store.
 fn condition_of_aim(
-    store: &GivenStore<'_>,
+    store: &GivenStore<'_, '_>,
     bound: u16,
     key: &NodeKey,
     aim: Option<Aim>,
 ) -> Condition
-    requires at { store.now.pc ≡ key.now.pc }
-    requires small { bound ≤ size_of (device_of store.now.flash.now) }
-    ensures { (held : ℕ → Bool) → is_aim_harmless (task_in store.now) bound (store_at key.now.pc store.now.state.now store.now.instr.now) (is_slot_harmless (offset_of key.now.sp) held) aim ≡ meets result held }
+    requires { bound ≤ size_of (device_of store.now.flash.now) }
+    ensures { (held : ℕ → Bool) → is_aim_harmless (task_in store.now) bound (store_of store.now) (is_slot_harmless (offset_of key.now.sp) held) aim ≡ meets result held }
 {
     let Some(aim) = aim else {
         return Condition::Always;
@@ -260,6 +235,7 @@ pub(crate) fn condition_by(
                     pc: key.pc,
                     state,
                     instr: &instr,
+                    guard: Guard::of(task, key.pc, state, &instr),
                 };
                 condition_of_aim(&store, bound, key, aim)
             } else {

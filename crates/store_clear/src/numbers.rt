@@ -30,7 +30,7 @@ fn is_range_harmless(flash: &Flash, bound: u16, first: u16, last: u16) -> bool
 
 // Whether the bytes of registers `r` and `r + 1` exclude the number, or the address `up` further is harmless.
 fn is_number_harmless(
-    store: &GivenStore<'_>,
+    store: &GivenStore<'_, '_>,
     bound: u16,
     r: LowRegister,
     up: u16,
@@ -46,7 +46,7 @@ fn is_number_harmless(
 // Whether, for each possible number of registers `r` and `r + 1` in an interval, the address `up` further is harmless. Other numbers are
 // impossible.
 fn is_interval_harmless(
-    store: &GivenStore<'_>,
+    store: &GivenStore<'_, '_>,
     bound: u16,
     r: LowRegister,
     up: u16,
@@ -72,7 +72,7 @@ fn is_interval_harmless(
 
 // Whether, for each possible number of registers `r` and `r + 1`, the address `up` further is harmless.
 fn are_numbers_harmless(
-    store: &GivenStore<'_>,
+    store: &GivenStore<'_, '_>,
     bound: u16,
     facts: &PairFacts,
     r: LowRegister,
@@ -87,7 +87,7 @@ fn are_numbers_harmless(
 }
 
 // Whether pairs are followed, and each possible address of a store is harmless, if the stack takes at most this many bytes.
-pub(crate) fn are_addresses_harmless(store: &GivenStore<'_>, bound: u16) -> bool
+pub(crate) fn are_addresses_harmless(store: &GivenStore<'_, '_>, bound: u16) -> bool
     requires { bound ≤ size_of (device_of store.now.flash.now) }
     ensures { result ≡ are_addresses_harmless (task_in store.now) bound (store_of store.now) }
 {

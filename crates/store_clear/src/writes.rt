@@ -1,9 +1,7 @@
 //! The possible causes of a flagged step.
 
-ghost use Rattle.std.specs.Prelude.{◌≡◌, ◌≤◌, ◌&&◌, not};
-ghost use Rattle.avr_model.specs.Assumptions as assumed;
+ghost use Rattle.std.specs.Prelude.{◌≡◌, ◌≤◌};
 ghost use Rattle.avr_model.specs.Devices.{device_of, size_of};
-ghost use Rattle.avr_model.specs.Step as steps;
 ghost use Rattle.clear_laws.specs.Aims.{may_write};
 ghost use Rattle.family_edges.specs.Tasks.{task_of};
 ghost use Rattle.clear_laws.specs.Causes.{may_write_protected, may_write_some_protected, may_write_stack, may_leave, may_write_live};
@@ -11,7 +9,7 @@ ghost use Rattle.store_clear.specs.Stores.{task_in, store_of};
 
 use crate::calls::calls_cut;
 use crate::moving::may_move;
-use crate::need::{is_guarded, is_indirect, is_unfixed};
+use crate::need::{is_flagged_address, is_indirect};
 use crate::store::GivenStore;
 use abs_state::AbsState;
 use avr_model::instruction::Instr;
@@ -40,24 +38,20 @@ pub(crate) fn may_write(state: &AbsState, instr: &Instr, address: u16) -> bool
     }
 }
 
-// Whether the byte of a store at this word may go to this data address, and the write is flagged as one of a protected address. `unfixed`
-// says whether it is a pointer store at a site that isn't fixed.
-#[tactic(auto, using(crate::proofs::Order::other_order))]
-pub(crate) fn may_write_protected(store: &GivenStore<'_>, unfixed: bool, address: u16) -> bool
-    requires { unfixed ≡ (steps.is_pointer_store store.now.instr.now && not (assumed.is_fixed_site store.now.flash.now store.now.assumptions.now store.now.pc)) }
+// Whether the byte of a store may go to this data address, and the write may be flagged as one of a protected address.
+pub(crate) fn may_write_protected(store: &GivenStore<'_, '_>, address: u16) -> bool
     ensures { result ≡ may_write_protected (task_in store.now) (store_of store.now) address }
 {
-    unfixed && (may_write(store.state, store.instr, address) && is_guarded(store, address))
+    is_flagged_address(store, address) && may_write(store.state, store.instr, address)
 }
 
 // Whether some data address is so.
 #[tactic(auto, using(crate::proofs::Io::most_io))]
-fn may_write_some_protected(store: &GivenStore<'_>) -> bool
+fn may_write_some_protected(store: &GivenStore<'_, '_>) -> bool
     ensures { result ≡ may_write_some_protected (task_in store.now) (store_of store.now) }
 {
-    let unfixed = is_unfixed(store);
     for address in 0..store.flash.device().io_end() + 1 {
-        if may_write_protected(store, unfixed, address) {
+        if may_write_protected(store, address) {
             return true;
         }
     }
@@ -91,7 +85,7 @@ pub(crate) fn may_write_live(
     task: &Task<'_>,
     bound: u16,
     key: &NodeKey,
-    store: &GivenStore<'_>,
+    store: &GivenStore<'_, '_>,
 ) -> bool
     requires small { bound ≤ size_of (device_of task.now.flash.now) }
     requires same { task_in store.now ≡ task_of task.now }

@@ -32,8 +32,8 @@ all_pass : (p : ℕ → Bool) (xs : List ℕ) → AllByRecursion (λ b. p b ≡ 
 all_pass p [] h = refl
 all_pass p (x ∷ xs) h = rw (h.0, all_pass p xs h.1) (omega arith)
 
-no_place : (p : ℕ → Bool) (xs : List ℕ) → AllByRecursion (λ b. p b ≡ true) xs → position (λ b. not (p b)) xs ≡ None
-no_place p xs h = let e = all_pass p xs h in let t : nat_lt (position_or_len (λ b. not (p b)) xs) (length xs) ≡ false = grind (arith, nat_tests, e) in rw t refl
+no_position : (p : ℕ → Bool) (xs : List ℕ) → AllByRecursion (λ b. p b ≡ true) xs → position (λ b. not (p b)) xs ≡ None
+no_position p xs h = let e = all_pass p xs h in let t : nat_lt (position_or_len (λ b. not (p b)) xs) (length xs) ≡ false = grind (arith, nat_tests, e) in rw t refl
 
 pub unless_bad_ok : (o : Option ℕ) (r : Result ℕ DigitFault) (n : ℕ) → unless_bad o r ≡ Ok n → (o ≡ None) × (r ≡ Ok n)
 unless_bad_ok None r n e = (refl, e)
@@ -107,7 +107,7 @@ pub hex_read : (n k : ℕ) → n < 16 ^ k → hex_answer (hex_digits n k) k ≡ 
 hex_read n k h =
     let own = hex_of n k h in
     let size : (length (hex_digits n k) == k) ≡ true = grind (arith, nat_tests, own.size) in
-    rw (size, no_place is_hex (hex_digits n k) own.all, own.value) refl
+    rw (size, no_position is_hex (hex_digits n k) own.all, own.value) refl
 
 -- decimal
 pub own : IsNumeralModel (λ ds. AllByRecursion (λ b. is_dec b ≡ true) ds) (number_from 10 0)
@@ -125,7 +125,7 @@ pub dec_is_read : (n most : ℕ) → most < 2 ^ 64 → n ≤ most → dec_answer
 dec_is_read n most room small =
     let some : (length (decimal n) == 0) ≡ false = grind (arith, nat_tests, decimal_nonempty n (omega arith)) in
     let plain = plain_zero n (omega arith) in
-    let all = no_place is_dec (decimal n) (digits_decimal own n (omega arith)) in
+    let all = no_position is_dec (decimal n) (digits_decimal own n (omega arith)) in
     let value = digits_value-decimal own n (omega arith) in
     rw (some, plain, all, value, capped_in n most small) refl
 

@@ -8,7 +8,7 @@ use Rattle.std.proofs.lemmas.List.Splits.{slice_split_at, slice_split_none, join
 use Rattle.memchr.specs.Find.{Nowhere, NoneBefore, Passes, is_byte}
 use Rattle.text_base.specs.Lines.{TextLine, lines_of, onto_line, words_of, spaced, joined, AreLines, IsEnded, Lacks}
 
--- the result of a search for a byte: it does not occur, or its first place splits the text
+-- the result of a search for a byte: it does not occur, or its first position splits the text
 lacks_all : (c : ℕ) (text : List ℕ) → Nowhere (Passes (is_byte c) text) 0 (length text) → Lacks c text
 lacks_all c [] h = tt
 lacks_all c (b ∷ bs) h = (false_from_ne_true (b == c) (h 0 (omega arith) (omega arith)), lacks_all c bs (λ k low high. h (suc k) (omega arith) (omega arith)))

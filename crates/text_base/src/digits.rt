@@ -9,7 +9,7 @@ ghost use Rattle.text_base.specs.Digits.{is_dec, is_hex, digit_of, hex_digit, nu
 pub enum DigitFault {
     /// The text has this many bytes, which is not the required number, or it is empty.
     WrongLength(usize),
-    /// The place of the first byte that is no digit; 0 if a decimal of several digits begins with the digit 0.
+    /// The index of the first byte that is no digit; 0 if a decimal of several digits begins with the digit 0.
     BadDigit(usize),
     /// The number exceeds the greatest one permitted.
     TooGreat,
@@ -54,7 +54,7 @@ fn hex_number(digits: &[u8]) -> u128
     number
 }
 
-// The place of the first byte that is no hexadecimal digit.
+// The index of the first byte that is no hexadecimal digit.
 fn bad_hex(text: &[u8]) -> Option<usize>
     ensures at { result ≡ position (λ b. not (is_hex b)) text.now }
     ensures all { IfNone result (AllByRecursion (λ b. is_hex b ≡ true) text.now) }
@@ -62,7 +62,7 @@ fn bad_hex(text: &[u8]) -> Option<usize>
     text.iter().position(|byte| !is_hexadecimal(*byte))
 }
 
-// The place of the first byte that is no decimal digit.
+// The index of the first byte that is no decimal digit.
 fn bad_dec(text: &[u8]) -> Option<usize>
     ensures at { result ≡ position (λ b. not (is_dec b)) text.now }
     ensures all { IfNone result (AllByRecursion (λ b. is_dec b ≡ true) text.now) }

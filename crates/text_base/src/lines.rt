@@ -18,7 +18,7 @@ pub struct Line<'a> {
     pub whole: bool,
 }
 
-/// A reader of the lines of a text. Seen as its place: the offset of the next line, and the lines from there on.
+/// A reader of the lines of a text. Seen as its position: the offset of the next line, and the lines from there on.
 #[derive(Drop)]
 pub struct LineReader<'a> {
     rest: &'a [u8],
@@ -80,7 +80,7 @@ impl<'a> LineReader<'a> {
     /// last one may lack the one at its end.
     #[tactic(auto, using(crate::proofs::Splitting::joined_lines, crate::proofs::Splitting::are_lines))]
     pub fn new(text: &'a [u8]) -> LineReader<'a>
-        ensures place { result ≡ record { at = 0; rest = lines_of text.now } }
+        ensures position { result ≡ record { at = 0; rest = lines_of text.now } }
         ensures joined { joined result.rest ≡ text.now }
         ensures lines { AreLines result.rest }
     {

@@ -66,7 +66,7 @@ impl MemFiles {
         }
     }
 
-    /// Adds a file with these bytes under a name, in place of an earlier one. If memory runs out, nothing changes.
+    /// Adds a file with these bytes under a name, replacing an earlier one. If memory runs out, nothing changes.
     pub fn add(&mut self, name: &str, bytes: &[u8]) -> Result<(), AllocError>
         ensures added { OnOk result (self.new ≡ record self.old { files = record { name = name.now; bytes = bytes.now } ∷ self.old.files }) }
         ensures refused { OnErr result (self.new ≡ self.old) }

@@ -9,7 +9,7 @@ ghost use Rattle.local_rules.specs.Site.{bare};
 use super::edges::flash_on;
 use avr_model::device::Device;
 use certificate::Certificate;
-use chain_explain::{Explanation, Part, PartPlace, explain};
+use chain_explain::{Explanation, Part, PartPoint, explain};
 use family_edges::Task;
 use fixpoint::solve;
 use flash_image::Flash;
@@ -121,11 +121,11 @@ fn is_taken(task: &Task<'_>, certificate: &Certificate, row: &Row) -> bool
 }
 
 fn is_link(part: &Part, due: &Link) -> bool {
-    match &part.place {
-        PartPlace::Node(pc, walk) => {
+    match &part.point {
+        PartPoint::Node(pc, walk) => {
             *pc == due.0 && part.adds == due.1 && walk.as_slice() == due.2
         }
-        PartPlace::Recur(_) => false,
+        PartPoint::Recur(_) => false,
     }
 }
 

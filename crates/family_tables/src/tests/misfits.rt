@@ -12,7 +12,7 @@ use vector_table::{Assumptions, Entry};
 // `rjmp .-2`
 const STAY: [u8; 2] = [0xFF, 0xCF];
 
-/// A device, the words of two `prove` entries in order, and the place of the first entry that does not fit the device.
+/// A device, the words of two `prove` entries in order, and the index of the first entry that does not fit the device.
 pub struct Row(Device, u16, u16, Option<u32>);
 
 // Whether the analysis names this misfit, or finds a certificate if there is none.

@@ -1,13 +1,13 @@
 //! Worked graphs: ranks, needs, chains and named instances, found by hand.
 
-ghost use Rattle.instance_graph.specs.Chain.{HavePlaces};
+ghost use Rattle.instance_graph.specs.Chain.{HaveClosedNodes};
 ghost use Rattle.instance_graph.specs.Graph.{IsGraph};
 ghost use Rattle.instance_graph.specs.Least.{IsLeast};
 
 use avr_model::device::SIZE;
 use avr_model::listed::Listed;
 use instance_graph::{
-    ComposeFault, Composed, Entered, Graph, GraphInst, GraphWay, Link, Place, chain, compose,
+    ClosedNode, ComposeFault, Composed, Entered, Graph, GraphInst, GraphWay, Link, chain, compose,
 };
 use node_keys::{EdgeKind, InstKey, Kind};
 use row_tests::WorkedRow;
@@ -31,7 +31,7 @@ type At = (u32, u16);
 // A node, an offset, the kind of the entry or `RECUR`, and the instance below.
 type Edge = (u32, u16, u8, u32);
 
-// The kind of its entry, its entry, its places and its edges.
+// The kind of its entry, its entry, its closed nodes and its edges.
 type Inst = (u8, u32, &'static [At], &'static [Edge]);
 
 // An instance, a node, the depth there, and the kind of the next entry.
@@ -47,8 +47,8 @@ enum Wanted {
     Cycle(u32),
     // It is not composable.
     Shapeless,
-    // It is composable, but an entered instance or the root has no place.
-    Placeless,
+    // It is composable, but an entered instance or the root has no closed node.
+    Nodeless,
 }
 
 fn way(number: u8) -> GraphWay {
@@ -83,9 +83,9 @@ pub(crate) fn key(number: u8, entry: u32) -> InstKey {
     }
 }
 
-fn add_places(list: &mut Vec<Place>, rows: &[At]) -> Result<(), AllocError> {
+fn add_nodes(list: &mut Vec<ClosedNode>, rows: &[At]) -> Result<(), AllocError> {
     for &(node, offset) in rows {
-        list.push(Place { node, offset })?;
+        list.push(ClosedNode { node, offset })?;
     }
     Ok(())
 }
@@ -104,17 +104,17 @@ fn add_edges(list: &mut Vec<Entered>, rows: &[Edge]) -> Result<(), AllocError> {
 }
 
 fn add_inst(alloc: Global, list: &mut Vec<GraphInst>, row: &Inst) -> Result<(), AllocError> {
-    let mut places = Vec::new(alloc);
+    let mut nodes = Vec::new(alloc);
     let mut edges = Vec::new(alloc);
-    let placed = add_places(&mut places, row.2);
+    let added = add_nodes(&mut nodes, row.2);
     let entered = add_edges(&mut edges, row.3);
     let inst = GraphInst {
         key: key(row.0, row.1),
-        offsets: Listed::new(places),
+        offsets: Listed::new(nodes),
         entered: Listed::new(edges),
     };
     let pushed = list.push(inst).is_ok();
-    if pushed && placed.is_ok() && entered.is_ok() {
+    if pushed && added.is_ok() && entered.is_ok() {
         Ok(())
     } else {
         Err(AllocError)
@@ -152,7 +152,7 @@ fn are_links(links: &[Link], steps: &[Step]) -> bool {
 fn has_chain(alloc: Global, graph: &Graph, composed: &Composed, wanted: &Least) -> bool
     requires graph { IsGraph graph.now.instances }
     requires least { IsLeast BACK graph.now.instances composed.now.ranks composed.now.needs }
-    requires places { HavePlaces graph.now.instances }
+    requires closed { HaveClosedNodes graph.now.instances }
 {
     if composed.need(0) > u32::from(SIZE) {
         return false;
@@ -169,7 +169,7 @@ fn are_least(composed: &Composed, wanted: &Least) -> bool {
 
 // Whether the graph has these ranks and needs, and this chain.
 fn has(alloc: Global, graph: &Graph, wanted: &Least) -> bool {
-    if !graph.is_composable() || !graph.has_places() {
+    if !graph.is_composable() || !graph.has_closed_nodes() {
         return false;
     }
     match compose(alloc, graph, BACK) {
@@ -196,7 +196,7 @@ fn is_made(alloc: Global, graph: &Graph, wanted: &Wanted) -> bool {
         Wanted::Least(least) => has(alloc, graph, least),
         Wanted::Cycle(at) => is_cyclic(alloc, graph, *at),
         Wanted::Shapeless => !graph.is_composable(),
-        Wanted::Placeless => graph.is_composable() && !graph.has_places(),
+        Wanted::Nodeless => graph.is_composable() && !graph.has_closed_nodes(),
     }
 }
 
@@ -228,7 +228,7 @@ pub static ROWS: [(&str, &[Row]); 1] = [(
             ],
             Wanted::Least(Least(&[1, 0], &[3, 0], &[(0, 0, 1, CALL), (1, 1, 3, NONE)])),
         ),
-        // vectors 2 and 3 at one place, each of whose handlers permits the other: four bytes, and not two
+        // vectors 2 and 3 at one node, each of whose handlers permits the other: four bytes, and not two
         Row(
             &[
                 (NONE, 0, &[(0, 0)], &[(0, 0, 2, 1), (0, 0, 3, 2)]),
@@ -307,7 +307,7 @@ pub static ROWS: [(&str, &[Row]); 1] = [(
                 ],
             )),
         ),
-        // two calls of one function: the deeper place counts, and the chain follows it
+        // two calls of one function: the deeper node counts, and the chain follows it
         Row(
             &[
                 (
@@ -356,7 +356,7 @@ pub static ROWS: [(&str, &[Row]); 1] = [(
                 &[(0, 0, 0, CALL), (3, 3, 2, NONE)],
             )),
         ),
-        // no instance; an entered instance that is missing; an offset too great, at a place and at an edge; no place
+        // no instance; an entered instance that is missing; an offset too great, at a node and at an edge; no node
         Row(&[], Wanted::Shapeless),
         Row(
             &[(NONE, 0, &[(0, 0)], &[(0, 0, CALL, 1)])],
@@ -367,6 +367,6 @@ pub static ROWS: [(&str, &[Row]); 1] = [(
             &[(NONE, 0, &[(0, 0)], &[(0, 32_769, CALL, 0)])],
             Wanted::Shapeless,
         ),
-        Row(&[(NONE, 0, &[], &[])], Wanted::Placeless),
+        Row(&[(NONE, 0, &[], &[])], Wanted::Nodeless),
     ],
 )];

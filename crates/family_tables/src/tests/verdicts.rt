@@ -25,7 +25,7 @@ const RUN_ON: [u8; 6] = [0x01, 0xD0, 0x00, 0x00, 0x08, 0x95];
 // The same with an undefined word as the callee.
 const UNDEFINED: [u8; 6] = [0x01, 0xD0, 0xFF, 0xCF, 0x01, 0x00];
 
-// The same with a `nop` in place of the call.
+// The same with a `nop` instead of the call.
 const NO_CALL: [u8; 6] = [0x00, 0x00, 0xFF, 0xCF, 0x08, 0x95];
 
 /// An image and a certificate for it, and the verdict.

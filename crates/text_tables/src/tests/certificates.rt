@@ -1,5 +1,5 @@
 //! A certificate of the first version with each kind of line, which is written as it was read. Small damages to it are in
-//! tests/end_to_end, with the places of the refusals.
+//! tests/end_to_end, with the positions of the refusals.
 
 use super::second_version::{LATER, PAIRS, has_its_facts, has_later_values};
 use avr_model::device::Device;

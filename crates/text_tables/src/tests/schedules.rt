@@ -1,4 +1,4 @@
-//! Texts and the places of refusals. Offsets are counted by hand. Replays are in tests/end_to_end.
+//! Texts and the positions of refusals. Offsets are counted by hand. Replays are in tests/end_to_end.
 
 use avr_model::choice::Choice;
 use avr_model::device::Device;
@@ -7,7 +7,7 @@ use std::alloc::Global;
 use text_base::{LineReader, LineWriter};
 use witness_replay::{Schedule, ScheduleFault};
 
-/// A text with the place after its schedule, or the offset of the refused line.
+/// A text with the position after its schedule, or the offset of the refused line.
 pub struct Text(&'static [u8], Result<usize, usize>);
 
 pub static TEXTS: [(&str, &[Text]); 1] = [(

@@ -9,5 +9,5 @@ add_entry-requires-clause-there c =
 
 pub loop-at-preserved : goal.loop-at-preserved
 loop-at-preserved c =
-    gathered_more (entry_demand c.args.assumptions.now c.args.instances.now c.args.inst c.args.fall) c.args.edges.now c.loop-at.at c.index-edges-at.result c.args.demands.now.items
+    gathered_more (entry_demand c.args.assumptions.now c.args.instances.now c.args.outer.inst c.args.outer.fall) c.args.edges.now c.loop-at.at c.index-edges-at.result c.args.demands.now.items
     c.loop-at.demands.items c.add_entry.new.demands.items c.loop-at-test.true c.index-edges-at.is c.loop-at.invariant c.in_ok-add_entry.ensures

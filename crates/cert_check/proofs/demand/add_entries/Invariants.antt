@@ -4,4 +4,4 @@ use Rattle.cert_check.specs.Demands.{entry_demand}
 use Rattle.cert_check.proofs.demand.add_entries.Given as goal
 
 abbrev pub invariant-loop-at : goal.invariant-loop-at
-invariant-loop-at l = l.demands.items ≡ l.fn.demands.items ++ flat_map (entry_demand l.assumptions l.instances l.inst l.fall) (take l.at l.edges)
+invariant-loop-at l = l.demands.items ≡ l.fn.demands.items ++ flat_map (entry_demand l.assumptions l.instances l.outer.inst l.outer.fall) (take l.at l.edges)

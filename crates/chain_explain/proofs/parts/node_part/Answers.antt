@@ -6,7 +6,7 @@ use Rattle.avr_model.proofs.AllLaws.{devices_are_alike}
 use Rattle.node_keys.specs.declared.keys.InstKey.{InstKey}
 use Rattle.node_keys.specs.declared.keys.NodeKey.{NodeKey}
 use Rattle.node_keys.specs.Keys.{offset_of}
-use Rattle.chain_explain.specs.declared.explanation.PartPlace.TheVariants as place
+use Rattle.chain_explain.specs.declared.explanation.PartPoint.TheVariants as point
 use Rattle.chain_explain.specs.Explanation.{adds_by}
 use Rattle.chain_explain.specs.Reached.{IsReached}
 use Rattle.chain_explain.specs.Walks.{IsWay}
@@ -46,7 +46,7 @@ returns c =
       at = w.1.0;
       inst = inst;
       walk = c.in_ok-walk.walk;
-      place = ap (λ (k : NodeKey). place.Node k.pc c.in_ok-walk.walk) (sym w.1.1);
+      point = ap (λ (k : NodeKey). point.Node k.pc c.in_ok-walk.walk) (sym w.1.1);
       adds = c.adds.ensures ∙ ap₂ (λ (b : ℕ) (k : NodeKey). adds_by b (offset_of k.sp) c.args.link.now.way) back (sym w.1.1);
       target = at.0;
       is = at.1;

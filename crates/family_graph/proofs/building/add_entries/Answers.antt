@@ -8,5 +8,5 @@ add_entry-requires-clause-has c = c.requires.has c.way-item.result (c.loop-way.w
 
 pub loop-way-preserved : goal.loop-way-preserved
 loop-way-preserved c =
-    joined_more (entries_for c.args.task.now.assumptions.now c.args.numbering.now.insts.items c.args.place) c.args.ways.now c.loop-way.way-index c.way-item.result
+    joined_more (entries_for c.args.family.now.task.now.assumptions.now c.args.family.now.numbering.now.insts.items c.args.closed) c.args.ways.now c.loop-way.way-index c.way-item.result
     c.args.entered.now.items c.loop-way.entered.items c.add_entry.new.entered.items c.loop-way-test.true c.way-item.is c.loop-way.invariant c.in_ok-add_entry.ensures

@@ -2,7 +2,7 @@ use Rattle.std.proofs.Common.{arith, ap, ◌∙◌, subst, ◌≤◌, slice_inde
 use Rattle.avr_model.specs.Devices.{back_of}
 use Rattle.instance_graph.specs.Least.{IsLeast}
 use Rattle.avr_model.proofs.AllLaws.{devices_are_alike}
-use Rattle.family_graph.proofs.Conditions.{peopled, some_node, ranked, places, root_bound, root_first}
+use Rattle.family_graph.proofs.Conditions.{peopled, some_node, ranked, have_closed_nodes, root_bound, root_first}
 use Rattle.family_graph.proofs.deepest.deepest_chain.Goals as goal
 use Rattle.family_edges.specs.Tasks.{task_of}
 
@@ -26,9 +26,9 @@ chain-requires-clause-bound c =
     c.in_ok-graph.ensures.graph.some in
     omega (arith, need, c.requires.claim.bound_fits, devices_are_alike.most_depth c.args.certificate.now.device)
 
-pub chain-requires-clause-places : goal.chain-requires-clause-places
-chain-requires-clause-places c =
-    places (task_of c.args.task.now) c.args.certificate.now c.args.nodes.now c.requires.meets c.in_ok-graph.graph.instances c.in_ok-graph.ensures.family c.requires.rooted
+pub chain-requires-clause-closed : goal.chain-requires-clause-closed
+chain-requires-clause-closed c =
+    have_closed_nodes (task_of c.args.task.now) c.args.certificate.now c.args.nodes.now c.requires.meets c.in_ok-graph.graph.instances c.in_ok-graph.ensures.family c.requires.rooted
 
 pub returns-clause-root : goal.returns-clause-root
 returns-clause-root c = λ graph family. root_first (task_of c.args.task.now) c.args.certificate.now c.args.nodes.now c.requires.meets graph family

@@ -3,7 +3,7 @@ use Rattle.std.proofs.lemmas.Bool.{both_ways}
 use Rattle.std.proofs.lemmas.List.{length-replicate}
 use Rattle.std.proofs.lemmas.Option.{slice_get_read}
 use Rattle.instance_graph.specs.Reach.{IsSpread, marked}
-use Rattle.instance_graph.proofs.Marks.{into_seen, marked_first, marked_more, place_inside, nothing_left, all_marked, none_marked}
+use Rattle.instance_graph.proofs.Marks.{into_seen, marked_first, marked_more, number_inside, nothing_left, all_marked, none_marked}
 use Rattle.instance_graph.proofs.reach.reaches_itself.Goals as goal
 
 pub spread-requires : goal.spread-requires
@@ -25,15 +25,15 @@ returns-in-None-clause-no c = λ stays reached.
     let size : length c.marks.stack.items ≡ vec_len c.marks.stack = sym c.marks.stack.ok.0 in
     both_ways _ stays (all_marked c.args.graph.now c.args.from c.marks.marks (nothing_left c.args.graph.now c.args.from c.marks.marks c.marks.stack.items (size ∙ none) c.marks.invariant) c.args.from reached)
 
-pub bounds-graph-place : goal.bounds-graph-place
-bounds-graph-place c = place_inside c.args.graph.now c.args.from c.in-Some.place c.marks.marks c.marks.stack.items c.pop.new.self.items c.marks.invariant c.in-Some.ensures.items
+pub bounds-graph-number : goal.bounds-graph-number
+bounds-graph-number c = number_inside c.args.graph.now c.args.from c.in-Some.number c.marks.marks c.marks.stack.items c.pop.new.self.items c.marks.invariant c.in-Some.ensures.items
 
 pub spread-requires-in-Some : goal.spread-requires-in-Some
 spread-requires-in-Some c =
-    let lt = place_inside c.args.graph.now c.args.from c.in-Some.place c.marks.marks c.marks.stack.items c.pop.new.self.items c.marks.invariant c.in-Some.ensures.items in
-    into_seen c.args.graph.now c.marks.marks c.requires.graph c.marks.invariant.same c.in-Some.place c.index-graph-place.result (slice_get_read c.args.graph.now (length c.args.graph.now) c.in-Some.place c.index-graph-place.result refl lt c.index-graph-place.is)
+    let lt = number_inside c.args.graph.now c.args.from c.in-Some.number c.marks.marks c.marks.stack.items c.pop.new.self.items c.marks.invariant c.in-Some.ensures.items in
+    into_seen c.args.graph.now c.marks.marks c.requires.graph c.marks.invariant.same c.in-Some.number c.index-graph-number.result (slice_get_read c.args.graph.now (length c.args.graph.now) c.in-Some.number c.index-graph-number.result refl lt c.index-graph-number.is)
 
 pub marks-preserved : goal.marks-preserved
 marks-preserved c =
-    let lt = place_inside c.args.graph.now c.args.from c.in-Some.place c.marks.marks c.marks.stack.items c.pop.new.self.items c.marks.invariant c.in-Some.ensures.items in
-    marked_more c.args.graph.now c.args.from c.in-Some.place c.index-graph-place.result c.marks.marks c.spread-in-Some.new.seen c.marks.stack.items c.pop.new.self.items c.spread-in-Some.new.stack.items (slice_get_read c.args.graph.now (length c.args.graph.now) c.in-Some.place c.index-graph-place.result refl lt c.index-graph-place.is) c.in-Some.ensures.items c.marks.invariant c.in_ok-spread-in-Some.ensures
+    let lt = number_inside c.args.graph.now c.args.from c.in-Some.number c.marks.marks c.marks.stack.items c.pop.new.self.items c.marks.invariant c.in-Some.ensures.items in
+    marked_more c.args.graph.now c.args.from c.in-Some.number c.index-graph-number.result c.marks.marks c.spread-in-Some.new.seen c.marks.stack.items c.pop.new.self.items c.spread-in-Some.new.stack.items (slice_get_read c.args.graph.now (length c.args.graph.now) c.in-Some.number c.index-graph-number.result refl lt c.index-graph-number.is) c.in-Some.ensures.items c.marks.invariant c.in_ok-spread-in-Some.ensures

@@ -13,6 +13,6 @@ write_path-requires c =
 pub returns : goal.returns
 returns c =
     on_ok_weaker c.write_path.result
-    (λ e. more_text c.args.out.now c.write_link.new.out c.write_path.new.out (line (link_line c.args.device c.args.names.now c.args.part.now)) (path_text c.args.device c.args.part.now.place)
+    (λ e. more_text c.args.out.now c.write_link.new.out c.write_path.new.out (line (link_line c.args.device c.args.names.now c.args.part.now)) (path_text c.args.device c.args.part.now.point)
     (c.appending_laws.ensures.line c.args.out.now c.write_link.new.out (link_line c.args.device c.args.names.now c.args.part.now) c.requires c.in_ok-write_link.ensures) e)
     c.write_path.ensures

@@ -1,6 +1,7 @@
 use Rattle.std.proofs.Common.{◌≡◌, ◌++◌, take}
+use Rattle.family_edges.specs.Callers.{leaver_of}
 use Rattle.round_steps.specs.Targets.{onwards_by}
 use Rattle.round_steps.proofs.targets.add_onwards.Given as goal
 
 abbrev pub invariant-loop-at : goal.invariant-loop-at
-invariant-loop-at l = l.targets.items ≡ l.fn.targets.items ++ onwards_by l.family.table.now l.inst l.state l.leaver.exit (take l.at l.list)
+invariant-loop-at l = l.edges ≡ l.fn.edges ++ onwards_by l.family.table.now l.inst (leaver_of l.leaver) (take l.at l.list)

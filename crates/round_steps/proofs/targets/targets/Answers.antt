@@ -9,7 +9,7 @@ use Rattle.local_laws.specs.Laws.{AreNodesIn}
 use Rattle.round_steps.specs.declared.looking.Look.{Look}
 use Rattle.round_steps.specs.Targets.{targets_of, all_targets}
 use Rattle.round_steps.specs.Gathers.{AreOwnNodes, AreTargetsGathered, AreBeyond}
-use Rattle.round_steps.proofs.Gathers.{if_ok, none_gathered, gathered_push, are_beyond}
+use Rattle.round_steps.proofs.Gathers.{if_ok, none_gathered, flat_map_push, are_beyond}
 use Rattle.round_steps.proofs.targets.targets.Goals as goal
 
 pub loop-x-init : goal.loop-x-init
@@ -34,7 +34,7 @@ loop-x-preserved c =
     let done = all_targets f notes c.loop-x.yielded in
     let more = targets_of f notes c.in-Some.x in
     let all = subst (λ (xs : List Look). AreOwnNodes (all_targets f notes xs)) c.in-Some.ensures.steps.0 c.loop-x.invariant.1 in
-    let grown = gathered_push (targets_of f notes) c.loop-x.yielded c.in-Some.x in (
+    let grown = flat_map_push (targets_of f notes) c.loop-x.yielded c.in-Some.x in (
       λ device followed nodes.
           let each = subst (AreNodesIn device followed) grown nodes in
           subst (λ (l : List Node). AreTargetsGathered device followed f l c.gather_targets.new.next) (sym grown)

@@ -27,10 +27,10 @@ loop-at-preserved c =
     let lt : at < length nodes = omega (arith, c.requires.same, c.loop-at-test.true) in
     let n = get_inside nodes at lt in
     let unclear = c.loop-at.invariant.1.is n.0 n.1 in
-    let state = state_is nodes at n.0 n.1 c.state.result.now c.state.ensures in
+    let state = state_is nodes at n.0 n.1 c.state-state.result.now c.state-state.ensures in
     let next = c.requires.chain.later_is at n.0 n.1 unclear in (
       nodes_skipped task nodes conditions site.pc site.instr.now (at + 1) (get_or site.later.now at 0) c.args.marks.now c.mark_addresses.new.marks next
-          (nodes_marked task nodes conditions site.pc site.instr.now at n.0 n.0.key c.state.result.now _ c.args.marks.now c.loop-at.marks n.1 refl state refl c.loop-at.invariant.0
+          (nodes_marked task nodes conditions site.pc site.instr.now at n.0 n.0.key c.state-state.result.now _ c.args.marks.now c.loop-at.marks n.1 refl state refl c.loop-at.invariant.0
           c.mark_addresses.new.marks unclear c.mark_addresses.ensures),
       on_chain nodes conditions site.pc (at + 1) (get_or site.later.now at 0) next,
     )

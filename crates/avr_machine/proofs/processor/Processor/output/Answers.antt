@@ -13,4 +13,4 @@ returns-clause-state c =
     let byte : c.register-byte.result ≡ register m c.args.r = c.register-byte.ensures in
     let next = c.further-next.ensures.value ∙ sym (devices_are_alike.twice m.device (m.pc + 1)) in
     let delay = c.turns_on-delay.ensures ∙ (λ i. delay_of_out m (address i) (byte i)) in
-    c.store_step.ensures.state ∙ (λ i. state_after m (store_answer m None (moves_at c.args.flash.now c.args.assumptions.now (record { address = address i; byte = byte i })) (record (storing m (address i) (byte i)) { pc = next i; delay = delay i })))
+    c.store_step.ensures.state ∙ (λ i. state_after m (store_answer m None (moves_at c.args.firmware.now.flash.now c.args.firmware.now.assumptions.now (record { address = address i; byte = byte i })) (record (storing m (address i) (byte i)) { pc = next i; delay = delay i })))

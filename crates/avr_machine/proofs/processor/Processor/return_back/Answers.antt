@@ -9,7 +9,7 @@ use Rattle.avr_machine.proofs.processor.Processor.return_back.Goals.{then-back-e
 
 pub returns : goal.returns
 returns c =
-    let still = is_still c.args.flash.now c.args.assumptions.now in
+    let still = is_still c.args.firmware.now.flash.now c.args.firmware.now.assumptions.now in
     let m = c.args.self.now in
     let back : c.back-back.result ≡ back_of m.device = c.back-back.ensures.exact ∙ ap (λ (s : State). back_of s.device) c.self.view_is in
     let least = c.back-back.ensures.least in

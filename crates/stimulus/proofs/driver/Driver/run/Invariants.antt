@@ -6,4 +6,4 @@ use Rattle.stimulus.specs.Driving.{Begins}
 use Rattle.stimulus.proofs.driver.Driver.run.Given as goal
 
 abbrev pub invariant-loop : goal.invariant-loop
-invariant-loop g l = IsSteady g.F.FnMut l.self × ((choices : List Choice) × Begins (CalledAt g.F.FnMut) l.flash l.assumptions l.target l.steps l.fn.self l.fn.machine choices l.self l.machine × (length choices ≡ l.counter))
+invariant-loop g l = IsSteady g.F.FnMut l.self × ((choices : List Choice) × Begins (CalledAt g.F.FnMut) l.firmware.flash.now l.firmware.assumptions.now l.until.target l.until.steps l.fn.self l.fn.machine choices l.self l.machine × (length choices ≡ l.counter))

@@ -1,6 +1,0 @@
-use Rattle.std.proofs.Common.{ℕ, ◌<◌, ◌≤◌}
-use Rattle.cert_writing.specs.Places.{IsAt}
-use Rattle.cert_writing.proofs.lines.place_from.Given as goal
-
-abbrev pub invariant-loop-j : goal.invariant-loop-j
-invariant-loop-j l = (i : ℕ) → l.fn.from ≤ i → i < l.j → IsAt l.fn.insts l.fn.key i → ⊥

@@ -1,5 +1,0 @@
-use Rattle.std.proofs.Common.{sym}
-use Rattle.round_steps.proofs.targets.add_back.Goals as goal
-
-pub add_return-requires : goal.add_return-requires
-add_return-requires c = (c.requires (record { key = c.args.leaver.now.node; state = c.in-Some.leaving.now }) (sym c.in-Some.ensures)).1.formed.registers
