@@ -15,8 +15,8 @@ use Rattle.commands.specs.Options as option
 
 -- The work of a request, with the name of its second file and its own options: judge a certificate; write the least one, within a number
 -- of rounds if given; replay a schedule; judge a certificate and report it, or the origin of its bound, or whether no step can be flagged,
--- or where a step may be, possibly with causes; judge it and write it with the schedule that trials find; simulate devices for a number of
--- choices.
+-- or where a step may be, possibly with causes; judge it and write it with the schedule that trials find; simulate peripherals for a number
+-- of choices.
 pub data Work : Type 0 where
   Check : (certificate : List ℕ) → Work
   Analyse : (steps : Option ℕ) → Work
@@ -26,7 +26,7 @@ pub data Work : Type 0 where
   Clear : (certificate : List ℕ) → Work
   Premises : (certificate : List ℕ) (why : Bool) → Work
   Attain : (certificate : List ℕ) (trials : ℕ) → Work
-  Simulate : (devices : List ℕ) (steps : ℕ) → Work
+  Simulate : (peripherals : List ℕ) (steps : ℕ) → Work
 
 -- work on a firmware for a device, with the names of the firmware and of the assumption file
 pub record Request : Type 0 where
@@ -55,7 +55,7 @@ pub data Role : Type 0 where
   Second : Role
   Assumptions : Role
 
--- the name of the second file: certificate, schedule or devices
+-- the name of the second file: certificate, schedule or peripherals
 abbrev pub file_of : Work → Option (List ℕ)
 file_of (Check certificate) = Some certificate
 file_of (Analyse steps) = None
@@ -65,7 +65,7 @@ file_of (Explain certificate) = Some certificate
 file_of (Clear certificate) = Some certificate
 file_of (Premises certificate why) = Some certificate
 file_of (Attain certificate trials) = Some certificate
-file_of (Simulate devices steps) = Some devices
+file_of (Simulate peripherals steps) = Some peripherals
 
 -- the name of the assumption file, which `clear` does not have
 abbrev pub assume_of : Work → Option (List ℕ) → Option (List ℕ)

@@ -24,7 +24,7 @@ work_seen (owned.Explain certificate) = Explain certificate.now
 work_seen (owned.Clear certificate) = Clear certificate.now
 work_seen (owned.Premises certificate why) = Premises certificate.now why
 work_seen (owned.Attain certificate trials) = Attain certificate.now trials
-work_seen (owned.Simulate devices steps) = Simulate devices.now steps
+work_seen (owned.Simulate peripherals steps) = Simulate peripherals.now steps
 
 abbrev pub command_seen : OwnedCommand → Command
 command_seen (command.On r) = On (record { device = r.device; firmware = r.firmware.now; assume = text_of r.assume; work = work_seen r.work })

@@ -47,13 +47,13 @@ pub enum Work<'a> {
     },
     /// Runs a firmware with timers and receivers, for at most this many choices.
     Simulate {
-        devices: &'a str,
+        peripherals: &'a str,
         steps: ChoiceCount,
     },
 }
 
 impl<'a> Work<'a> {
-    /// The name of the second file: certificate, schedule or devices.
+    /// The name of the second file: certificate, schedule or peripherals.
     pub fn file(&self) -> Option<&'a str>
         ensures { text_of result ≡ file_of (work_seen self.now) }
     {
@@ -65,7 +65,7 @@ impl<'a> Work<'a> {
             | Work::Premises { certificate, .. }
             | Work::Attain { certificate, .. } => Some(certificate),
             Work::Run { schedule } => Some(schedule),
-            Work::Simulate { devices, .. } => Some(devices),
+            Work::Simulate { peripherals, .. } => Some(peripherals),
             Work::Analyse { .. } => None,
         }
     }
@@ -121,7 +121,7 @@ impl<'a> Command<'a> {
         }
     }
 
-    /// The name of the second file: certificate, schedule or devices.
+    /// The name of the second file: certificate, schedule or peripherals.
     pub fn second(&self) -> Option<&'a str>
         ensures { name_of (command_seen self.now) Second ≡ text_of result }
     {

@@ -151,8 +151,8 @@ fn paired<'a>(word: &str, line: &CommandLine<'a>, second: &'a str) -> Option<Wor
         })
     } else if asks(word, line, "simulate", &STEPS) {
         let steps = choices_in(line.steps)?;
-        let devices = second;
-        Some(Work::Simulate { devices, steps })
+        let peripherals = second;
+        Some(Work::Simulate { peripherals, steps })
     } else {
         None
     }

@@ -1,4 +1,4 @@
--- The run that devices choose by themselves is unique.
+-- The run that peripherals choose by themselves is unique.
 use Rattle.std.proofs.Common.{arith, suc, zero, ◌≡◌, ◌≢◌, ◌≤◌, refl, sym, ap, subst, ◌∙◌, ℕ, ◌-◌, ◌&&◌, ◌||◌, ◌==◌, not, length, Bool, true, false, List, [], ◌∷◌, Option, slice_get}
 use Rattle.basics.specs.Numbers.{most_from_start}
 use Rattle.witness_replay.specs.Replay.{Report, steps_of}
@@ -102,7 +102,7 @@ started image setup m device fill is reset of byte =
     let all : m ≡ starting (initial image setup) = is ∙ ap (λ (d : Device). starting (filled d fill)) of ∙ ap (λ (b : ℕ). starting (filled (device_of image) b)) byte in
     record { is = all; reset = subst (λ (d : Device). IsReset d (initial image setup)) of (subst (λ (x : Machine). IsReset device x.state) all reset) }
 
--- the report is that of the run of the devices alone, and a bound of all runs bounds it
+-- the report is that of the run of the peripherals alone, and a bound of all runs bounds it
 pub record IsReport (image : Image) (A : List Entry) (setup : Setup) (n : ℕ) (report : Report) : Type 0 where
   pub told : report ≡ simulation_of image A setup n
   pub bounded : (bound : ℕ) → Bounded image A bound → report.depth ≤ bound

@@ -13,11 +13,11 @@ use Rattle.text_base.specs.Lines.{TextLine, Position, joined, lines_of, spaced}
 use Rattle.line_reading.specs.Reading.{first_by, this_by, line_by}
 use Rattle.line_reading.specs.Words.{IsWord, whole, Passes, WordLaws}
 use Rattle.avr_model.specs.declared.device.Device.{Device}
-use Rattle.peripherals.specs.declared.devices.SourceKind.{SourceKind}
-use Rattle.peripherals.specs.declared.devices.SourceKind.TheVariants.{Timer, Bytes}
-use Rattle.peripherals.specs.declared.devices.Source.{Source}
-use Rattle.peripherals.specs.declared.devices.DevicesFault.{DevicesFault}
-use Rattle.peripherals.specs.declared.devices.DevicesFault.TheVariants.{Malformed, Memory}
+use Rattle.peripherals.specs.declared.peripherals.SourceKind.{SourceKind}
+use Rattle.peripherals.specs.declared.peripherals.SourceKind.TheVariants.{Timer, Bytes}
+use Rattle.peripherals.specs.declared.peripherals.Source.{Source}
+use Rattle.peripherals.specs.declared.peripherals.PeripheralsFault.{PeripheralsFault}
+use Rattle.peripherals.specs.declared.peripherals.PeripheralsFault.TheVariants.{Malformed, Memory}
 use Rattle.peripherals.specs.Spelling.{Setup, IsSource, IsSetup, most_sources, name_of, source_words, header, ending, setup_lines, text_of}
 use Rattle.peripherals.specs.Reading.{sources_from, if_last, setup_at, malformed, setup_in}
 use Rattle.peripherals.specs.Exact.{IsSetupReading, BeginsSetup, NoSetupGoesOn, IsSetupStuck, IsSetupDueUnlessMemory, ReadSetupIsSpelled, SpelledSetupIsRead, RefusedSetupIsStuck, SetupsHaveOneText}
@@ -128,7 +128,7 @@ module _ (device : Device) where
   same_text k a b fa fb e =
       let ra = spelled_read k (text_of a) a (record { fits = fa; bytes = refl }) in
       let rb = spelled_read k (text_of a) b (record { fits = fb; bytes = e }) in
-      let same : ◌≡◌ {A = Result Setup DevicesFault} (Ok a) (Ok b) = sym ra ∙ rb in
+      let same : ◌≡◌ {A = Result Setup PeripheralsFault} (Ok a) (Ok b) = sym ra ∙ rb in
       cc
 
   -- ---- a refusal
@@ -317,10 +317,10 @@ refused_is_stuck k device text at e = refused_stuck device k text at e
 
 -- ---- the call that reads
 
-pub due : ReadSetupIsSpelled → RefusedSetupIsStuck → (device : Device) (text : List ℕ) (r : Result Setup DevicesFault) → Answers (λ d. d) Memory r (setup_in device text) → IsSetupDueUnlessMemory device text r
+pub due : ReadSetupIsSpelled → RefusedSetupIsStuck → (device : Device) (text : List ℕ) (r : Result Setup PeripheralsFault) → Answers (λ d. d) Memory r (setup_in device text) → IsSetupDueUnlessMemory device text r
 due read refused device text (Ok d) e = read device text d e
 due read refused device text (Err Memory) e = tt
 due read refused device text (Err (Malformed at)) e = refused device text at (e (λ bad. cc))
 
-pub answers_spelled : SpelledSetupIsRead → (device : Device) (text : List ℕ) (r : Result Setup DevicesFault) (setup : Setup) → Answers (λ d. d) Memory r (setup_in device text) → IsSetupReading device text setup → Answers (λ d. d) Memory r (Ok setup)
-answers_spelled law device text r setup e h = let P : Result Setup DevicesFault → Type 0 = λ d. Answers (λ x. x) Memory r d in subst P (law device text setup h) e
+pub answers_spelled : SpelledSetupIsRead → (device : Device) (text : List ℕ) (r : Result Setup PeripheralsFault) (setup : Setup) → Answers (λ d. d) Memory r (setup_in device text) → IsSetupReading device text setup → Answers (λ d. d) Memory r (Ok setup)
+answers_spelled law device text r setup e h = let P : Result Setup PeripheralsFault → Type 0 = λ d. Answers (λ x. x) Memory r d in subst P (law device text setup h) e

@@ -16,7 +16,7 @@ use Rattle.avr_model.specs.Devices.{Image}
 use Rattle.stimulus.specs.Driving.{GoesOn, machine_after, stop_at}
 use Rattle.witness_replay.specs.Replay.{steps_of}
 use Rattle.peripherals.specs.Spelling.{Setup}
-use Rattle.peripherals.specs.declared.devices.Source.{Source}
+use Rattle.peripherals.specs.declared.peripherals.Source.{Source}
 use Rattle.peripherals.specs.Due.{Progress, begun, next_on, passed_at}
 use Rattle.peripherals.specs.Hooks.{Answering}
 use Rattle.peripherals.specs.Simulating.{Setting, setting, Chooses}

@@ -6,9 +6,9 @@ use Rattle.peripherals.proofs.Exact.{malformed_ok}
 use Rattle.text_base.specs.Lines.{TextLine, Position, size_of}
 use Rattle.line_reading.specs.Reading.{first_by, line_by, taken}
 use Rattle.avr_model.specs.declared.device.Device.{Device}
-use Rattle.peripherals.specs.declared.devices.Source.{Source}
-use Rattle.peripherals.specs.declared.devices.DevicesFault.{DevicesFault}
-use Rattle.peripherals.specs.declared.devices.DevicesFault.TheVariants.{Malformed}
+use Rattle.peripherals.specs.declared.peripherals.Source.{Source}
+use Rattle.peripherals.specs.declared.peripherals.PeripheralsFault.{PeripheralsFault}
+use Rattle.peripherals.specs.declared.peripherals.PeripheralsFault.TheVariants.{Malformed}
 use Rattle.peripherals.specs.Reading.{part_by, sources_from, with_front, with_part, malformed}
 
 with_front-twice : (xs ys : List Source) (d : Result (List Source × Position) Position) → with_front xs (with_front ys d) ≡ with_front (xs ++ ys) d
@@ -59,7 +59,7 @@ module _ (device : Device) where
   no_line left at [] q e = let same : record { at = at; rest = [] } ≡ q = cc in rw same refl
   no_line left at (l ∷ ls) q e = no_part left (first_by (part_by device left) (l ∷ ls)) (record { at = at; rest = l ∷ ls }) (record { at = at + size_of l; rest = ls }) q e
 
-  malformed_err : {A : Type 0} (d : Result A Position) (e : DevicesFault) → malformed d ≡ Err e → (q : Position) × (d ≡ Err q) × (Malformed q.at ≡ e)
+  malformed_err : {A : Type 0} (d : Result A Position) (e : PeripheralsFault) → malformed d ≡ Err e → (q : Position) × (d ≡ Err q) × (Malformed q.at ≡ e)
   malformed_err (Ok y) e is = cc
   malformed_err (Err q) e is = (q, refl, cc)
 
@@ -76,8 +76,8 @@ module _ (device : Device) where
   front_end left p q front all e is =
       ap malformed (sym e ∙ ap (with_front front) (no_more left p.at p.rest q (malformed_ok (line_by (part_by device left) p) (None, q) is)) ∙ ap (λ zs. Ok (zs, q)) (append-nil front))
 
-  pub front_fault : (left : ℕ) (p : Position) (f : DevicesFault) (front : List Source) (all : Result (List Source × Position) Position)
+  pub front_fault : (left : ℕ) (p : Position) (f : PeripheralsFault) (front : List Source) (all : Result (List Source × Position) Position)
       → with_front front (sources_from device left p.at p.rest) ≡ all → malformed (line_by (part_by device left) p) ≡ Err f → malformed all ≡ Err f
   front_fault left p f front all e is =
       let q = malformed_err (line_by (part_by device left) p) f is in
-      ap malformed (sym e ∙ ap (with_front front) (no_line left p.at p.rest q.0 q.1)) ∙ ap (λ (x : DevicesFault). Err x) q.2
+      ap malformed (sym e ∙ ap (with_front front) (no_line left p.at p.rest q.0 q.1)) ∙ ap (λ (x : PeripheralsFault). Err x) q.2

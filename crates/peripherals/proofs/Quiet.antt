@@ -11,7 +11,7 @@ use Rattle.avr_model.specs.Step.{Answer, Illegal, Undefined, Overflow, Flagged, 
 use Rattle.avr_model.specs.Run.{Machine, moved_on}
 use Rattle.avr_model.specs.Laws.{DevicesStay}
 use Rattle.avr_machine.specs.declared.menu.Menu.{Menu}
-use Rattle.peripherals.specs.declared.devices.Source.{Source}
+use Rattle.peripherals.specs.declared.peripherals.Source.{Source}
 use Rattle.peripherals.specs.Spelling.{Setup}
 use Rattle.peripherals.specs.Due.{Progress, is_of, is_due, is_ready, is_ready_source, first_from, first_ready, or_else, next_on}
 use Rattle.peripherals.specs.Hooks.{stands_in}

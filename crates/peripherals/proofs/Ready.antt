@@ -1,6 +1,6 @@
 -- The first source that is ready.
 use Rattle.std.proofs.Common.{arith, zero, suc, ◌≡◌, refl, sym, ap, ◌∙◌, ℕ, ◌+◌, ◌-◌, ◌<◌, Bool, true, false, ◌&&◌, inl, inr, Option, Some, None}
-use Rattle.peripherals.specs.declared.devices.Source.{Source}
+use Rattle.peripherals.specs.declared.peripherals.Source.{Source}
 use Rattle.peripherals.specs.Due.{is_of, is_due, is_ready_source, first_from}
 use Rattle.basics.specs.Lists.{chosen}
 use Rattle.std.proofs.lemmas.Option.{same_Some, none-some}

@@ -1,4 +1,4 @@
--- Runs that devices choose are runs of the machine.
+-- Runs that peripherals choose are runs of the machine.
 use Rattle.std.proofs.Common.{zero, suc, ◌≡◌, ◌≢◌, refl, subst, ℕ, ◌<◌, Bool, true, false, if◌then◌else◌, inl, inr, ◌⊎◌, List, [], ◌∷◌, Option, Some, None, slice_get, slice_index_or, lit<}
 use Rattle.std.specs.List.{AllByRecursion}
 use Rattle.basics.specs.Booleans.{last_of_three}
@@ -15,9 +15,9 @@ use Rattle.avr_model.specs.State.{State}
 use Rattle.avr_model.specs.Step.{Answer, Illegal, Undefined, Overflow, Flagged, Done, step, take, entering, may_take, result_of}
 use Rattle.avr_model.specs.Run.{HasBytes, IsRun, RunsOn}
 use Rattle.stimulus.specs.Driving.{choices_on}
-use Rattle.peripherals.specs.declared.devices.SourceKind.{SourceKind}
-use Rattle.peripherals.specs.declared.devices.SourceKind.TheVariants.{Timer, Bytes}
-use Rattle.peripherals.specs.declared.devices.Source.{Source}
+use Rattle.peripherals.specs.declared.peripherals.SourceKind.{SourceKind}
+use Rattle.peripherals.specs.declared.peripherals.SourceKind.TheVariants.{Timer, Bytes}
+use Rattle.peripherals.specs.declared.peripherals.Source.{Source}
 use Rattle.peripherals.specs.Spelling.{Setup, IsKind, IsSource, IsSetup}
 use Rattle.peripherals.specs.Due.{Progress, begun, is_of, is_due, is_ready_source, is_ready, first_ready, or_else, choice_at, choice_on, answered, next_on, passed_at, input_after, taken_of}
 use Rattle.peripherals.specs.Simulating.{board, picked, chosen, initial, simulated}

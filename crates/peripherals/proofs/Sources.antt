@@ -17,9 +17,9 @@ use Rattle.text_base.specs.Lines.{TextLine, Position, size_of, words_of, spaced}
 use Rattle.line_reading.specs.Reading.{hex_at, dec_at, is_over, first_by}
 use Rattle.line_reading.specs.Words.{IsWord, whole, Passes, WordLaws}
 use Rattle.peripherals.specs.declared.reading.Times.{Times}
-use Rattle.peripherals.specs.declared.devices.SourceKind.{SourceKind}
-use Rattle.peripherals.specs.declared.devices.SourceKind.TheVariants.{Timer, Bytes}
-use Rattle.peripherals.specs.declared.devices.Source.{Source}
+use Rattle.peripherals.specs.declared.peripherals.SourceKind.{SourceKind}
+use Rattle.peripherals.specs.declared.peripherals.SourceKind.TheVariants.{Timer, Bytes}
+use Rattle.peripherals.specs.declared.peripherals.Source.{Source}
 use Rattle.peripherals.specs.Spelling.{most_bytes, most_steps, IsSource, source_words, ending}
 use Rattle.peripherals.specs.Reading.{times_at, bytes_in, source_of, timer_in, receiver_by, receiver_in, source_in, source_by, part_by, with_front, with_part, sources_from}
 use Rattle.line_reading.proofs.AllLaws.{ok_is, err_ok, err_is, bind_some, no_words, first_some, passes_none, passes_one, passes_more, passes_tail, passes_end}

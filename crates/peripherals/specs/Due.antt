@@ -2,9 +2,9 @@
 use Rattle.std.specs.Prelude.{ℕ, ◌+◌, ◌*◌, ◌&&◌, not, nat_le, nat_lt, zero, suc, Bool, true, false, if◌then◌else◌, List, length, replicate, Option, Some, None, slice_get, slice_index_or, slice_set}
 use Rattle.avr_model.specs.declared.choice.Choice.{Choice}
 use Rattle.avr_model.specs.declared.choice.Choice.TheVariants.{Go, Take}
-use Rattle.peripherals.specs.declared.devices.SourceKind.{SourceKind}
-use Rattle.peripherals.specs.declared.devices.SourceKind.TheVariants.{Timer, Bytes}
-use Rattle.peripherals.specs.declared.devices.Source.{Source}
+use Rattle.peripherals.specs.declared.peripherals.SourceKind.{SourceKind}
+use Rattle.peripherals.specs.declared.peripherals.SourceKind.TheVariants.{Timer, Bytes}
+use Rattle.peripherals.specs.declared.peripherals.Source.{Source}
 use Rattle.peripherals.specs.Spelling.{Setup}
 
 -- a receiver has as many requests as bytes, a timer any number

@@ -4,8 +4,8 @@ use Rattle.avr_model.specs.declared.device.Device.{Device}
 use Rattle.text_base.specs.Answers.{Answers}
 use Rattle.text_base.specs.Lines.{TextLine, Position, lines_of}
 use Rattle.line_reading.specs.Words.{whole, Passes}
-use Rattle.peripherals.specs.declared.devices.DevicesFault.{DevicesFault}
-use Rattle.peripherals.specs.declared.devices.DevicesFault.TheVariants.{Malformed, Memory}
+use Rattle.peripherals.specs.declared.peripherals.PeripheralsFault.{PeripheralsFault}
+use Rattle.peripherals.specs.declared.peripherals.PeripheralsFault.TheVariants.{Malformed, Memory}
 use Rattle.peripherals.specs.Spelling.{Setup, IsSetup, setup_lines, text_of}
 use Rattle.peripherals.specs.Reading.{setup_in}
 
@@ -37,18 +37,18 @@ pub record IsSetupStuck (device : Device) (text : List ℕ) (at : ℕ) : Type 0 
   pub stop : NoSetupGoesOn device before position.rest
 
 -- the answer that is due for a text
-abbrev pub IsSetupDue : Device → List ℕ → Result Setup DevicesFault → Type 0
+abbrev pub IsSetupDue : Device → List ℕ → Result Setup PeripheralsFault → Type 0
 IsSetupDue device text (Ok setup) = IsSetupReading device text setup
 IsSetupDue device text (Err (Malformed at)) = IsSetupStuck device text at
 IsSetupDue device text (Err Memory) = ⊥
 
 -- the answer is the one that is due, or memory ran out
-abbrev pub IsSetupDueUnlessMemory : Device → List ℕ → Result Setup DevicesFault → Type 0
+abbrev pub IsSetupDueUnlessMemory : Device → List ℕ → Result Setup PeripheralsFault → Type 0
 IsSetupDueUnlessMemory device text (Err Memory) = ⊤
 IsSetupDueUnlessMemory device text answer = IsSetupDue device text answer
 
 -- a text that is the spelling of a setup has that setup as answer, or memory ran out
-abbrev pub AnswersSpelledSetup : Device → List ℕ → Result Setup DevicesFault → Type 0
+abbrev pub AnswersSpelledSetup : Device → List ℕ → Result Setup PeripheralsFault → Type 0
 AnswersSpelledSetup device text answer = (setup : Setup) → IsSetupReading device text setup → Answers (λ d. d) Memory answer (Ok setup)
 
 -- ---- laws

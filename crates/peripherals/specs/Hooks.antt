@@ -6,7 +6,7 @@ use Rattle.avr_model.specs.declared.choice.Choice.TheVariants.{Take}
 use Rattle.avr_machine.specs.declared.menu.Menu.{Menu}
 use Rattle.avr_machine.specs.Menu.{has_choice}
 use Rattle.peripherals.specs.declared.hook.Moment.{Moment}
-use Rattle.peripherals.specs.declared.devices.Source.{Source}
+use Rattle.peripherals.specs.declared.peripherals.Source.{Source}
 use Rattle.peripherals.specs.Spelling.{Setup}
 
 -- the vectors that may be taken by a menu
@@ -44,6 +44,6 @@ abbrev pub Either : Answering → Answering → Answering
 Either first second step taken menu None = first step taken menu None × second step taken menu None
 Either first second step taken menu (Some n) = first step taken menu (Some n) ⊎ (first step taken menu None × second step taken menu (Some n))
 
--- the answers of two hooks, each seen as its devices and its closure: the first one's, or the second one's if the first is none
+-- the answers of two hooks, each seen as its peripherals and its closure: the first one's, or the second one's if the first is none
 abbrev pub ByHooks : {F G : Type 0} → Shared F (Bor Moment × (Bor Menu × Unit {0})) (Option ℕ) → Shared G (Bor Moment × (Bor Menu × Unit {0})) (Option ℕ) → Setup × F → Setup × G → Answering
 ByHooks f g first second = Either (MayAnswer f first.1) (MayAnswer g second.1)

@@ -1,4 +1,4 @@
--- Runs that devices choose are runs of the machine from reset, so a bound of all runs bounds them.
+-- Runs that peripherals choose are runs of the machine from reset, so a bound of all runs bounds them.
 use Rattle.std.specs.Prelude.{ℕ, ◌≤◌, List}
 use Rattle.avr_model.specs.declared.device.Device.{Device}
 use Rattle.avr_model.specs.declared.assumption.Entry.{Entry}

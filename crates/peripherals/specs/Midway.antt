@@ -19,7 +19,7 @@ pub record IsProgressKnown (setup : Setup) (p : Progress) : Type 0 where
   pub few : All (λ k. k ≤ p.step) p.taken
 
 abbrev pub setting_of : {F G : Type 0} → Shared F (Bor Moment × (Bor Menu × Unit {0})) (Option ℕ) → Shared G (Bor Moment × (Bor Menu × Unit {0})) (Option ℕ) → Wiring F G → Setting
-setting_of f g w = setting (ByHooks f g w.timers.now w.receivers.now) w.devices.now w.flash.now w.assumptions.now
+setting_of f g w = setting (ByHooks f g w.timers.now w.receivers.now) w.peripherals.now w.flash.now w.assumptions.now
 
 -- the choice and the next progress follow an answer at this step
 pub record IsChosen (x : Setting) (p : Progress) (m : State) (c : Choice) (after : Progress) : Type 0 where
@@ -28,7 +28,7 @@ pub record IsChosen (x : Setting) (p : Progress) (m : State) (c : Choice) (after
   pub choice : c ≡ choice_on x.on.setup p answer
   pub next : after ≡ next_on x.on.setup p answer
 
--- the rule of the devices alone: the first due timer whose interrupt is in the menu, or else the first such receiver
+-- the rule of the peripherals alone: the first due timer whose interrupt is in the menu, or else the first such receiver
 abbrev pub IsPicked : Setup → Answering
 IsPicked setup step taken menu answer = answer ≡ or_else (first_ready setup (stands_in menu) true taken step) (first_ready setup (stands_in menu) false taken step)
 

@@ -9,11 +9,11 @@ use Rattle.witness_replay.specs.Reading.{fill_by}
 use Rattle.text_base.specs.Lines.{TextLine, Position, size_of, lines_of, words_of}
 use Rattle.line_reading.specs.Reading.{◌>>=◌, hex_at, dec_at, is_over, then_at, first_by, this_by, line_by}
 use Rattle.peripherals.specs.declared.reading.Times.{Times}
-use Rattle.peripherals.specs.declared.devices.SourceKind.{SourceKind}
-use Rattle.peripherals.specs.declared.devices.SourceKind.TheVariants.{Timer, Bytes}
-use Rattle.peripherals.specs.declared.devices.Source.{Source}
-use Rattle.peripherals.specs.declared.devices.DevicesFault.{DevicesFault}
-use Rattle.peripherals.specs.declared.devices.DevicesFault.TheVariants.{Malformed}
+use Rattle.peripherals.specs.declared.peripherals.SourceKind.{SourceKind}
+use Rattle.peripherals.specs.declared.peripherals.SourceKind.TheVariants.{Timer, Bytes}
+use Rattle.peripherals.specs.declared.peripherals.Source.{Source}
+use Rattle.peripherals.specs.declared.peripherals.PeripheralsFault.{PeripheralsFault}
+use Rattle.peripherals.specs.declared.peripherals.PeripheralsFault.TheVariants.{Malformed}
 use Rattle.peripherals.specs.Spelling.{Setup, most_sources, most_bytes, most_steps}
 
 -- ---- the words of a line
@@ -92,18 +92,18 @@ setup_at device p =
     then_at (line_by fill_by h.1) (λ f.
     then_at (sources_from device most_sources f.1.at f.1.rest) (λ s. if_last s.1.rest (record { fill = f.0; sources = s.0 }) s.1)))
 
-abbrev pub malformed : {A : Type 0} → Result A Position → Result A DevicesFault
+abbrev pub malformed : {A : Type 0} → Result A Position → Result A PeripheralsFault
 malformed (Ok x) = Ok x
 malformed (Err p) = Err (Malformed p.at)
 
 -- a source at the next line, or none at `end`, with this many lines left for sources; or the refusal
-abbrev pub part_read : Device → ℕ → Position → Result (Option Source × Position) DevicesFault
+abbrev pub part_read : Device → ℕ → Position → Result (Option Source × Position) PeripheralsFault
 part_read device left p = malformed (line_by (part_by device left) p)
 
 -- the sources up to `end`, or the refusal
-abbrev pub sources_read : Device → Position → Result (List Source × Position) DevicesFault
+abbrev pub sources_read : Device → Position → Result (List Source × Position) PeripheralsFault
 sources_read device p = malformed (sources_from device most_sources p.at p.rest)
 
 -- the setup of a text, or the refusal
-unfoldable pub setup_in : Device → List ℕ → Result Setup DevicesFault
+unfoldable pub setup_in : Device → List ℕ → Result Setup PeripheralsFault
 setup_in device text = malformed (setup_at device (record { at = 0; rest = lines_of text }))

@@ -1,4 +1,4 @@
--- Runs that devices choose. Source: own.
+-- Runs that peripherals choose. Source: own.
 use Rattle.std.specs.Prelude.{ℕ, ◌-◌, ◌<◌, ◌≡◌, zero, suc, false, List, [], ◌∷◌, Option}
 use Rattle.avr_model.specs.declared.choice.Choice.{Choice}
 use Rattle.avr_model.specs.declared.assumption.Entry.{Entry}
@@ -14,7 +14,7 @@ use Rattle.peripherals.specs.Spelling.{Setup}
 use Rattle.peripherals.specs.Due.{Progress, begun, choice_on, next_on, pick}
 use Rattle.peripherals.specs.Hooks.{Answering}
 
--- devices connected to a firmware's machine, under assumptions
+-- peripherals connected to a firmware's machine, under assumptions
 pub record Board : Type 0 where
   pub setup : Setup
   pub flash : Image
@@ -42,7 +42,7 @@ Chooses x n p m (c ∷ cs) =
     (0 < n) × (answer : Option ℕ) × Asked x.answers p m answer × (c ≡ choice_on x.on.setup p answer)
     × GoesOn (step x.on.flash x.on.assumptions m c) (λ s. Chooses x (n - 1) (next_on x.on.setup p answer) s cs) (cs ≡ [])
 
--- ---- the run of the devices alone
+-- ---- the run of the peripherals alone
 
 abbrev pub picked : Setup → Progress → State → Option ℕ
 picked setup p m = pick setup (λ v. may_take m v false) p

@@ -1,4 +1,4 @@
--- Devices connected to the machine: interrupt sources, and their one text. Source: own.
+-- Peripherals connected to the machine: interrupt sources, and their one text. Source: own.
 use Rattle.std.specs.Prelude.{ℕ, ◌≤◌, ◌<◌, List, [], ◌∷◌, ◌++◌, map, length, codes, ⊤}
 use Rattle.std.specs.List.{AllByRecursion, flat_map}
 use Rattle.std.specs.Fmt.{decimal}
@@ -7,9 +7,9 @@ use Rattle.text_base.specs.Digits.{hex_digits}
 use Rattle.text_base.specs.Lines.{line}
 use Rattle.avr_model.specs.declared.device.Device.{Device}
 use Rattle.avr_model.specs.Vectors.{last_vector}
-use Rattle.peripherals.specs.declared.devices.SourceKind.{SourceKind}
-use Rattle.peripherals.specs.declared.devices.SourceKind.TheVariants.{Timer, Bytes}
-use Rattle.peripherals.specs.declared.devices.Source.{Source}
+use Rattle.peripherals.specs.declared.peripherals.SourceKind.{SourceKind}
+use Rattle.peripherals.specs.declared.peripherals.SourceKind.TheVariants.{Timer, Bytes}
+use Rattle.peripherals.specs.declared.peripherals.Source.{Source}
 
 -- the initial byte of registers and SRAM, and the interrupt sources
 pub record Setup : Type 0 where

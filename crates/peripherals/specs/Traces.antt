@@ -5,14 +5,14 @@ use Rattle.avr_model.specs.State.{State}
 use Rattle.avr_model.specs.Step.{Done, step}
 use Rattle.avr_model.specs.Run.{Machine, IsRun, HasBytes, moved_on, stop_of}
 use Rattle.stimulus.specs.Driving.{machine_after}
-use Rattle.peripherals.specs.declared.trace.DeviceTrace.{DeviceTrace}
+use Rattle.peripherals.specs.declared.trace.PeripheralTrace.{PeripheralTrace}
 use Rattle.peripherals.specs.Due.{Progress, begun, choice_on, next_on}
 use Rattle.peripherals.specs.Simulating.{Setting, Asked, Chooses}
 
 module _ (x : Setting) where
   -- The trace of a run of n choices: its choices, which are a run of the machine from its state, the depth at the end, and the stop, if
   -- there was one.
-  pub record IsTrace (n : ℕ) (m : Machine) (trace : DeviceTrace) (end : Machine) : Type 0 where
+  pub record IsTrace (n : ℕ) (m : Machine) (trace : PeripheralTrace) (end : Machine) : Type 0 where
     pub chooses : Chooses x n (begun x.on.setup) m.state trace.choices
     pub run : IsRun x.on.flash x.on.assumptions trace.choices m.state
     pub machine : end ≡ machine_after x.on.flash x.on.assumptions trace.choices m

@@ -4,7 +4,7 @@ ghost use Rattle.std.specs.Prelude.{◌≡◌, length};
 ghost use Rattle.peripherals.specs.Spelling.{Setup};
 ghost use Rattle.peripherals.specs.Hooks.{MayAnswer, IsHook};
 
-use crate::devices::Devices;
+use crate::peripherals::Peripherals;
 use avr_machine::Menu;
 use std::marker::Model;
 
@@ -17,11 +17,11 @@ pub struct Moment<'a> {
     pub taken: &'a [u32],
 }
 
-/// A closure that chooses a source of some devices. `new` requires, and each call again, that it may be called on every menu and moment
-/// with a count for each source, and returns a source whose interrupt is in the menu, or none. Contracts see the devices and the closure.
+/// A closure that chooses a source of some peripherals. `new` requires, and each call again, that it may be called on every menu and moment
+/// with a count for each source, and returns a source whose interrupt is in the menu, or none. Contracts see the peripherals and the closure.
 #[derive(Drop)]
 pub struct Hook<'a, F> {
-    devices: &'a Devices,
+    peripherals: &'a Peripherals,
     f: F,
 }
 
@@ -30,17 +30,17 @@ impl<'a, F> Model for Hook<'a, F> {
 
     ghost Value = { Setup × F };
 
-    ghost view = { λ h. (h.devices.now, h.f) };
+    ghost view = { λ h. (h.peripherals.now, h.f) };
 }
 
 impl<'a, F: Fn(&Moment<'_>, &Menu) -> Option<usize>> Hook<'a, F> {
     /// The hook of this closure.
-    pub fn new(devices: &'a Devices, f: F) -> Hook<'a, F>
-        requires { IsHook F.Fn devices.now f }
-        ensures is { result ≡ (devices.now, f) }
+    pub fn new(peripherals: &'a Peripherals, f: F) -> Hook<'a, F>
+        requires { IsHook F.Fn peripherals.now f }
+        ensures is { result ≡ (peripherals.now, f) }
         ensures hook { IsHook F.Fn result.0 result.1 }
     {
-        Hook { devices, f }
+        Hook { peripherals, f }
     }
 
     /// The closure's answer at this moment, to this menu.

@@ -1,4 +1,4 @@
-//! Laws of texts of devices and of simulated runs: contracts of functions with an empty body.
+//! Laws of texts of peripherals and of simulated runs: contracts of functions with an empty body.
 
 ghost use Rattle.peripherals.specs.Exact.{ReadSetupIsSpelled, SpelledSetupIsRead, RefusedSetupIsStuck, SetupsHaveOneText};
 ghost use Rattle.peripherals.specs.Laws.{SimulationsAreRuns, SimulationsAreBounded};

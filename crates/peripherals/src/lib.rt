@@ -1,9 +1,9 @@
 //! Device hooks: timers and receivers that choose what the machine does next, and the run that they choose. Tests: `machine_tables`.
 #![tactic(auto)]
 
-pub mod devices;
 pub mod hook;
 pub mod laws;
+pub mod peripherals;
 mod picking;
 mod progress;
 mod reading;
@@ -11,8 +11,8 @@ mod simulating;
 mod trace;
 mod walk;
 
-pub use devices::{Devices, DevicesFault, Source, SourceKind};
 pub use hook::{Hook, Moment};
+pub use peripherals::{Peripherals, PeripheralsFault, Source, SourceKind};
 pub use simulating::simulation;
-pub use trace::{Choices, DeviceTrace, Repeated};
-pub use walk::simulate;
+pub use trace::{Choices, PeripheralTrace, Repeated};
+pub use walk::{Wiring, simulate};

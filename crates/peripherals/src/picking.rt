@@ -6,8 +6,8 @@ ghost use Rattle.peripherals.specs.Hooks.{stands_in};
 ghost use Rattle.peripherals.specs.Due.{is_ready, first_ready};
 ghost use Rattle.peripherals.specs.Midway.{IsPicked, IsQuiet};
 
-use crate::devices::Devices;
 use crate::hook::Moment;
+use crate::peripherals::Peripherals;
 use avr_machine::{Choice, Menu};
 use avr_model::device::Device;
 use vector_table::Masks;
@@ -40,12 +40,18 @@ impl Quiet {
 }
 
 // Whether source `n` is of this kind (timer or receiver), is pending, and has its interrupt in the menu.
-fn is_ready(devices: &Devices, timers: bool, moment: &Moment<'_>, menu: &Menu, n: usize) -> bool
+fn is_ready(
+    peripherals: &Peripherals,
+    timers: bool,
+    moment: &Moment<'_>,
+    menu: &Menu,
+    n: usize,
+) -> bool
     requires { n < length moment.now.taken.now }
-    ensures { result ≡ is_ready devices.now (stands_in menu.now) timers moment.now.taken.now moment.now.step n }
+    ensures { result ≡ is_ready peripherals.now (stands_in menu.now) timers moment.now.taken.now moment.now.step n }
 {
     let taken = moment.taken[n];
-    match devices.source(n) {
+    match peripherals.source(n) {
         Some(source) => source.is_of(timers)
             && source.is_due(taken, moment.step)
             && menu.has(Choice::Take(source.vector, false)),
@@ -55,12 +61,17 @@ fn is_ready(devices: &Devices, timers: bool, moment: &Moment<'_>, menu: &Menu, n
 
 // The first source of this kind in the text's order that is pending and has its interrupt in the menu.
 #[tactic(auto, using(crate::proofs::Ready::first_here, crate::proofs::Ready::first_later, crate::proofs::Ready::first_none))]
-fn first_due(devices: &Devices, timers: bool, moment: &Moment<'_>, menu: &Menu) -> Option<usize>
-    requires { length moment.now.taken.now ≡ length devices.now.sources }
-    ensures { result ≡ first_ready devices.now (stands_in menu.now) timers moment.now.taken.now moment.now.step }
+fn first_due(
+    peripherals: &Peripherals,
+    timers: bool,
+    moment: &Moment<'_>,
+    menu: &Menu,
+) -> Option<usize>
+    requires { length moment.now.taken.now ≡ length peripherals.now.sources }
+    ensures { result ≡ first_ready peripherals.now (stands_in menu.now) timers moment.now.taken.now moment.now.step }
 {
-    for n in 0..devices.count() {
-        if is_ready(devices, timers, moment, menu, n) {
+    for n in 0..peripherals.count() {
+        if is_ready(peripherals, timers, moment, menu, n) {
             return Some(n);
         }
     }
@@ -68,61 +79,61 @@ fn first_due(devices: &Devices, timers: bool, moment: &Moment<'_>, menu: &Menu) 
 }
 
 // A step before which source `n` is not due, or its vector is not enabled by these bits.
-fn quiet_of(devices: &Devices, device: Device, masks: Masks, taken: &[u32], n: usize) -> u64
+fn quiet_of(peripherals: &Peripherals, device: Device, masks: Masks, taken: &[u32], n: usize) -> u64
     requires { n < length taken.now }
-    ensures { (timers : Bool) (step : ℕ) → step < result → is_ready devices.now (is_enabled device masks) timers taken.now step n ≡ false }
+    ensures { (timers : Bool) (step : ℕ) → step < result → is_ready peripherals.now (is_enabled device masks) timers taken.now step n ≡ false }
 {
     let taken = taken[n];
-    match devices.source(n) {
+    match peripherals.source(n) {
         Some(source) if masks.has(device, source.vector) => source.due_from(taken),
         _ => u64::MAX,
     }
 }
 
 // A step before which no source is due whose vector these bits enable.
-fn quiet_until(devices: &Devices, device: Device, masks: Masks, taken: &[u32]) -> u64
-    requires { length taken.now ≡ length devices.now.sources }
-    ensures { IsQuiet devices.now (is_enabled device masks) taken.now result }
+fn quiet_until(peripherals: &Peripherals, device: Device, masks: Masks, taken: &[u32]) -> u64
+    requires { length taken.now ≡ length peripherals.now.sources }
+    ensures { IsQuiet peripherals.now (is_enabled device masks) taken.now result }
 {
     let mut until = u64::MAX;
-    for n in 0..devices.count() {
-        until = until.min(quiet_of(devices, device, masks, taken, n));
+    for n in 0..peripherals.count() {
+        until = until.min(quiet_of(peripherals, device, masks, taken, n));
     }
     until
 }
 
 // The first timer that is pending and has its interrupt in the menu, otherwise the first such receiver.
-fn first_of_all(devices: &Devices, moment: &Moment<'_>, menu: &Menu) -> Option<usize>
-    requires { length moment.now.taken.now ≡ length devices.now.sources }
-    ensures { IsPicked devices.now moment.now.step moment.now.taken.now menu.now result }
+fn first_of_all(peripherals: &Peripherals, moment: &Moment<'_>, menu: &Menu) -> Option<usize>
+    requires { length moment.now.taken.now ≡ length peripherals.now.sources }
+    ensures { IsPicked peripherals.now moment.now.step moment.now.taken.now menu.now result }
 {
-    match first_due(devices, true, moment, menu) {
+    match first_due(peripherals, true, moment, menu) {
         Some(n) => Some(n),
-        None => first_due(devices, false, moment, menu),
+        None => first_due(peripherals, false, moment, menu),
     }
 }
 
 // The first timer that is pending and has its interrupt in the menu, otherwise the first such receiver. The sources are looked at one by one
 // only if the enable bits are not those of the last look, or if a source that they enable may be due.
 pub(crate) fn pick(
-    devices: &Devices,
+    peripherals: &Peripherals,
     quiet: &mut Quiet,
     moment: &Moment<'_>,
     menu: &Menu,
 ) -> Option<usize>
-    requires counts { length moment.now.taken.now ≡ length devices.now.sources }
-    requires quiet { IsQuiet devices.now (is_enabled menu.now.device quiet.old.masks) moment.now.taken.now quiet.old.until }
-    ensures picked { IsPicked devices.now moment.now.step moment.now.taken.now menu.now result }
-    ensures quiet { IsQuiet devices.now (is_enabled menu.now.device quiet.new.masks) moment.now.taken.now quiet.new.until }
+    requires counts { length moment.now.taken.now ≡ length peripherals.now.sources }
+    requires quiet { IsQuiet peripherals.now (is_enabled menu.now.device quiet.old.masks) moment.now.taken.now quiet.old.until }
+    ensures picked { IsPicked peripherals.now moment.now.step moment.now.taken.now menu.now result }
+    ensures quiet { IsQuiet peripherals.now (is_enabled menu.now.device quiet.new.masks) moment.now.taken.now quiet.new.until }
     ensures taken { IfSome result (λ n. quiet.new.until ≡ 0) }
 {
     if quiet.holds(moment.step, menu) {
         return None;
     }
-    let Some(n) = first_of_all(devices, moment, menu) else {
+    let Some(n) = first_of_all(peripherals, moment, menu) else {
         *quiet = Quiet {
             masks: menu.masks,
-            until: quiet_until(devices, menu.device, menu.masks, moment.taken),
+            until: quiet_until(peripherals, menu.device, menu.masks, moment.taken),
         };
         return None;
     };

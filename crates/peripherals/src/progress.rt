@@ -6,8 +6,8 @@ ghost use Rattle.peripherals.specs.Spelling.{most_steps};
 ghost use Rattle.peripherals.specs.Due.{begun, choice_on, next_on};
 ghost use Rattle.peripherals.specs.Hooks.{IsHook, ByHooks};
 
-use crate::devices::Devices;
 use crate::hook::{Hook, Moment};
+use crate::peripherals::Peripherals;
 use avr_machine::{Choice, Menu};
 use std::alloc::{AllocError, Global};
 use std::marker::Model;
@@ -30,12 +30,12 @@ impl Model for Progress {
 
 impl Progress {
     // Before any step.
-    pub(crate) fn begin(alloc: Global, devices: &Devices) -> Result<Progress, AllocError>
-        ensures { IfOk result (λ p. p ≡ begun devices.now) }
+    pub(crate) fn begin(alloc: Global, peripherals: &Peripherals) -> Result<Progress, AllocError>
+        ensures { IfOk result (λ p. p ≡ begun peripherals.now) }
     {
         Ok(Progress {
             step: 0,
-            taken: vec![in alloc; 0u32; devices.count()]?,
+            taken: vec![in alloc; 0u32; peripherals.count()]?,
             input: 0,
         })
     }
@@ -70,11 +70,11 @@ impl Progress {
     }
 
     // The choice for an answer.
-    pub(crate) fn choice(&self, devices: &Devices, answer: Option<usize>) -> Choice
-        ensures { result ≡ choice_on devices.now self.now answer }
+    pub(crate) fn choice(&self, peripherals: &Peripherals, answer: Option<usize>) -> Choice
+        ensures { result ≡ choice_on peripherals.now self.now answer }
     {
         let source = match answer {
-            Some(n) => devices.source(n),
+            Some(n) => peripherals.source(n),
             None => None,
         };
         match source {
@@ -84,18 +84,18 @@ impl Progress {
     }
 
     // The progress one step later, after this answer.
-    pub(crate) fn pass(&mut self, devices: &Devices, answer: Option<usize>)
+    pub(crate) fn pass(&mut self, peripherals: &Peripherals, answer: Option<usize>)
         requires room { self.old.step < most_steps }
         requires few { All (λ k. k ≤ self.old.step) self.old.taken }
-        requires counts { length self.old.taken ≡ length devices.now.sources }
-        ensures next { self.new ≡ next_on devices.now self.old answer }
+        requires counts { length self.old.taken ≡ length peripherals.now.sources }
+        ensures next { self.new ≡ next_on peripherals.now self.old answer }
         ensures few { All (λ k. k ≤ self.new.step) self.new.taken }
     {
         self.step += 1;
         let Some(n) = answer else {
             return;
         };
-        if let Some(source) = devices.source(n) {
+        if let Some(source) = peripherals.source(n) {
             let taken = self.taken[n];
             self.input = source.input_after(taken, self.input);
             self.taken[n] = taken + 1;

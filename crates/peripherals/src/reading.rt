@@ -1,13 +1,13 @@
-//! The parser of texts of devices.
+//! The parser of texts of peripherals.
 
 ghost use Rattle.std.specs.Prelude.{◌≡◌, ◌≤◌, ◌<◌, [], length, IfOk, IfSome};
 ghost use Rattle.std.specs.Option.{option_map};
 ghost use Rattle.text_base.specs.Answers.{Answers};
 ghost use Rattle.text_base.specs.Lines.{words_of};
-ghost use Rattle.peripherals.specs.declared.devices.DevicesFault.TheVariants as fault;
+ghost use Rattle.peripherals.specs.declared.peripherals.PeripheralsFault.TheVariants as fault;
 ghost use Rattle.peripherals.specs.Reading.{times_at, bytes_in, timer_in, receiver_by, receiver_in, source_in, part_by, part_read, sources_read, malformed, setup_at, setup_in};
 
-use crate::devices::{Devices, DevicesFault, Source, SourceKind};
+use crate::peripherals::{Peripherals, PeripheralsFault, Source, SourceKind};
 use avr_model::device::Device;
 use avr_model::listed::Listed;
 use line_reading::{dec_word, is_over, peek_text, take_line, take_text};
@@ -167,20 +167,20 @@ fn read_part(
     device: Device,
     reader: &mut LineReader<'_>,
     left: u32,
-) -> Result<Option<Source>, DevicesFault>
+) -> Result<Option<Source>, PeripheralsFault>
     ensures exact { Answers (λ o. (o, reader.new)) fault.Memory result (part_read device left reader.old) }
     ensures room { IfOk result (λ o. IfSome o (λ s. 1 ≤ left)) }
     ensures shorter { IfOk result (λ _. length reader.new.rest < length reader.old.rest) }
 {
     let Some(text) = peek_text(reader) else {
-        return Err(DevicesFault::Malformed(reader.offset()));
+        return Err(PeripheralsFault::Malformed(reader.offset()));
     };
     match part_of(alloc, device, text, left) {
         Ok(found) => match take_line(reader, found) {
             Ok(part) => Ok(part),
-            Err(fault) => Err(DevicesFault::Malformed(fault.0)),
+            Err(fault) => Err(PeripheralsFault::Malformed(fault.0)),
         },
-        Err(_) => Err(DevicesFault::Memory),
+        Err(_) => Err(PeripheralsFault::Memory),
     }
 }
 
@@ -191,14 +191,14 @@ fn read_sources(
     device: Device,
     reader: &mut LineReader<'_>,
     sources: &mut Vec<Source>,
-) -> Result<(), DevicesFault>
+) -> Result<(), PeripheralsFault>
     requires { sources.old.items ≡ [] }
     ensures { Answers (λ _. (sources.new.items, reader.new)) fault.Memory result (sources_read device reader.old) }
 {
     let mut left = MOST_SOURCES;
     while let Some(source) = read_part(alloc, device, reader, left)? {
         if sources.push(source).is_err() {
-            return Err(DevicesFault::Memory);
+            return Err(PeripheralsFault::Memory);
         }
         left -= 1;
     }
@@ -211,7 +211,7 @@ fn read_lines(
     alloc: Global,
     device: Device,
     reader: &mut LineReader<'_>,
-) -> Result<Devices, DevicesFault>
+) -> Result<Peripherals, PeripheralsFault>
     ensures { Answers (λ d. d) fault.Memory result (malformed (setup_at device reader.old)) }
 {
     take_text(reader, b"devices 1")?;
@@ -220,11 +220,11 @@ fn read_lines(
     let told = match read_sources(alloc, device, reader, &mut sources) {
         Ok(()) => match reader.peek() {
             None => Ok(()),
-            Some(line) => Err(DevicesFault::Malformed(line.at)),
+            Some(line) => Err(PeripheralsFault::Malformed(line.at)),
         },
         Err(fault) => Err(fault),
     };
-    told.and(Ok(Devices::new(fill, sources)))
+    told.and(Ok(Peripherals::new(fill, sources)))
 }
 
 // Reads a whole text.
@@ -233,7 +233,7 @@ pub(crate) fn read_setup(
     alloc: Global,
     device: Device,
     text: &[u8],
-) -> Result<Devices, DevicesFault>
+) -> Result<Peripherals, PeripheralsFault>
     ensures { Answers (λ d. d) fault.Memory result (setup_in device text.now) }
 {
     let mut reader = LineReader::new(text);

@@ -1,4 +1,4 @@
-//! Simulation by devices alone.
+//! Simulation by peripherals alone.
 
 ghost use Rattle.std.specs.Prelude.{◌≡◌, ◌≤◌, ◌<◌, ℕ, IfOk};
 ghost use Rattle.avr_model.specs.Vectors.{is_enabled};
@@ -7,7 +7,7 @@ ghost use Rattle.peripherals.specs.Spelling.{most_steps};
 ghost use Rattle.peripherals.specs.Simulating.{setting, report_of, simulation_of};
 ghost use Rattle.peripherals.specs.Midway.{IsProgressKnown, IsChosen, IsPicked, IsQuiet};
 
-use crate::devices::Devices;
+use crate::peripherals::Peripherals;
 use crate::picking::{Quiet, pick};
 use crate::progress::Progress;
 use crate::walk::stop_at;
@@ -19,49 +19,49 @@ use stimulus::laws::depth_is_kept;
 use vector_table::Assumptions;
 use witness_replay::ReplayReport;
 
-// The choice by the devices alone.
+// The choice by the peripherals alone.
 fn choose(
-    devices: &Devices,
+    peripherals: &Peripherals,
     machine: &Machine,
     progress: &mut Progress,
     quiet: &mut Quiet,
 ) -> Choice
-    requires known { IsProgressKnown devices.now progress.old }
+    requires known { IsProgressKnown peripherals.now progress.old }
     requires room { progress.old.step < most_steps }
-    requires quiet { IsQuiet devices.now (is_enabled machine.now.state.device quiet.old.masks) progress.old.taken quiet.old.until }
-    ensures known { IsProgressKnown devices.now progress.new }
-    ensures quiet { IsQuiet devices.now (is_enabled machine.now.state.device quiet.new.masks) progress.new.taken quiet.new.until }
+    requires quiet { IsQuiet peripherals.now (is_enabled machine.now.state.device quiet.old.masks) progress.old.taken quiet.old.until }
+    ensures known { IsProgressKnown peripherals.now progress.new }
+    ensures quiet { IsQuiet peripherals.now (is_enabled machine.now.state.device quiet.new.masks) progress.new.taken quiet.new.until }
     ensures bytes { HasBytes result }
-    ensures chosen { (flash : _) (A : _) → IsChosen (setting (IsPicked devices.now) devices.now flash A) progress.old machine.now.state result progress.new }
+    ensures chosen { (flash : _) (A : _) → IsChosen (setting (IsPicked peripherals.now) peripherals.now flash A) progress.old machine.now.state result progress.new }
 {
-    let answer = pick(devices, quiet, &progress.moment(), &machine.menu());
-    let choice = progress.choice(devices, answer);
-    progress.pass(devices, answer);
+    let answer = pick(peripherals, quiet, &progress.moment(), &machine.menu());
+    let choice = progress.choice(peripherals, answer);
+    progress.pass(peripherals, answer);
     choice
 }
 
-/// Runs the machine of the flash's device from reset, with the devices' fill byte in registers and SRAM. At each step it enters the
+/// Runs the machine of the flash's device from reset, with the peripherals' fill byte in registers and SRAM. At each step it enters the
 /// interrupt of the first pending timer that may be taken, otherwise of the first such receiver, otherwise it executes an instruction. The
 /// run ends at its first stop, or after exactly `steps` choices, at most 16,777,216. It allocates nothing for its choices. A bound of all
 /// runs bounds it.
 pub fn simulation(
     alloc: Global,
-    devices: &Devices,
+    peripherals: &Peripherals,
     flash: &Flash,
     assumptions: &Assumptions,
     steps: u32,
 ) -> Result<ReplayReport, AllocError>
     requires few { steps ≤ most_steps }
-    ensures told { IfOk result (λ r. report_of r ≡ simulation_of flash.now assumptions.now devices.now steps) }
+    ensures told { IfOk result (λ r. report_of r ≡ simulation_of flash.now assumptions.now peripherals.now steps) }
     ensures bounded { (bound : ℕ) → Bounded flash.now assumptions.now bound → IfOk result (λ r. r.depth ≤ bound) }
 {
     depth_is_kept();
     devices_are_alike();
-    let mut machine = Machine::start(flash.device(), devices.fill());
-    let mut progress = Progress::begin(alloc, devices)?;
+    let mut machine = Machine::start(flash.device(), peripherals.fill());
+    let mut progress = Progress::begin(alloc, peripherals)?;
     let mut quiet = Quiet::unknown();
     for step in 0..steps {
-        let choice = choose(devices, &machine, &mut progress, &mut quiet);
+        let choice = choose(peripherals, &machine, &mut progress, &mut quiet);
         let answer = machine.step(flash, assumptions, choice);
         if let Some(stop) = stop_at(answer) {
             return Ok(ReplayReport {

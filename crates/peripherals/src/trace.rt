@@ -35,7 +35,7 @@ impl Model for Choices {
 
 /// The choices of a run, the machine's depth at its end, and how it ends.
 #[derive(Drop)]
-pub struct DeviceTrace {
+pub struct PeripheralTrace {
     /// The choices in order. A choice that met a stop is the last.
     pub choices: Choices,
     /// The machine's greatest depth so far, in bytes.

@@ -2,7 +2,6 @@
 
 ghost use Rattle.std.specs.Prelude.{◌≡◌, ◌≢◌, ◌≤◌, ◌<◌, IfOk, OnErr};
 ghost use Rattle.avr_model.specs.declared.choice.StepResult.TheVariants as answer;
-ghost use Rattle.avr_model.specs.Devices.{device_of};
 ghost use Rattle.avr_model.specs.Step.{step, result_of};
 ghost use Rattle.avr_model.specs.Run.{HasBytes};
 ghost use Rattle.stimulus.specs.Driving.{stop_at};
@@ -12,24 +11,29 @@ ghost use Rattle.peripherals.specs.Simulating.{setting};
 ghost use Rattle.peripherals.specs.Traces.{IsTrace, Halts};
 ghost use Rattle.peripherals.specs.Midway.{setting_of, IsProgressKnown, IsChosen};
 
-use crate::devices::Devices;
 use crate::hook::{Hook, Moment};
+use crate::peripherals::Peripherals;
 use crate::progress::Progress;
-use crate::trace::{Choices, DeviceTrace};
+use crate::trace::{Choices, PeripheralTrace};
 use avr_machine::{Choice, Machine, Menu, Stop};
 use avr_model::choice::StepResult;
 use flash_image::Flash;
 use std::alloc::{AllocError, Global};
 use vector_table::Assumptions;
 
-// What determines the choices of a run: devices with two hooks of theirs, a firmware and its assumptions.
+/// What determines the choices of a run: peripherals with two hooks of theirs, a firmware and its assumptions.
 #[derive(Drop)]
-struct Wiring<'a, F, G> {
-    devices: &'a Devices,
-    timers: &'a Hook<'a, F>,
-    receivers: &'a Hook<'a, G>,
-    flash: &'a Flash,
-    assumptions: &'a Assumptions,
+pub struct Wiring<'a, F, G> {
+    /// The peripherals.
+    pub peripherals: &'a Peripherals,
+    /// The hook that is asked first.
+    pub timers: &'a Hook<'a, F>,
+    /// The hook that is asked if the first one chooses no source.
+    pub receivers: &'a Hook<'a, G>,
+    /// The flash.
+    pub flash: &'a Flash,
+    /// The assumptions.
+    pub assumptions: &'a Assumptions,
 }
 
 // How the answer to a step ends a run, if it does.
@@ -52,88 +56,58 @@ fn choose<F: Fn(&Moment<'_>, &Menu) -> Option<usize>, G: Fn(&Moment<'_>, &Menu) 
 ) -> Choice
     requires first { IsHook F.Fn wiring.now.timers.now.0 wiring.now.timers.now.1 }
     requires second { IsHook G.Fn wiring.now.receivers.now.0 wiring.now.receivers.now.1 }
-    requires first_devices { wiring.now.timers.now.0 ≡ wiring.now.devices.now }
-    requires second_devices { wiring.now.receivers.now.0 ≡ wiring.now.devices.now }
-    requires known { IsProgressKnown wiring.now.devices.now progress.old }
+    requires first_peripherals { wiring.now.timers.now.0 ≡ wiring.now.peripherals.now }
+    requires second_peripherals { wiring.now.receivers.now.0 ≡ wiring.now.peripherals.now }
+    requires known { IsProgressKnown wiring.now.peripherals.now progress.old }
     requires room { progress.old.step < most_steps }
-    ensures known { IsProgressKnown wiring.now.devices.now progress.new }
+    ensures known { IsProgressKnown wiring.now.peripherals.now progress.new }
     ensures bytes { HasBytes result }
     ensures chosen { IsChosen (setting_of F.Fn G.Fn wiring.now) progress.old machine.now.state result progress.new }
     ensures legal { (image : _) (A : _) → result_of (step image A machine.now.state result) ≢ answer.Illegal }
 {
     let answer = progress.answer(wiring.timers, wiring.receivers, &machine.menu());
-    let choice = progress.choice(wiring.devices, answer);
-    progress.pass(wiring.devices, answer);
+    let choice = progress.choice(wiring.peripherals, answer);
+    progress.pass(wiring.peripherals, answer);
     choice
 }
 
-// Steps the machine by the hooks' choices up to the first stop, or this many times.
-fn walk<F: Fn(&Moment<'_>, &Menu) -> Option<usize>, G: Fn(&Moment<'_>, &Menu) -> Option<usize>>(
+/// Steps the machine by the hooks' answers. At each moment it enters the interrupt of the first hook's source, otherwise of the second
+/// one's; otherwise it executes an instruction with the peripherals' byte as input. The run ends at its first stop, or after exactly
+/// `steps` choices, at most 16,777,216. If memory runs out, the machine is where some first choices left it.
+pub fn simulate<
+    F: Fn(&Moment<'_>, &Menu) -> Option<usize>,
+    G: Fn(&Moment<'_>, &Menu) -> Option<usize>,
+>(
     alloc: Global,
     wiring: &Wiring<'_, F, G>,
     machine: &mut Machine,
     steps: u32,
-) -> Result<DeviceTrace, AllocError>
+) -> Result<PeripheralTrace, AllocError>
     requires first { IsHook F.Fn wiring.now.timers.now.0 wiring.now.timers.now.1 }
     requires second { IsHook G.Fn wiring.now.receivers.now.0 wiring.now.receivers.now.1 }
-    requires first_devices { wiring.now.timers.now.0 ≡ wiring.now.devices.now }
-    requires second_devices { wiring.now.receivers.now.0 ≡ wiring.now.devices.now }
+    requires first_peripherals { wiring.now.timers.now.0 ≡ wiring.now.peripherals.now }
+    requires second_peripherals { wiring.now.receivers.now.0 ≡ wiring.now.peripherals.now }
     requires few { steps ≤ most_steps }
-    ensures ok { IfOk result (λ t. IsTrace (setting_of F.Fn G.Fn wiring.now) steps machine.old t machine.new) }
-    ensures err { OnErr result (Halts (setting_of F.Fn G.Fn wiring.now) steps machine.old machine.new) }
+    ensures ok { IfOk result (λ t. IsTrace (setting (ByHooks F.Fn G.Fn wiring.now.timers.now wiring.now.receivers.now) wiring.now.peripherals.now wiring.now.flash.now wiring.now.assumptions.now) steps machine.old t machine.new) }
+    ensures err { OnErr result (Halts (setting (ByHooks F.Fn G.Fn wiring.now.timers.now wiring.now.receivers.now) wiring.now.peripherals.now wiring.now.flash.now wiring.now.assumptions.now) steps machine.old machine.new) }
 {
-    let mut progress = Progress::begin(alloc, wiring.devices)?;
+    let mut progress = Progress::begin(alloc, wiring.peripherals)?;
     let mut choices = Choices::empty(alloc);
     for step in 0..steps {
         let choice = choose(wiring, machine, &mut progress);
         choices.push(choice)?;
         let answer = machine.step(wiring.flash, wiring.assumptions, choice);
         if let Some(stop) = stop_at(answer) {
-            return Ok(DeviceTrace {
+            return Ok(PeripheralTrace {
                 choices,
                 depth: machine.depth(),
                 stop,
             });
         }
     }
-    Ok(DeviceTrace {
+    Ok(PeripheralTrace {
         choices,
         depth: machine.depth(),
         stop: Stop::End,
     })
-}
-
-/// Steps the machine by the hooks' answers. At each moment it enters the interrupt of the first hook's source, otherwise of the second
-/// one's; otherwise it executes an instruction with the devices' byte as input. The run ends at its first stop, or after exactly `steps`
-/// choices, at most 16,777,216. If memory runs out, the machine is where some first choices left it.
-pub fn simulate<
-    F: Fn(&Moment<'_>, &Menu) -> Option<usize>,
-    G: Fn(&Moment<'_>, &Menu) -> Option<usize>,
->(
-    alloc: Global,
-    devices: &Devices,
-    timers: &Hook<'_, F>,
-    receivers: &Hook<'_, G>,
-    machine: &mut Machine,
-    flash: &Flash,
-    assumptions: &Assumptions,
-    steps: u32,
-) -> Result<DeviceTrace, AllocError>
-    requires first { IsHook F.Fn timers.now.0 timers.now.1 }
-    requires second { IsHook G.Fn receivers.now.0 receivers.now.1 }
-    requires first_devices { timers.now.0 ≡ devices.now }
-    requires second_devices { receivers.now.0 ≡ devices.now }
-    requires device { machine.old.state.device ≡ device_of flash.now }
-    requires few { steps ≤ most_steps }
-    ensures ok { IfOk result (λ t. IsTrace (setting (ByHooks F.Fn G.Fn timers.now receivers.now) devices.now flash.now assumptions.now) steps machine.old t machine.new) }
-    ensures err { OnErr result (Halts (setting (ByHooks F.Fn G.Fn timers.now receivers.now) devices.now flash.now assumptions.now) steps machine.old machine.new) }
-{
-    let wiring = Wiring {
-        devices,
-        timers,
-        receivers,
-        flash,
-        assumptions,
-    };
-    walk(alloc, &wiring, machine, steps)
 }

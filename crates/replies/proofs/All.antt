@@ -25,10 +25,10 @@ use Rattle.round_solutions.specs.Answers.{AnswersAreOne}
 use Rattle.witness_search.specs.Laws.{WaypointsAreOne}
 use Rattle.demo_image.specs.Image.{demo_program}
 use Rattle.certificate.specs.Valid.{IsSound, IsValid}
-use Rattle.peripherals.specs.declared.devices.DevicesFault.{DevicesFault}
+use Rattle.peripherals.specs.declared.peripherals.PeripheralsFault.{PeripheralsFault}
 use Rattle.peripherals.specs.Spelling.{Setup}
 use Rattle.peripherals.specs.Reading.{setup_in}
-use Rattle.peripherals.specs.Exact.{IsSetupReading as IsDevices, ReadSetupIsSpelled as DevicesAreSpelled, SpelledSetupIsRead as DevicesAreRead}
+use Rattle.peripherals.specs.Exact.{IsSetupReading as ArePeripherals, ReadSetupIsSpelled as PeripheralsAreSpelled, SpelledSetupIsRead as PeripheralsAreRead}
 use Rattle.peripherals.specs.Simulating.{simulation_of}
 use Rattle.peripherals.specs.Laws.{SimulationsAreBounded}
 use Rattle.chain_explain.specs.Laws.{ExplanationsTell}
@@ -46,17 +46,17 @@ use Rattle.commands.specs.Commands.{Work, Check, Analyse, Run, Report, Explain, 
 use Rattle.replies.specs.declared.status.Status.{Status}
 use Rattle.replies.specs.declared.status.Status.TheVariants as exit
 use Rattle.replies.specs.Firmware.{IsFirmware, firmware_image, firmware_names}
-use Rattle.replies.specs.Texts.{devices_refused, accepted, run_text}
+use Rattle.replies.specs.Texts.{peripherals_refused, accepted, run_text}
 use Rattle.replies.specs.Reading.{Whole, Contents, certificate_cap}
 use Rattle.replies.specs.Reply.{Reply, WithOptional, WithImage, WithList, ClearSays, ClearReply, PlacesReply, AcceptedReply, AnalyseReply, SimulateReply, DemoReply, IsReply}
-use Rattle.replies.specs.Headline.{AreLoaded, IsListOf, StandFor, Shows, HoldsAsRead, IsLeastAsRead, IsAttainedAsRead, IsSimulatedAsRead, IsMeasured, WorkHeadline, SaysWhether, AcceptsExactly, AnswersRounds, AnswersDevices, IsWorkExact, AcceptingRepliesHold, RepliesAreExact}
+use Rattle.replies.specs.Headline.{AreLoaded, IsListOf, StandFor, Shows, HoldsAsRead, IsLeastAsRead, IsAttainedAsRead, IsSimulatedAsRead, IsMeasured, WorkHeadline, SaysWhether, AcceptsExactly, AnswersRounds, AnswersPeripherals, IsWorkExact, AcceptingRepliesHold, RepliesAreExact}
 use Rattle.replies.proofs.Accepting.{zero_file, zero_optional, zero_image, zero_list, zero_refused, not_rejected, IsJudged, file_read, optional_read, Accepting, IsReplyJudged, HoldsOf, judgement_holds, image_read, list_read, judged_by, valid_judged}
 use Rattle.replies.proofs.Attaining.{written_attained}
 use Rattle.replies.proofs.Least.{AnalysesFit, analysis_best, best_bounds, Ends, analyse_ends, says_ends, not_written}
 use Rattle.local_rules.specs.Site.{Task, task_with, bare}
 
-not_devices : ◌≡◌ {A = Status} exit.Done exit.BadDevices → ⊥
-not_devices e = cc
+not_peripherals : ◌≡◌ {A = Status} exit.Done exit.BadPeripherals → ⊥
+not_peripherals e = cc
 
 not_unclear : ◌≡◌ {A = Status} exit.Done exit.Unclear → ⊥
 not_unclear e = cc
@@ -64,10 +64,10 @@ not_unclear e = cc
 rejected_apart_from_unclear : ◌≡◌ {A = Status} exit.Rejected exit.Unclear → ⊥
 rejected_apart_from_unclear e = cc
 
--- reading and spelling of devices are inverse
-pub record DevicesAreExact : Type 0 where
-  pub read : DevicesAreSpelled
-  pub spelled : DevicesAreRead
+-- reading and spelling of peripherals are inverse
+pub record PeripheralsAreExact : Type 0 where
+  pub read : PeripheralsAreSpelled
+  pub spelled : PeripheralsAreRead
 
 -- the clear certificates, and the flags of runs under others
 pub record ClearIsTold : Type 0 where
@@ -112,7 +112,7 @@ module _
     (solutions : SolutionsAreValid)
     (runs : ReplaysAreRuns)
     (fit : AnalysesFit)
-    (devices : DevicesAreExact)
+    (peripherals : PeripheralsAreExact)
     (simulations : SimulationsAreBounded)
     (explanations : ExplanationsTell)
     (told_clear : ClearIsTold)
@@ -354,13 +354,13 @@ module _
 
   -- ---- simulate
 
-  abbrev AfterDevices : Device → ℕ → List ℕ → List ℕ → Option (List ℕ) → Reply
-  AfterDevices device steps firmware devices list = WithImage device firmware (λ words. WithList device list (λ A. SimulateReply (task_with words A) steps (setup_in (device_of words) devices)))
+  abbrev AfterPeripherals : Device → ℕ → List ℕ → List ℕ → Option (List ℕ) → Reply
+  AfterPeripherals device steps firmware peripherals list = WithImage device firmware (λ words. WithList device list (λ A. SimulateReply (task_with words A) steps (setup_in (device_of words) peripherals)))
 
   -- status 0 comes with a setup, and a setup gives status 0
-  zero_setup : (task : Task) (steps : ℕ) (x : Result Setup DevicesFault) (text : List ℕ) → SimulateReply task steps x exit.Done text
+  zero_setup : (task : Task) (steps : ℕ) (x : Result Setup PeripheralsFault) (text : List ℕ) → SimulateReply task steps x exit.Done text
       → (setup : Setup) × (x ≡ Ok setup) × (text ≡ run_text (device_of task.flash) (simulation_of task.flash task.assumptions setup steps))
-  zero_setup task steps (Err fault) text h = absurd (zero_refused exit.BadDevices not_devices (devices_refused fault) text h)
+  zero_setup task steps (Err fault) text h = absurd (zero_refused exit.BadPeripherals not_peripherals (peripherals_refused fault) text h)
   zero_setup task steps (Ok setup) text h = (setup, refl, h.1)
 
   zero_simulation : (device : Device) (fw dev : List ℕ) (assume : Option (List ℕ)) (steps : ℕ) (seen : Contents) (text : List ℕ) → ((firmware : List ℕ) → seen.firmware ≡ Whole firmware → AreWords (firmware_image device firmware))
@@ -368,15 +368,15 @@ module _
   zero_simulation device fw dev assume steps seen text has h =
       let first = zero_file fw seen.firmware _ text h in
       let second = zero_file dev seen.second _ text first.2 in
-      let third = zero_optional assume seen.assumptions (AfterDevices device steps first.0 second.0) text second.2 in
+      let third = zero_optional assume seen.assumptions (AfterPeripherals device steps first.0 second.0) text second.2 in
       let image : Image = firmware_image device first.0 in
       let loaded = zero_image raw images narrowing device first.0 (λ ws. WithList device third.0 (λ B. SimulateReply (task_with ws B) steps (setup_in (device_of ws) second.0))) text third.2 in
       let list = zero_list lists device third.0 (λ B. SimulateReply (task_with image B) steps (setup_in (device_of image) second.0)) text loaded.1 in
       let setup = zero_setup (task_with image list.0) steps (setup_in (device_of image) second.0) text list.2 in
-      let reads = devices.read device second.0 setup.0 setup.1 in
+      let reads = peripherals.read device second.0 setup.0 setup.1 in
       record {
         firmware = first.0;
-        devices = second.0;
+        peripherals = second.0;
         list = third.0;
         read = record { loaded = record { firmware_read = first.1; list_read = third.1 }; second_read = second.1 };
         simulated = record {
@@ -389,21 +389,21 @@ module _
         };
       }
 
-  simulated_by : (task : Task) (steps : ℕ) (text bytes : List ℕ) (status : Status) → SimulateReply task steps (setup_in (device_of task.flash) bytes) status text → (status ≡ exit.Done) ↔ ((setup : Setup) × IsDevices (device_of task.flash) bytes setup)
+  simulated_by : (task : Task) (steps : ℕ) (text bytes : List ℕ) (status : Status) → SimulateReply task steps (setup_in (device_of task.flash) bytes) status text → (status ≡ exit.Done) ↔ ((setup : Setup) × ArePeripherals (device_of task.flash) bytes setup)
   simulated_by task steps text bytes status h = (
-    λ zero. let s = zero_setup task steps (setup_in (device_of task.flash) bytes) text (subst (λ x. SimulateReply task steps (setup_in (device_of task.flash) bytes) x text) zero h) in (s.0, devices.read (device_of task.flash) bytes s.0 s.1),
-    λ s. (subst (λ x. SimulateReply task steps x status text) (devices.spelled (device_of task.flash) bytes s.0 s.1) h).0,
+    λ zero. let s = zero_setup task steps (setup_in (device_of task.flash) bytes) text (subst (λ x. SimulateReply task steps (setup_in (device_of task.flash) bytes) x text) zero h) in (s.0, peripherals.read (device_of task.flash) bytes s.0 s.1),
+    λ s. (subst (λ x. SimulateReply task steps x status text) (peripherals.spelled (device_of task.flash) bytes s.0 s.1) h).0,
   )
 
-  simulation_read : (device : Device) (fw dev : List ℕ) (assume : Option (List ℕ)) (steps : ℕ) (seen : Contents) (status : Status) (text : List ℕ) → IsReply (request device fw assume (Simulate dev steps)) seen status text → AnswersDevices device assume seen status
-  simulation_read device fw dev assume steps seen status text h firmware devices list task are mean =
+  simulation_read : (device : Device) (fw dev : List ℕ) (assume : Option (List ℕ)) (steps : ℕ) (seen : Contents) (status : Status) (text : List ℕ) → IsReply (request device fw assume (Simulate dev steps)) seen status text → AnswersPeripherals device assume seen status
+  simulation_read device fw dev assume steps seen status text h firmware peripherals list task are mean =
       let first = file_read fw seen.firmware firmware _ status text are.loaded.firmware_read h in
-      let second = file_read dev seen.second devices _ status text are.second_read first in
-      let third = optional_read assume seen.assumptions list (AfterDevices device steps firmware devices) status text are.loaded.list_read second in
-      let image = image_read raw images narrowing lists read spelled bounds device no_reply firmware task.flash (λ ws. WithList device list (λ B. SimulateReply (task_with ws B) steps (setup_in (device_of ws) devices))) status text mean.image third in
-      subst (λ (d : Device). (status ≡ exit.Done) ↔ ((setup : Setup) × IsDevices d devices setup)) mean.image.narrowed.is
-      (simulated_by task steps text devices status
-      (list_read raw images narrowing lists read spelled bounds device no_reply list task.assumptions (λ B. SimulateReply (task_with task.flash B) steps (setup_in (device_of task.flash) devices)) status text mean.assumptions image))
+      let second = file_read dev seen.second peripherals _ status text are.second_read first in
+      let third = optional_read assume seen.assumptions list (AfterPeripherals device steps firmware peripherals) status text are.loaded.list_read second in
+      let image = image_read raw images narrowing lists read spelled bounds device no_reply firmware task.flash (λ ws. WithList device list (λ B. SimulateReply (task_with ws B) steps (setup_in (device_of ws) peripherals))) status text mean.image third in
+      subst (λ (d : Device). (status ≡ exit.Done) ↔ ((setup : Setup) × ArePeripherals d peripherals setup)) mean.image.narrowed.is
+      (simulated_by task steps text peripherals status
+      (list_read raw images narrowing lists read spelled bounds device no_reply list task.assumptions (λ B. SimulateReply (task_with task.flash B) steps (setup_in (device_of task.flash) peripherals)) status text mean.assumptions image))
 
   -- ---- demo
 

@@ -7,7 +7,7 @@ use Rattle.replies.specs.Status.{code, CodesAreApart}
 abbrev statuses : List Status
 statuses =
     exit.Done ∷ exit.Rejected ∷ exit.Usage ∷ exit.ReadFault ∷ exit.WriteFault ∷ exit.TooLong ∷ exit.BadFirmware ∷ exit.BadAssumptions ∷ exit.BadCertificate
-    ∷ exit.BadSchedule ∷ exit.NoCertificate ∷ exit.Spent ∷ exit.OutOfMemory ∷ exit.Unclear ∷ exit.BadDevices ∷ []
+    ∷ exit.BadSchedule ∷ exit.NoCertificate ∷ exit.Spent ∷ exit.OutOfMemory ∷ exit.Unclear ∷ exit.BadPeripherals ∷ []
 
 there : (s : Status) → slice_get statuses (code s) ≡ Some s
 there exit.Done = refl
@@ -24,7 +24,7 @@ there exit.NoCertificate = refl
 there exit.Spent = refl
 there exit.OutOfMemory = refl
 there exit.Unclear = refl
-there exit.BadDevices = refl
+there exit.BadPeripherals = refl
 
 pub codes_apart : CodesAreApart
 codes_apart s t e = let both : ◌≡◌ {A = Option Status} (Some s) (Some t) = sym (there s) ∙ ap (slice_get statuses) e ∙ there t in cc

@@ -25,7 +25,7 @@ use Rattle.clear_laws.specs.declared.verdict.ClearVerdict.{ClearVerdict}
 use Rattle.clear_laws.specs.declared.verdict.ClearVerdict.TheVariants as clear
 use Rattle.clear_laws.specs.CertificateLaws.{ClearVerdictsAreOne}
 use Rattle.clear_laws.specs.ListLaws.{SitesAreOne, PlacesAreOne, NeversAreOne}
-use Rattle.peripherals.specs.declared.devices.DevicesFault.{DevicesFault}
+use Rattle.peripherals.specs.declared.peripherals.PeripheralsFault.{PeripheralsFault}
 use Rattle.peripherals.specs.Spelling.{Setup}
 use Rattle.peripherals.specs.Reading.{setup_in}
 use Rattle.peripherals.specs.Simulating.{simulation_of}
@@ -34,7 +34,7 @@ use Rattle.commands.specs.Commands.{Work, Check, Analyse, Run, Report, Explain, 
 use Rattle.replies.specs.declared.status.Status.{Status}
 use Rattle.replies.specs.declared.status.Status.TheVariants as exit
 use Rattle.replies.specs.Firmware.{firmware_image, firmware_fault, firmware_names}
-use Rattle.replies.specs.Texts.{too_long, assumptions_refused, certificate_refused, schedule_malformed, schedule_illegal, devices_refused, rejected, witness_rejected, run_text}
+use Rattle.replies.specs.Texts.{too_long, assumptions_refused, certificate_refused, schedule_malformed, schedule_illegal, peripherals_refused, rejected, witness_rejected, run_text}
 use Rattle.replies.specs.Places.{clear_text, unclear_text, premises_text, why_text}
 use Rattle.replies.specs.Reading.{Seen, Unread, Whole, Long}
 use Rattle.replies.specs.Reply.{Reply, Says, Refuses, WithFile, WithBytes, WithOptional, ImageBy, ListBy, WithList, attains, AttainedBy, WitnessReply, VerdictReply, JudgedReply, CertificateReply, RunReply, EndsBefore, ScheduleReply, told_of, ExplainReply, ClearSays, ClearReply, PremisesReply, WhyReply, PlacesReply, AcceptedReply, SimulateReply, FlashReply, ImageReply, WorkReply}
@@ -91,8 +91,8 @@ verdict_one : (task : Task) (next : Claim → Reply) (c : Claim) (v : Judgement 
 verdict_one task next c (Rejected reason) f s t a b h k = says_one exit.Rejected (rejected (device_of task.flash) reason) s t a b h k
 verdict_one task next c (Accepted bound) f s t a b h k = witness_one task (next c) bound c.witness f s t a b h k
 
-simulate_one : (task : Task) (steps : ℕ) (x : Result Setup DevicesFault) → IsOneAnswer (SimulateReply task steps x)
-simulate_one task steps (Err fault) s t a b h k = refuses_one exit.BadDevices (devices_refused fault) s t a b h k
+simulate_one : (task : Task) (steps : ℕ) (x : Result Setup PeripheralsFault) → IsOneAnswer (SimulateReply task steps x)
+simulate_one task steps (Err fault) s t a b h k = refuses_one exit.BadPeripherals (peripherals_refused fault) s t a b h k
 simulate_one task steps (Ok setup) s t a b h k = says_one exit.Done (run_text (device_of task.flash) (simulation_of task.flash task.assumptions setup steps)) s t a b h k
 
 run_one : (device : Device) (x : Result Replayed ℕ) → IsOneAnswer (RunReply device x)
@@ -165,7 +165,7 @@ module _ (read : ReadCertificateIsSpelled) (one : VerdictsAreOne) (answers : Ans
       read_one task (AcceptedReply device (Premises cert why) firmware task) bytes (places_one why (firmware_names device firmware) task)
   flash_one device (Attain cert trials) firmware bytes task =
       read_one task (AcceptedReply device (Attain cert trials) firmware task) bytes (λ c claim. attain_one task trials c)
-  flash_one device (Simulate devices steps) firmware bytes task = simulate_one task steps (setup_in (device_of task.flash) bytes)
+  flash_one device (Simulate peripherals steps) firmware bytes task = simulate_one task steps (setup_in (device_of task.flash) bytes)
 
   on_image_one : (device : Device) (work : Work) (firmware second : List ℕ) (list : Option (List ℕ)) → IsOneAnswer (ImageReply device work firmware second list)
   on_image_one device work firmware second list =

@@ -31,7 +31,7 @@ use Rattle.clear_laws.specs.declared.verdict.ClearVerdict.TheVariants.{Clear as 
 use Rattle.clear_laws.specs.Verdict.{AreAllClear, IsFirstUnclear, IsClearVerdict, AreSites, AreNevers}
 use Rattle.demo_image.specs.Image.{demo_program}
 use Rattle.peripherals.specs.Spelling.{Setup}
-use Rattle.peripherals.specs.Exact.{IsSetupReading as IsDevices}
+use Rattle.peripherals.specs.Exact.{IsSetupReading as ArePeripherals}
 use Rattle.peripherals.specs.Simulating.{simulation_of}
 use Rattle.commands.specs.Commands.{Work, Check, Analyse, Run, Explain, Clear, Premises, Attain, Simulate, Command, On, Demo, About}
 use Rattle.commands.specs.About.{about_text}
@@ -207,23 +207,23 @@ pub record IsAttainedAsRead (device : Device) (certificate : List ℕ) (assume :
 
 -- ---- a run that is simulated
 
--- The text reports the run that these devices choose. It is no deeper than the bound of any certificate that is valid for this firmware
+-- The text reports the run that these peripherals choose. It is no deeper than the bound of any certificate that is valid for this firmware
 -- and these assumptions, and those are the ones that `check` accepts.
-pub record IsSimulated (device : Device) (steps : ℕ) (firmware devices : List ℕ) (list : Option (List ℕ)) (text : List ℕ) : Type 0 where
+pub record IsSimulated (device : Device) (steps : ℕ) (firmware peripherals : List ℕ) (list : Option (List ℕ)) (text : List ℕ) : Type 0 where
   pub task : Task
   pub setup : Setup
   pub mean : Mean device firmware list task
-  pub reads : IsDevices device devices setup
+  pub reads : ArePeripherals device peripherals setup
   pub told : text ≡ run_text (device_of task.flash) (simulation_of task.flash task.assumptions setup steps)
   pub within : (c : Claim) → IsClaim c → IsValid task c → (simulation_of task.flash task.assumptions setup steps).depth ≤ c.bound
 
 -- all files of a simulation were read, and its text is such a report
 pub record IsSimulatedAsRead (device : Device) (assume : Option (List ℕ)) (steps : ℕ) (seen : Contents) (text : List ℕ) : Type 0 where
   pub firmware : List ℕ
-  pub devices : List ℕ
+  pub peripherals : List ℕ
   pub list : Option (List ℕ)
-  pub read : AreRead assume seen firmware devices list
-  pub simulated : IsSimulated device steps firmware devices list text
+  pub read : AreRead assume seen firmware peripherals list
+  pub simulated : IsSimulated device steps firmware peripherals list text
 
 -- ---- the numbers of an image
 
@@ -244,7 +244,7 @@ WorkHeadline device assume (Analyse steps) seen status text = status ≡ exit.Do
 WorkHeadline device assume (Run schedule) seen status text = ⊤
 WorkHeadline device assume (Clear certificate) seen status text = status ≡ exit.Done → HoldsAsRead device (Clear certificate) None seen text
 WorkHeadline device assume (Attain certificate trials) seen status text = status ≡ exit.Done → IsAttainedAsRead device certificate assume trials seen text
-WorkHeadline device assume (Simulate devices steps) seen status text = status ≡ exit.Done → IsSimulatedAsRead device assume steps seen text
+WorkHeadline device assume (Simulate peripherals steps) seen status text = status ≡ exit.Done → IsSimulatedAsRead device assume steps seen text
 WorkHeadline device assume work seen status text = status ≡ exit.Done → HoldsAsRead device work assume seen text
 
 abbrev pub Headline : Command → Contents → Status → List ℕ → Type 0
@@ -294,18 +294,18 @@ AnswersRounds device assume steps seen status =
     (firmware : List ℕ) (list : Option (List ℕ)) (task : Task)
     → AreLoaded assume seen firmware list → Mean device firmware list task → SaysHowRoundsEnd task steps status
 
--- If the files of a simulation were read, and firmware and assumptions are well-formed, it is refused exactly if the devices' text is
+-- If the files of a simulation were read, and firmware and assumptions are well-formed, it is refused exactly if the peripherals' text is
 -- malformed.
-abbrev pub AnswersDevices : Device → Option (List ℕ) → Contents → Status → Type 0
-AnswersDevices device assume seen status =
-    (firmware devices : List ℕ) (list : Option (List ℕ)) (task : Task)
-    → AreRead assume seen firmware devices list → Mean device firmware list task → (status ≡ exit.Done) ↔ ((setup : Setup) × IsDevices device devices setup)
+abbrev pub AnswersPeripherals : Device → Option (List ℕ) → Contents → Status → Type 0
+AnswersPeripherals device assume seen status =
+    (firmware peripherals : List ℕ) (list : Option (List ℕ)) (task : Task)
+    → AreRead assume seen firmware peripherals list → Mean device firmware list task → (status ≡ exit.Done) ↔ ((setup : Setup) × ArePeripherals device peripherals setup)
 
 abbrev pub IsWorkExact : Device → Option (List ℕ) → Work → Contents → Status → Type 0
 IsWorkExact device assume (Analyse steps) seen status = AnswersRounds device assume steps seen status
 IsWorkExact device assume (Run schedule) seen status = ⊤
 IsWorkExact device assume (Clear certificate) seen status = AcceptsExactly device (Clear certificate) None seen status
-IsWorkExact device assume (Simulate devices steps) seen status = AnswersDevices device assume seen status
+IsWorkExact device assume (Simulate peripherals steps) seen status = AnswersPeripherals device assume seen status
 IsWorkExact device assume work seen status = AcceptsExactly device work assume seen status
 
 abbrev pub IsExact : Command → Contents → Status → Type 0

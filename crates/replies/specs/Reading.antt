@@ -22,7 +22,7 @@ seen_of seen Assumptions = seen.assumptions
 
 -- ---- caps
 
--- the most bytes of a firmware or a schedule (16 MiB), of a certificate (192 MiB), of an assumption file and of devices (1 MiB)
+-- the most bytes of a firmware or a schedule (16 MiB), of a certificate (192 MiB), of an assumption file and of peripherals (1 MiB)
 abbrev pub firmware_cap : ℕ
 firmware_cap = 16777216
 
@@ -35,12 +35,12 @@ certificate_cap = 201326592
 abbrev pub assumption_cap : ℕ
 assumption_cap = 1048576
 
-abbrev pub devices_cap : ℕ
-devices_cap = 1048576
+abbrev pub peripherals_cap : ℕ
+peripherals_cap = 1048576
 
 abbrev pub file_cap : Work → ℕ
 file_cap (Run schedule) = schedule_cap
-file_cap (Simulate devices steps) = devices_cap
+file_cap (Simulate peripherals steps) = peripherals_cap
 file_cap work = certificate_cap
 
 abbrev pub second_cap : Command → ℕ

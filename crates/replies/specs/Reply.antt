@@ -30,7 +30,7 @@ use Rattle.clear_laws.specs.Verdict.{IsClearVerdict, AreSites, AreNevers}
 use Rattle.clear_laws.specs.declared.place.FlaggedPlace.{FlaggedPlace}
 use Rattle.clear_laws.specs.Places.{ArePlaces}
 use Rattle.demo_image.specs.Image.{demo_program}
-use Rattle.peripherals.specs.declared.devices.DevicesFault.{DevicesFault}
+use Rattle.peripherals.specs.declared.peripherals.PeripheralsFault.{PeripheralsFault}
 use Rattle.peripherals.specs.Spelling.{Setup}
 use Rattle.peripherals.specs.Reading.{setup_in}
 use Rattle.peripherals.specs.Simulating.{simulation_of}
@@ -44,7 +44,7 @@ use Rattle.commands.specs.About.{about_text}
 use Rattle.replies.specs.declared.status.Status.{Status}
 use Rattle.replies.specs.declared.status.Status.TheVariants as exit
 use Rattle.replies.specs.Firmware.{firmware_image, firmware_fault, firmware_names, firmware_end}
-use Rattle.replies.specs.Texts.{too_long, assumptions_refused, certificate_refused, schedule_malformed, schedule_illegal, devices_refused, accepted, rejected, witness_rejected, run_text, why_not_text, why_not_status, demo_text}
+use Rattle.replies.specs.Texts.{too_long, assumptions_refused, certificate_refused, schedule_malformed, schedule_illegal, peripherals_refused, accepted, rejected, witness_rejected, run_text, why_not_text, why_not_status, demo_text}
 use Rattle.replies.specs.Places.{clear_text, unclear_text, premises_text, why_text}
 use Rattle.replies.specs.Reading.{Seen, Unread, Whole, Long, Contents}
 use Rattle.replies.specs.Analysis.{IsAnalysis}
@@ -202,9 +202,9 @@ ScheduleReply task (Ok read) status text = EndsBefore read.1.rest read.1.at (Run
 
 -- ---- simulate
 
--- the report of the run that devices choose, if their text is well-formed
-abbrev pub SimulateReply : Task → ℕ → Result Setup DevicesFault → Reply
-SimulateReply task steps (Err fault) status text = Refuses exit.BadDevices (devices_refused fault) status text
+-- the report of the run that peripherals choose, if their text is well-formed
+abbrev pub SimulateReply : Task → ℕ → Result Setup PeripheralsFault → Reply
+SimulateReply task steps (Err fault) status text = Refuses exit.BadPeripherals (peripherals_refused fault) status text
 SimulateReply task steps (Ok setup) status text = Says exit.Done (run_text (device_of task.flash) (simulation_of task.flash task.assumptions setup steps)) status text
 
 -- ---- analyse and demo
@@ -241,7 +241,7 @@ DemoReply size status text = MeasuredReply size status text ⊎ WhyNotReply (bar
 abbrev pub FlashReply : Device → Work → List ℕ → List ℕ → Task → Reply
 FlashReply device (Analyse steps) firmware bytes task = AnalyseReply task steps
 FlashReply device (Run schedule) firmware bytes task = ScheduleReply task (schedule_in (device_of task.flash) (record { at = 0; rest = lines_of bytes }))
-FlashReply device (Simulate devices steps) firmware bytes task = SimulateReply task steps (setup_in (device_of task.flash) bytes)
+FlashReply device (Simulate peripherals steps) firmware bytes task = SimulateReply task steps (setup_in (device_of task.flash) bytes)
 FlashReply device (Clear certificate) firmware bytes task = CertificateReply (bare task.flash) (ClearReply task.flash) (certificate_in (device_of task.flash) bytes)
 FlashReply device work firmware bytes task = CertificateReply task (AcceptedReply device work firmware task) (certificate_in (device_of task.flash) bytes)
 

@@ -18,7 +18,7 @@ code exit.NoCertificate = 10
 code exit.Spent = 11
 code exit.OutOfMemory = 12
 code exit.Unclear = 13
-code exit.BadDevices = 14
+code exit.BadPeripherals = 14
 
 -- no two statuses have one number
 abbrev pub CodesAreApart : Type 0

@@ -28,8 +28,8 @@ use Rattle.certificate.specs.declared.limit.Limit.{Limit}
 use Rattle.certificate.specs.declared.limit.Limit.TheVariants as limit
 use Rattle.cert_format.specs.declared.fault.CertFault.{CertFault}
 use Rattle.cert_format.specs.declared.fault.CertFault.TheVariants as cert
-use Rattle.peripherals.specs.declared.devices.DevicesFault.{DevicesFault}
-use Rattle.peripherals.specs.declared.devices.DevicesFault.TheVariants as devices
+use Rattle.peripherals.specs.declared.peripherals.PeripheralsFault.{PeripheralsFault}
+use Rattle.peripherals.specs.declared.peripherals.PeripheralsFault.TheVariants as peripherals
 use Rattle.cert_check.specs.declared.verdict.Reason.{Reason}
 use Rattle.cert_check.specs.declared.verdict.Reason.TheVariants.{Device as OtherDevice, Root, Node, Edge, Rank, Need, Bound, Assumptions, Expansion}
 use Rattle.elf_load.specs.Elf.{ElfRefusal, Short, NotElf32Little, NotExecutable, NotAvr, EntrySize, SegmentOutside, Overlap}
@@ -118,10 +118,10 @@ schedule_malformed at = told (codes "schedule" ∷ codes "malformed" ∷ codes "
 abbrev pub schedule_illegal : ℕ → List ℕ
 schedule_illegal step = told (codes "schedule" ∷ codes "illegal" ∷ codes "step" ∷ decimal step ∷ [])
 
--- the offset of the line of the devices' text that is refused; running out of memory has no text
-abbrev pub devices_refused : DevicesFault → Option (List ℕ)
-devices_refused (devices.Malformed at) = Some (told (codes "devices" ∷ codes "malformed" ∷ codes "at" ∷ decimal at ∷ []))
-devices_refused devices.Memory = None
+-- the offset of the line of the peripherals' text that is refused; running out of memory has no text
+abbrev pub peripherals_refused : PeripheralsFault → Option (List ℕ)
+peripherals_refused (peripherals.Malformed at) = Some (told (codes "devices" ∷ codes "malformed" ∷ codes "at" ∷ decimal at ∷ []))
+peripherals_refused peripherals.Memory = None
 
 -- attained, if the certificate has a schedule
 abbrev pub witness_word : Bool → List ℕ

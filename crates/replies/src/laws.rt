@@ -11,7 +11,7 @@ use chain_explain::laws::explanations_tell;
 use clear_laws::laws::{clear_answers_are_one, flagged_runs_end_as_told};
 use flash_image::laws::{narrowing_is_exact, raw_images_are_their_words};
 use guided_trials::laws::trials_are_led;
-use peripherals::laws::{reading_is_exact as devices_are_exact, simulations_are_runs};
+use peripherals::laws::{reading_is_exact as peripherals_are_exact, simulations_are_runs};
 use round_laws::laws::{rounds_are_least, solutions_are_valid};
 use round_solutions::laws::answers_are_one;
 use witness_replay::laws::replays_are_runs;
@@ -44,7 +44,7 @@ pub fn replies_are_claims()
     rounds_are_least();
     solutions_are_valid();
     replays_are_runs();
-    devices_are_exact();
+    peripherals_are_exact();
     simulations_are_runs();
     explanations_tell();
     clear_answers_are_one();

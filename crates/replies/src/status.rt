@@ -34,8 +34,8 @@ pub enum Status {
     OutOfMemory,
     /// The certificate is valid, but a node may flag a step.
     Unclear,
-    /// The text is no devices file.
-    BadDevices,
+    /// The text is no peripherals file.
+    BadPeripherals,
 }
 
 impl Status {
@@ -58,7 +58,7 @@ impl Status {
             Status::Spent => 11,
             Status::OutOfMemory => 12,
             Status::Unclear => 13,
-            Status::BadDevices => 14,
+            Status::BadPeripherals => 14,
         }
     }
 }

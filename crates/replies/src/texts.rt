@@ -6,7 +6,7 @@ ghost use Rattle.elf_load.specs.Refusing.{refusal_of};
 ghost use Rattle.text_base.specs.Digits.{hex_digits};
 ghost use Rattle.assumption_files.specs.Spelling.{word_address_text};
 ghost use Rattle.text_base.specs.Writing.{with_words, with_end};
-ghost use Rattle.replies.specs.Texts.{told, usage, read_fault, too_long, raw_fault, elf_refused, firmware_outside, IsRefusalWritten, AreWritten, assumption_words, assumptions_refused, limit_word, certificate_words, certificate_refused, schedule_malformed, schedule_illegal, devices_refused, witness_word, accepted, reason_words, rejected, witness_rejected, stop_words, run_text};
+ghost use Rattle.replies.specs.Texts.{told, usage, read_fault, too_long, raw_fault, elf_refused, firmware_outside, IsRefusalWritten, AreWritten, assumption_words, assumptions_refused, limit_word, certificate_words, certificate_refused, schedule_malformed, schedule_illegal, peripherals_refused, witness_word, accepted, reason_words, rejected, witness_rejected, stop_words, run_text};
 
 use crate::raw::RawRefusal;
 use assumption_files::{AssumeText, write_word_address};
@@ -17,7 +17,7 @@ use cert_check::Reason;
 use cert_format::{CertFault, Limit};
 use cert_writing::write_key;
 use elf_load::ElfFault;
-use peripherals::DevicesFault;
+use peripherals::PeripheralsFault;
 use std::alloc::{AllocError, Global};
 use text_base::LineWriter;
 use witness_replay::ReplayReport;
@@ -242,15 +242,15 @@ pub fn schedule_illegal(alloc: Global, step: u32) -> Result<Vec<u8>, AllocError>
     three_words_and_number(alloc, b"schedule", b"illegal", b"step", u64::from(step))
 }
 
-/// The refusal of a text of devices; `None` if memory runs out.
-pub fn devices_refused(alloc: Global, fault: &DevicesFault) -> Result<Vec<u8>, AllocError>
-    ensures { IfOk result (λ v. devices_refused fault.now ≡ Some v.items) }
+/// The refusal of a text of peripherals; `None` if memory runs out.
+pub fn peripherals_refused(alloc: Global, fault: &PeripheralsFault) -> Result<Vec<u8>, AllocError>
+    ensures { IfOk result (λ v. peripherals_refused fault.now ≡ Some v.items) }
 {
     match *fault {
-        DevicesFault::Malformed(at) => {
+        PeripheralsFault::Malformed(at) => {
             three_words_and_number(alloc, b"devices", b"malformed", b"at", at as u64)
         }
-        DevicesFault::Memory => Err(AllocError),
+        PeripheralsFault::Memory => Err(AllocError),
     }
 }
 

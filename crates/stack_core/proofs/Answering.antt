@@ -21,14 +21,14 @@ use Rattle.cert_check.specs.declared.verdict.Judgement.{Judgement}
 use Rattle.cert_check.specs.declared.verdict.Judgement.TheVariants.{Accepted, Rejected}
 use Rattle.clear_laws.specs.declared.verdict.ClearVerdict.{ClearVerdict}
 use Rattle.clear_laws.specs.declared.verdict.ClearVerdict.TheVariants as clear
-use Rattle.peripherals.specs.declared.devices.DevicesFault.{DevicesFault}
+use Rattle.peripherals.specs.declared.peripherals.PeripheralsFault.{PeripheralsFault}
 use Rattle.peripherals.specs.Spelling.{Setup}
 use Rattle.peripherals.specs.Reading.{setup_in}
 use Rattle.commands.specs.Commands.{Work, Check, Analyse, Run, Report, Explain, Clear, Premises, Attain, Simulate, Command, On, Demo, About, Firmware, Second, Assumptions, name_of}
 use Rattle.replies.specs.declared.status.Status.{Status}
 use Rattle.replies.specs.declared.status.Status.TheVariants as exit
 use Rattle.replies.specs.Firmware.{firmware_image, firmware_fault}
-use Rattle.replies.specs.Texts.{too_long, assumptions_refused, certificate_refused, devices_refused, why_not_status, why_not_text}
+use Rattle.replies.specs.Texts.{too_long, assumptions_refused, certificate_refused, peripherals_refused, why_not_status, why_not_text}
 use Rattle.replies.specs.Reading as read
 use Rattle.replies.specs.Reading.{Seen, Unread, Whole, Long}
 use Rattle.replies.specs.Reply.{Reply, Says, Refuses, WithFile, WithBytes, WithOptional, ImageBy, ListBy, WithList, attains, AttainedBy, WitnessReply, VerdictReply, CertificateReply, told_of, ClearSays, ClearReply, AcceptedReply, RunReply, EndsBefore, ScheduleReply, WhyNotReply, AnalyseReply, SimulateReply, DemoReply, FlashReply, ImageReply, WorkReply, IsReply}
@@ -86,8 +86,8 @@ spent_plain = record { usage = λ e. cc; read = λ e. cc; write = λ e. cc; ampl
 unclear_plain : IsReplyPlain exit.Unclear
 unclear_plain = record { usage = λ e. cc; read = λ e. cc; write = λ e. cc; ample = λ e. cc }
 
-devices_plain : IsReplyPlain exit.BadDevices
-devices_plain = record { usage = λ e. cc; read = λ e. cc; write = λ e. cc; ample = λ e. cc }
+peripherals_plain : IsReplyPlain exit.BadPeripherals
+peripherals_plain = record { usage = λ e. cc; read = λ e. cc; write = λ e. cc; ample = λ e. cc }
 
 refuses_apart : (n : Status) → IsReplyPlain n → (o : Option (List ℕ)) → IsPlainApart (Refuses n o)
 refuses_apart n p None s t h = absurd h
@@ -141,8 +141,8 @@ clear_apart : (image : Image) (c : Claim) (v : ClearVerdict) → IsPlainApart (C
 clear_apart image c clear.Clear s t h = at exit.Done s done_plain h.0
 clear_apart image c (clear.Unclear node pc) s t h = at exit.Unclear s unclear_plain h.0
 
-simulate_apart : (task : Task) (steps : ℕ) (x : Result Setup DevicesFault) → IsPlainApart (SimulateReply task steps x)
-simulate_apart task steps (Err fault) s t h = refuses_apart exit.BadDevices devices_plain (devices_refused fault) s t h
+simulate_apart : (task : Task) (steps : ℕ) (x : Result Setup PeripheralsFault) → IsPlainApart (SimulateReply task steps x)
+simulate_apart task steps (Err fault) s t h = refuses_apart exit.BadPeripherals peripherals_plain (peripherals_refused fault) s t h
 simulate_apart task steps (Ok setup) s t h = at exit.Done s done_plain h.0
 
 why_not_plain : (r : Refusal) → IsReplyPlain (why_not_status r)

@@ -5,10 +5,10 @@ use Rattle.avr_model.specs.declared.device.Device.{Device}
 use Rattle.commands.specs.Commands.{Work, Analyse, Simulate, Request, Command, On, Firmware, Second, Assumptions, file_of, assume_of}
 use Rattle.replies.specs.declared.status.Status.{Status}
 use Rattle.replies.specs.declared.status.Status.TheVariants as exit
-use Rattle.replies.specs.Reading.{Seen, Unread, Whole, Long, Contents, firmware_cap, certificate_cap, devices_cap, assumption_cap, file_cap, Agrees, AgreesUnder, AllAgree}
+use Rattle.replies.specs.Reading.{Seen, Unread, Whole, Long, Contents, firmware_cap, certificate_cap, peripherals_cap, assumption_cap, file_cap, Agrees, AgreesUnder, AllAgree}
 use Rattle.replies.specs.Reply.{Reply, WithFile, WithBytes, WithOptional, WorkReply, IsReply}
 use Rattle.replies.specs.Headline.{IsSeen, AreRead, Holds, HoldsAsRead, IsLeastCertificate, IsSimulated, WorkHeadline, AcceptsExactly, IsWorkExact}
-use Rattle.stack_core.specs.Answer.{IsAnswered, IsReplyDue, IsReplyWritten, AreHeld, Judges, checks, reports, explains, clears, lists_premises, completes, HeldHeadline, IsHeldExact, HeldLeast, IsHeldEnd, HeldSimulated, AreHeldDevices, WrittenAnswersHold}
+use Rattle.stack_core.specs.Answer.{IsAnswered, IsReplyDue, IsReplyWritten, AreHeld, Judges, checks, reports, explains, clears, lists_premises, completes, HeldHeadline, IsHeldExact, HeldLeast, IsHeldEnd, HeldSimulated, AreHeldPeripherals, WrittenAnswersHold}
 
 held_is : (h : Held) (cap : ℕ) (s : Seen) (a b : List ℕ) → Agrees h cap s → s ≡ Whole a → h ≡ Bytes b → a ≡ b
 held_is h cap s a b agrees e is = let g : Agrees h cap (Whole a) = subst (Agrees h cap) e agrees in subst (λ x. Gives x a) is g.0
@@ -137,24 +137,24 @@ written_end o holds status before after w device steps firmware list task a mean
 -- ---- simulations
 
 written_simulated : (o : Option Command) (holds : List ℕ → Held) (status : Status) (before after : Option (List ℕ)) → IsReplyWritten o holds status before after → HeldSimulated o holds status before after
-written_simulated o holds status before after w device steps firmware devices list a zero =
-    let d = due_to o (request device a.firmware_name a.assume (Simulate a.devices_name steps)) holds status w.text a.named w.due in
+written_simulated o holds status before after w device steps firmware peripherals list a zero =
+    let d = due_to o (request device a.firmware_name a.assume (Simulate a.peripherals_name steps)) holds status w.text a.named w.due in
     let h = d.headline zero in
     let f : h.firmware ≡ firmware = held_is (holds a.firmware_name) firmware_cap d.seen.firmware h.firmware firmware (d.agrees Firmware) h.read.loaded.firmware_read a.firmware_held in
-    let k : h.devices ≡ devices = held_is (holds a.devices_name) devices_cap d.seen.second h.devices devices (d.agrees Second) h.read.second_read a.devices_held in
+    let k : h.peripherals ≡ peripherals = held_is (holds a.peripherals_name) peripherals_cap d.seen.second h.peripherals peripherals (d.agrees Second) h.read.second_read a.peripherals_held in
     let l : h.list ≡ list = held_list holds a.assume d.seen.assumptions h.list list (d.agrees Assumptions) h.read.loaded.list_read a.list_held in (
       w.text,
-      subst (λ x. IsSimulated device steps firmware devices x w.text) l
-          (subst (λ x. IsSimulated device steps firmware x h.list w.text) k (subst (λ x. IsSimulated device steps x h.devices h.list w.text) f h.simulated)),
+      subst (λ x. IsSimulated device steps firmware peripherals x w.text) l
+          (subst (λ x. IsSimulated device steps firmware x h.list w.text) k (subst (λ x. IsSimulated device steps x h.peripherals h.list w.text) f h.simulated)),
       w.grew,
     )
 
-written_devices : (o : Option Command) (holds : List ℕ → Held) (status : Status) (before after : Option (List ℕ)) → IsReplyWritten o holds status before after → AreHeldDevices o holds status
-written_devices o holds status before after w device steps firmware devices list task a mean =
-    let d = due_to o (request device a.firmware_name a.assume (Simulate a.devices_name steps)) holds status w.text a.named w.due in
-    d.exact firmware devices list task
-    (are_read (record { device = device; firmware = a.firmware_name; assume = a.assume; work = Simulate a.devices_name steps }) holds d.seen a.devices_name firmware devices list devices_cap status w.text refl refl d.agrees d.reply
-    a.firmware_held a.firmware_fits a.devices_held a.devices_fit a.list_held) mean
+written_peripherals : (o : Option Command) (holds : List ℕ → Held) (status : Status) (before after : Option (List ℕ)) → IsReplyWritten o holds status before after → AreHeldPeripherals o holds status
+written_peripherals o holds status before after w device steps firmware peripherals list task a mean =
+    let d = due_to o (request device a.firmware_name a.assume (Simulate a.peripherals_name steps)) holds status w.text a.named w.due in
+    d.exact firmware peripherals list task
+    (are_read (record { device = device; firmware = a.firmware_name; assume = a.assume; work = Simulate a.peripherals_name steps }) holds d.seen a.peripherals_name firmware peripherals list peripherals_cap status w.text refl refl d.agrees d.reply
+    a.firmware_held a.firmware_fits a.peripherals_held a.peripherals_fit a.list_held) mean
 
 pub written_hold : WrittenAnswersHold
-written_hold = record { headline = written_headline; exact = written_exact; least = written_least; ends = written_end; simulated = written_simulated; devices = written_devices }
+written_hold = record { headline = written_headline; exact = written_exact; least = written_least; ends = written_end; simulated = written_simulated; peripherals = written_peripherals }

@@ -222,7 +222,7 @@ flash_alike laws texts places causes device (Premises cert why) firmware bytes l
     told_alike (task_with loaded.flash A) (PlacesReply why loaded.names (task_with loaded.flash A)) (AcceptedReply device (Premises cert why) firmware (task_with loaded.flash A)) (certificate_in (device_of loaded.flash) bytes) status text
     (λ c k. places_alike places causes why loaded.names (firmware_names device firmware) (task_with loaded.flash A) names c status text k) h
 flash_alike laws texts places causes device (Attain cert trials) firmware bytes loaded A status text names end h = h
-flash_alike laws texts places causes device (Simulate devices steps) firmware bytes loaded A status text names end h = h
+flash_alike laws texts places causes device (Simulate peripherals steps) firmware bytes loaded A status text names end h = h
 
 list_alike : (x : Result (List Entry) AssumeText) (next : List Entry → Reply) (status : Status) (text : List ℕ) → ListBy x nothing status text → ListBy x next status text
 list_alike (Ok A) next status text h = absurd h

@@ -4,12 +4,12 @@ use Rattle.avr_model.specs.declared.device.Device.{Device}
 use Rattle.text_base.specs.Outside.{Held, Bytes, Blamed, Rose, grown, GrewByPrefix}
 use Rattle.certificate.specs.Claims.{Claim}
 use Rattle.peripherals.specs.Spelling.{Setup}
-use Rattle.peripherals.specs.Exact.{IsSetupReading as IsDevices}
+use Rattle.peripherals.specs.Exact.{IsSetupReading as ArePeripherals}
 use Rattle.commands.specs.Commands.{Work, Check, Analyse, Report, Explain, Clear, Premises, Attain, Simulate, Request, Command, On, assume_of}
 use Rattle.replies.specs.declared.status.Status.{Status}
 use Rattle.replies.specs.declared.status.Status.TheVariants as exit
 use Rattle.replies.specs.Texts.{usage, read_fault}
-use Rattle.replies.specs.Reading.{Contents, AllAgree, IsFirstFailed, firmware_cap, certificate_cap, devices_cap, assumption_cap}
+use Rattle.replies.specs.Reading.{Contents, AllAgree, IsFirstFailed, firmware_cap, certificate_cap, peripherals_cap, assumption_cap}
 use Rattle.replies.specs.Reply.{IsReply}
 use Rattle.replies.specs.Headline.{Mean, StandFor, Holds, IsLeastCertificate, IsSimulated, SaysWhether, SaysHowRoundsEnd, Headline, IsExact}
 use Rattle.local_rules.specs.Site.{Task}
@@ -138,29 +138,29 @@ IsHeldEnd command holds status =
     → IsAnalysing command device steps holds firmware list → Mean device firmware list task → SaysHowRoundsEnd task steps status
 
 -- The words are a simulation for this device of this many choices, and these bytes are held under its names, within the caps.
-pub record IsSimulating (command : Option Command) (device : Device) (steps : ℕ) (holds : List ℕ → Held) (firmware devices : List ℕ) (list : Option (List ℕ)) : Type 0 where
+pub record IsSimulating (command : Option Command) (device : Device) (steps : ℕ) (holds : List ℕ → Held) (firmware peripherals : List ℕ) (list : Option (List ℕ)) : Type 0 where
   pub firmware_name : List ℕ
-  pub devices_name : List ℕ
+  pub peripherals_name : List ℕ
   pub assume : Option (List ℕ)
-  pub named : command ≡ Some (On (record { device = device; firmware = firmware_name; assume = assume; work = Simulate devices_name steps }))
+  pub named : command ≡ Some (On (record { device = device; firmware = firmware_name; assume = assume; work = Simulate peripherals_name steps }))
   pub firmware_held : holds firmware_name ≡ Bytes firmware
   pub firmware_fits : length firmware ≤ firmware_cap
-  pub devices_held : holds devices_name ≡ Bytes devices
-  pub devices_fit : length devices ≤ devices_cap
+  pub peripherals_held : holds peripherals_name ≡ Bytes peripherals
+  pub peripherals_fit : length peripherals ≤ peripherals_cap
   pub list_held : AreHeld holds assume list
 
--- if a simulation of held bytes answers 0, it has printed the run that the devices choose, which stays within each bound that `check`
+-- if a simulation of held bytes answers 0, it has printed the run that the peripherals choose, which stays within each bound that `check`
 -- accepts
 abbrev pub HeldSimulated : Option Command → (List ℕ → Held) → Status → Option (List ℕ) → Option (List ℕ) → Type 0
 HeldSimulated command holds status before after =
-    (device : Device) (steps : ℕ) (firmware devices : List ℕ) (list : Option (List ℕ)) → IsSimulating command device steps holds firmware devices list → status ≡ exit.Done
-    → (text : List ℕ) × IsSimulated device steps firmware devices list text × (after ≡ grown before text)
+    (device : Device) (steps : ℕ) (firmware peripherals : List ℕ) (list : Option (List ℕ)) → IsSimulating command device steps holds firmware peripherals list → status ≡ exit.Done
+    → (text : List ℕ) × IsSimulated device steps firmware peripherals list text × (after ≡ grown before text)
 
--- if held firmware and assumptions are well-formed, it answers 0 exactly if the devices' text is well-formed
-abbrev pub AreHeldDevices : Option Command → (List ℕ → Held) → Status → Type 0
-AreHeldDevices command holds status =
-    (device : Device) (steps : ℕ) (firmware devices : List ℕ) (list : Option (List ℕ)) (task : Task)
-    → IsSimulating command device steps holds firmware devices list → Mean device firmware list task → (status ≡ exit.Done) ↔ ((setup : Setup) × IsDevices device devices setup)
+-- if held firmware and assumptions are well-formed, it answers 0 exactly if the peripherals' text is well-formed
+abbrev pub AreHeldPeripherals : Option Command → (List ℕ → Held) → Status → Type 0
+AreHeldPeripherals command holds status =
+    (device : Device) (steps : ℕ) (firmware peripherals : List ℕ) (list : Option (List ℕ)) (task : Task)
+    → IsSimulating command device steps holds firmware peripherals list → Mean device firmware list task → (status ≡ exit.Done) ↔ ((setup : Setup) × ArePeripherals device peripherals setup)
 
 -- ---- laws
 
@@ -174,4 +174,4 @@ pub record WrittenAnswersHold : Type 0 where
   pub ends : (command : Option Command) (holds : List ℕ → Held) (status : Status) (before after : Option (List ℕ)) → IsReplyWritten command holds status before after → IsHeldEnd command holds status
   pub simulated : (command : Option Command) (holds : List ℕ → Held) (status : Status) (before after : Option (List ℕ)) → IsReplyWritten command holds status before after
       → HeldSimulated command holds status before after
-  pub devices : (command : Option Command) (holds : List ℕ → Held) (status : Status) (before after : Option (List ℕ)) → IsReplyWritten command holds status before after → AreHeldDevices command holds status
+  pub peripherals : (command : Option Command) (holds : List ℕ → Held) (status : Status) (before after : Option (List ℕ)) → IsReplyWritten command holds status before after → AreHeldPeripherals command holds status

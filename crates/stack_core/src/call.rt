@@ -3,7 +3,7 @@
 ghost use Rattle.std.specs.Prelude.{◌≡◌, ◌≢◌, ◌⊎◌, ◌↔◌, ℕ, List, None};
 ghost use Rattle.text_base.specs.Outside.{Rose, grown};
 ghost use Rattle.replies.specs.Texts.{read_fault};
-ghost use Rattle.stack_core.specs.Answer.{IsReplyWritten, IsReadFault, HeldHeadline, IsHeldExact, HeldLeast, IsHeldEnd, HeldSimulated, AreHeldDevices, Cuts};
+ghost use Rattle.stack_core.specs.Answer.{IsReplyWritten, IsReadFault, HeldHeadline, IsHeldExact, HeldLeast, IsHeldEnd, HeldSimulated, AreHeldPeripherals, Cuts};
 ghost use Rattle.stack_core.specs.Clauses.{IfNoneFailed, called};
 
 use crate::answer::answer;
@@ -41,11 +41,11 @@ pub fn stackbound<F: Files, K: Sink>(
     // If held bytes are well-formed, the status of an analysis says how the rounds end, and without a budget whether a valid certificate
     // exists.
     ensures ends { IfNoneFailed result (IsHeldEnd (called words.now) (F.holds files.old) result) }
-    // If a simulation of held bytes answers 0, it reports the run that the devices choose, which is no deeper than the bound of any
+    // If a simulation of held bytes answers 0, it reports the run that the peripherals choose, which is no deeper than the bound of any
     // certificate that `check` accepts for the same firmware and assumptions.
     ensures simulated { HeldSimulated (called words.now) (F.holds files.old) result (K.written out.old) (K.written out.new) }
-    // If held firmware and assumptions are well-formed, a simulation answers 0 exactly if its devices are.
-    ensures devices { IfNoneFailed result (AreHeldDevices (called words.now) (F.holds files.old) result) }
+    // If held firmware and assumptions are well-formed, a simulation answers 0 exactly if its peripherals are.
+    ensures peripherals { IfNoneFailed result (AreHeldPeripherals (called words.now) (F.holds files.old) result) }
     // Exactly the words that are no command get this answer.
     ensures usage { result ≢ Status.WriteFault → result ≢ Status.OutOfMemory → (result ≡ Status.Usage) ↔ (called words.now ≡ None) }
     // A read fault is answered only if a read of a file of the command failed in this call; the first such file is named.

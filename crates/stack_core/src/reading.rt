@@ -18,8 +18,8 @@ const SCHEDULE_CAP: usize = 16_777_216;
 // The most bytes of a certificate: 192 MiB.
 const CERTIFICATE_CAP: usize = 201_326_592;
 
-// The most bytes of the text of devices: 1 MiB.
-const DEVICES_CAP: usize = 1_048_576;
+// The most bytes of the text of peripherals: 1 MiB.
+const PERIPHERALS_CAP: usize = 1_048_576;
 
 // The most bytes of an assumption file: 1 MiB.
 const ASSUMPTION_CAP: usize = 1_048_576;
@@ -101,7 +101,7 @@ fn second_cap(command: &Command<'_>) -> usize
     };
     match &request.work {
         Work::Run { .. } => SCHEDULE_CAP,
-        Work::Simulate { .. } => DEVICES_CAP,
+        Work::Simulate { .. } => PERIPHERALS_CAP,
         _ => CERTIFICATE_CAP,
     }
 }

@@ -1,4 +1,4 @@
-//! Runs that devices choose, for `simulate`.
+//! Runs that peripherals choose, for `simulate`.
 
 ghost use Rattle.std.specs.Prelude.{◌≡◌, IfOk};
 ghost use Rattle.peripherals.specs.Reading.{setup_in};
@@ -11,18 +11,22 @@ ghost use Rattle.stack_core.specs.Clauses.{Returns};
 use crate::reply::Reply;
 use commands::ChoiceCount;
 use family_edges::Task;
-use peripherals::{Devices, simulation};
+use peripherals::{Peripherals, simulation};
 use replies::status::Status;
 use replies::texts;
 use std::alloc::AllocError;
 
-// The report of the run that devices choose.
-fn simulated(task: &Task<'_>, steps: ChoiceCount, devices: &Devices) -> Result<Vec<u8>, AllocError>
-    ensures { IfOk result (λ v. v.items ≡ run_text task.now.flash.now.device (simulation_of task.now.flash.now task.now.assumptions.now devices.now steps)) }
+// The report of the run that peripherals choose.
+fn simulated(
+    task: &Task<'_>,
+    steps: ChoiceCount,
+    peripherals: &Peripherals,
+) -> Result<Vec<u8>, AllocError>
+    ensures { IfOk result (λ v. v.items ≡ run_text task.now.flash.now.device (simulation_of task.now.flash.now task.now.assumptions.now peripherals.now steps)) }
 {
     let report = simulation(
         task.alloc,
-        devices,
+        peripherals,
         task.flash,
         task.assumptions,
         steps.get(),
@@ -30,19 +34,19 @@ fn simulated(task: &Task<'_>, steps: ChoiceCount, devices: &Devices) -> Result<V
     texts::run_text(task.alloc, task.flash.device(), &report)
 }
 
-/// The answer to the text of devices. Not inlined, as `attain` is not: its machine would stay in the frame of all commands.
+/// The answer to the text of peripherals. Not inlined, as `attain` is not: its machine would stay in the frame of all commands.
 #[inline(never)]
 pub fn simulate(task: &Task<'_>, steps: ChoiceCount, text: &[u8]) -> Result<Reply, AllocError>
     ensures { Returns result (SimulateReply (task_of task.now) steps (setup_in task.now.flash.now.device text.now)) }
 {
-    match Devices::read(task.alloc, task.flash.device(), text) {
-        Ok(devices) => Ok(Reply {
+    match Peripherals::read(task.alloc, task.flash.device(), text) {
+        Ok(peripherals) => Ok(Reply {
             status: Status::Done,
-            text: simulated(task, steps, &devices)?,
+            text: simulated(task, steps, &peripherals)?,
         }),
         Err(fault) => Ok(Reply {
-            status: Status::BadDevices,
-            text: texts::devices_refused(task.alloc, &fault)?,
+            status: Status::BadPeripherals,
+            text: texts::peripherals_refused(task.alloc, &fault)?,
         }),
     }
 }

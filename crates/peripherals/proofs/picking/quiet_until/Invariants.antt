@@ -6,4 +6,4 @@ use Rattle.peripherals.proofs.picking.quiet_until.Given as goal
 abbrev pub invariant-loop-n : goal.invariant-loop-n
 invariant-loop-n l =
     (timers : Bool) (step : ℕ) → step < l.until
-    → first_ready l.devices (is_enabled l.device l.masks) timers l.taken step ≡ first_from (is_ready l.devices (is_enabled l.device l.masks) timers l.taken step) l.n (length l.devices.sources - l.n)
+    → first_ready l.peripherals (is_enabled l.device l.masks) timers l.taken step ≡ first_from (is_ready l.peripherals (is_enabled l.device l.masks) timers l.taken step) l.n (length l.peripherals.sources - l.n)

@@ -10,9 +10,9 @@ use Rattle.peripherals.proofs.Quiet.{quiet_stays}
 use Rattle.peripherals.proofs.simulating.simulation.Goals as goal
 
 -- the run that ends at a stop
-stopped : (c : goal.After-drop-progress-inside) → IsReport c.args.flash.now c.args.assumptions.now c.args.devices.now c.args.steps (record { steps = c.loop-step.step; depth = c.depth.result; stop = c.in-Some.stop })
+stopped : (c : goal.After-drop-progress-inside) → IsReport c.args.flash.now c.args.assumptions.now c.args.peripherals.now c.args.steps (record { steps = c.loop-step.step; depth = c.depth.result; stop = c.in-Some.stop })
 stopped c =
-    let d = c.args.devices.now in
+    let d = c.args.peripherals.now in
     let chosen = c.choose-choice.ensures.chosen c.args.flash.now c.args.assumptions.now in
     let start = started c.args.flash.now d c.start-machine.result c.device.result c.fill.result c.start-machine.ensures.start c.start-machine.ensures.reset c.device.ensures c.fill.ensures in
     let whole = whole_stops (IsPicked d) d c.args.flash.now c.args.assumptions.now c.args.steps (begun d) c.start-machine.result c.loop-step.invariant.led.0 c.loop-step.progress c.loop-step.machine c.choose-choice.result c.choose-choice.new.progress c.step-answer.new.self c.loop-step.step c.in-Some.stop
@@ -28,7 +28,7 @@ returns-in-Some-clause-bounded c = (stopped c).bounded
 
 pub loop-step-preserved : goal.loop-step-preserved
 loop-step-preserved c =
-    let d = c.args.devices.now in
+    let d = c.args.peripherals.now in
     let chosen = c.choose-choice.ensures.chosen c.args.flash.now c.args.assumptions.now in
     let cs = c.loop-step.invariant.led.0 in
     record {
@@ -47,9 +47,9 @@ loop-step-preserved c =
     }
 
 -- the run that ends after all steps
-ended : (c : goal.After-drop-progress-inside-2) → IsReport c.args.flash.now c.args.assumptions.now c.args.devices.now c.args.steps (record { steps = c.args.steps; depth = c.depth-2.result; stop = End })
+ended : (c : goal.After-drop-progress-inside-2) → IsReport c.args.flash.now c.args.assumptions.now c.args.peripherals.now c.args.steps (record { steps = c.args.steps; depth = c.depth-2.result; stop = End })
 ended c =
-    let d = c.args.devices.now in
+    let d = c.args.peripherals.now in
     let end : c.loop-step.step ≡ c.args.steps = omega (arith, c.loop-step-test.false, c.loop-step.auto.step-end) in
     let start = started c.args.flash.now d c.start-machine.result c.device.result c.fill.result c.start-machine.ensures.start c.start-machine.ensures.reset c.device.ensures c.fill.ensures in
     let whole = whole_ends (IsPicked d) d c.args.flash.now c.args.assumptions.now c.args.steps (begun d) c.start-machine.result c.loop-step.invariant.led.0 c.loop-step.progress c.loop-step.machine c.loop-step.invariant.led.1 (c.loop-step.invariant.led.2 ∙ end) in

@@ -9,9 +9,9 @@ use Rattle.peripherals.proofs.simulating.simulation.Given as goal
 
 abbrev pub invariant-loop-step : goal.invariant-loop-step
 invariant-loop-step l = record {
-  known : IsProgressKnown l.devices l.progress;
+  known : IsProgressKnown l.peripherals l.progress;
   at : l.progress.step ≡ l.step;
-  quiet : IsQuiet l.devices (is_enabled l.machine.state.device l.quiet.masks) l.progress.taken l.quiet.until;
-  led : (cs : List Choice) × Leads (setting (IsPicked l.devices) l.devices l.flash l.assumptions) l.steps (begun l.devices) l.initial.machine cs l.progress l.machine
+  quiet : IsQuiet l.peripherals (is_enabled l.machine.state.device l.quiet.masks) l.progress.taken l.quiet.until;
+  led : (cs : List Choice) × Leads (setting (IsPicked l.peripherals) l.peripherals l.flash l.assumptions) l.steps (begun l.peripherals) l.initial.machine cs l.progress l.machine
       × (length cs ≡ l.step);
 }

@@ -35,14 +35,14 @@ returns-in-Ok-put_all-clause-ends g c =
 
 pub returns-in-Ok-put_all-clause-simulated : goal.returns-in-Ok-put_all-clause-simulated
 returns-in-Ok-put_all-clause-simulated g c =
-    λ device steps firmware devices list simulating zero.
+    λ device steps firmware peripherals list simulating zero.
     c.written_answers_hold.ensures.simulated (command_of (map (λ (w : Bor (List ℕ)). w.now) c.args.words.now)) (g.F.Files.holds c.args.files.now) c.in-Ok.reply.status
     (g.K.Sink.written c.args.out.now) (g.K.Sink.written c.put_all.new.out)
-    (written_of _ _ _ _ _ c.in-Ok.reply.status c.in-Ok.reply.text.items _ _ c.in-Ok.ensures (zero_apart c.in-Ok.reply.status zero) (c.in-Ok-put_all.ensures.whole ∙ ap (grown (g.K.Sink.written c.args.out.now)) c.deref.ensures.value)) device steps firmware devices list simulating zero
+    (written_of _ _ _ _ _ c.in-Ok.reply.status c.in-Ok.reply.text.items _ _ c.in-Ok.ensures (zero_apart c.in-Ok.reply.status zero) (c.in-Ok-put_all.ensures.whole ∙ ap (grown (g.K.Sink.written c.args.out.now)) c.deref.ensures.value)) device steps firmware peripherals list simulating zero
 
-pub returns-in-Ok-put_all-clause-devices : goal.returns-in-Ok-put_all-clause-devices
-returns-in-Ok-put_all-clause-devices g c =
+pub returns-in-Ok-put_all-clause-peripherals : goal.returns-in-Ok-put_all-clause-peripherals
+returns-in-Ok-put_all-clause-peripherals g c =
     λ three four twelve.
-    c.written_answers_hold.ensures.devices (command_of (map (λ (w : Bor (List ℕ)). w.now) c.args.words.now)) (g.F.Files.holds c.args.files.now) c.in-Ok.reply.status
+    c.written_answers_hold.ensures.peripherals (command_of (map (λ (w : Bor (List ℕ)). w.now) c.args.words.now)) (g.F.Files.holds c.args.files.now) c.in-Ok.reply.status
     (g.K.Sink.written c.args.out.now) (g.K.Sink.written c.put_all.new.out)
     (written_of _ _ _ _ _ c.in-Ok.reply.status c.in-Ok.reply.text.items _ _ c.in-Ok.ensures three (c.in-Ok-put_all.ensures.whole ∙ ap (grown (g.K.Sink.written c.args.out.now)) c.deref.ensures.value))

@@ -1,9 +1,9 @@
-//! The devices that are connected to a machine.
+//! The peripherals that are connected to a machine.
 
 ghost use Rattle.std.specs.Prelude.{◌≡◌, ◌<◌, ◌+◌, ◌*◌, ℕ, false, length, Some, slice_get};
 ghost use Rattle.std.specs.Option.{option_map};
 ghost use Rattle.text_base.specs.Answers.{Answers};
-ghost use Rattle.peripherals.specs.declared.devices.DevicesFault.TheVariants as fault;
+ghost use Rattle.peripherals.specs.declared.peripherals.PeripheralsFault.TheVariants as fault;
 ghost use Rattle.peripherals.specs.Reading.{setup_in};
 ghost use Rattle.peripherals.specs.Exact.{AnswersSpelledSetup, IsSetupDueUnlessMemory};
 ghost use Rattle.peripherals.specs.Due.{is_timer, is_of, is_left, is_due, input_after};
@@ -107,12 +107,12 @@ impl Source {
 
 /// A fill byte for registers and SRAM at reset, and up to 32 interrupt sources; contracts see these.
 #[derive(Drop)]
-pub struct Devices {
+pub struct Peripherals {
     fill: u8,
     sources: Vec<Source>,
 }
 
-impl Model for Devices {
+impl Model for Peripherals {
     ghost use Rattle.peripherals.specs.Spelling.{Setup};
 
     ghost Value = { Setup };
@@ -122,46 +122,46 @@ impl Model for Devices {
 
 /// Why a text is refused, or not read.
 #[derive(Clone, Copy, Drop)]
-pub enum DevicesFault {
-    /// No text of devices continues with the line at this offset. If a line is missing, this is the text's length.
+pub enum PeripheralsFault {
+    /// No text of peripherals continues with the line at this offset. If a line is missing, this is the text's length.
     Malformed(usize),
     /// Out of memory.
     Memory,
 }
 
-impl From<Malformed> for DevicesFault {
+impl From<Malformed> for PeripheralsFault {
     ghost use Rattle.std.specs.Prelude.{◌≡◌};
-    ghost use Rattle.peripherals.specs.declared.devices.DevicesFault.{DevicesFault};
-    ghost use Rattle.peripherals.specs.declared.devices.DevicesFault.TheVariants.{Malformed as MalformedAt};
+    ghost use Rattle.peripherals.specs.declared.peripherals.PeripheralsFault.{PeripheralsFault};
+    ghost use Rattle.peripherals.specs.declared.peripherals.PeripheralsFault.TheVariants.{Malformed as MalformedAt};
 
     ghost from_gives = { λ fault e. e ≡ MalformedAt fault.0 };
 
-    fn from(fault: Malformed) -> DevicesFault {
-        DevicesFault::Malformed(fault.0)
+    fn from(fault: Malformed) -> PeripheralsFault {
+        PeripheralsFault::Malformed(fault.0)
     }
 }
 
-impl From<AllocError> for DevicesFault {
+impl From<AllocError> for PeripheralsFault {
     ghost use Rattle.std.specs.Prelude.{◌≡◌};
-    ghost use Rattle.peripherals.specs.declared.devices.DevicesFault.TheVariants.{Memory};
+    ghost use Rattle.peripherals.specs.declared.peripherals.PeripheralsFault.TheVariants.{Memory};
 
     ghost from_gives = { λ fault e. e ≡ Memory };
 
-    fn from(_fault: AllocError) -> DevicesFault {
-        DevicesFault::Memory
+    fn from(_fault: AllocError) -> PeripheralsFault {
+        PeripheralsFault::Memory
     }
 }
 
-impl Devices {
-    pub(crate) fn new(fill: u8, sources: Vec<Source>) -> Devices
+impl Peripherals {
+    pub(crate) fn new(fill: u8, sources: Vec<Source>) -> Peripherals
         ensures { result ≡ record { fill = fill; sources = sources.items } }
     {
-        Devices { fill, sources }
+        Peripherals { fill, sources }
     }
 
-    /// Parses a text of devices that are connected to this AVR. Fails with `Malformed` exactly if the text is none, with the offset of the first line with which none
+    /// Parses a text of peripherals that are connected to this AVR. Fails with `Malformed` exactly if the text is none, with the offset of the first line with which none
     /// continues, or with the text's length if a line is missing. Source: own.
-    pub fn read(alloc: Global, device: Device, text: &[u8]) -> Result<Devices, DevicesFault>
+    pub fn read(alloc: Global, device: Device, text: &[u8]) -> Result<Peripherals, PeripheralsFault>
         ensures exact { Answers (λ d. d) fault.Memory result (setup_in device text.now) }
         ensures told { IsSetupDueUnlessMemory device text.now result }
         ensures spelled { AnswersSpelledSetup device text.now result }

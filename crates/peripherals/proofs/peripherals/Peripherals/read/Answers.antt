@@ -1,5 +1,5 @@
 use Rattle.peripherals.proofs.Exact.{due, answers_spelled}
-use Rattle.peripherals.proofs.devices.Devices.read.Goals as goal
+use Rattle.peripherals.proofs.peripherals.Peripherals.read.Goals as goal
 
 pub returns-clause-told : goal.returns-clause-told
 returns-clause-told c = due c.reading_is_exact.ensures.read c.reading_is_exact.ensures.refused c.args.device c.args.text.now c.read_setup.result c.read_setup.ensures

@@ -1,7 +1,7 @@
-//! Texts of devices. Refused texts, and runs that devices choose, are in tests/end_to_end.
+//! Texts of peripherals. Refused texts, and runs that peripherals choose, are in tests/end_to_end.
 
 use avr_model::device::Device;
-use peripherals::Devices;
+use peripherals::Peripherals;
 use row_tests::WorkedRow;
 use std::alloc::Global;
 
@@ -9,7 +9,7 @@ use std::alloc::Global;
 pub struct Text(&'static [u8], usize);
 
 pub static TEXTS: [(&str, &[Text]); 1] = [(
-    "devices",
+    "peripherals",
     &[
         Text(b"devices 1\nfill 00\nend\n", 0),
         Text(b"devices 1\nfill FF\ntimer 2 10 20\nend\n", 1),
@@ -22,8 +22,8 @@ pub static TEXTS: [(&str, &[Text]); 1] = [(
 
 impl WorkedRow for Text {
     fn holds(&self, alloc: Global) -> bool {
-        match Devices::read(alloc, Device::M328, self.0) {
-            Ok(devices) => devices.count() == self.1,
+        match Peripherals::read(alloc, Device::M328, self.0) {
+            Ok(peripherals) => peripherals.count() == self.1,
             Err(_) => false,
         }
     }
