@@ -18,7 +18,7 @@ from stackcheck_tools.analysis.trials import DEVICE_LINES, Run, Scope, Stop, Tri
 from stackcheck_tools.analysis.widening import Lists, widen
 from stackcheck_tools.firmware import candidates, opcodes
 from stackcheck_tools.firmware.firmware import Firmware
-from stackcheck_tools.spec import recursion, scratch
+from stackcheck_tools.spec import parameters, recursion, scratch
 from stackcheck_tools.spec.lines import Lines
 from stackcheck_tools.spec.recursion import Recursion
 from stackcheck_tools.spec.sites import frames_of
@@ -29,6 +29,7 @@ MOST_TRIED = 8  # lines that are tried one by one where they aren't accepted tog
 TABLES = "__tablejump2__"
 R0 = 0  # a register that no compiled store means
 MOST_PUSHES = 16  # pushes that are tried one by one for a line `scratch`
+MOST_PARAMETERS = 2000  # pushes of parameters that get a line `scratch`
 
 
 class Analysis:
@@ -161,8 +162,8 @@ class Mending(Analysis):
         return status == DEVICES
 
     def add_scratch(self) -> None:
-        """Lines for the pushes of avr-libc's `exp`, whose bytes are written on purpose."""
-        found = scratch.of_exp(self.elf)
+        """Lines for the pushes of parameters, and for those of avr-libc's `exp`, whose bytes are written on purpose."""
+        found = scratch.of_exp(self.elf) + list(parameters.pushes(self.elf))[:MOST_PARAMETERS]
         if found and self.knows(scratch.KIND, found[0]):
             for word in found:
                 self.lines.add(word, scratch.KIND)

@@ -26,8 +26,6 @@ if TYPE_CHECKING:
     from stackcheck_tools.report.interrupts import Cost
     from stackcheck_tools.report.needs import Difference
 
-NOT_MOVED = "IVSEL is not checked without the line `masks`: the bound takes the interrupt vectors to be at 0"
-
 
 class Part:
     """A number of bytes and what it is of."""
@@ -164,8 +162,6 @@ def tell_premises(found: Accepted, program: Program, certificate: str) -> None:
         found.rests_on += [f"assumed: {it}" for it in found.written]
     if found.told_of_masks:
         found.rests_on.append(found.told_of_masks)
-    elif found.firmware.device.moving and found.firmware.device.is_first() and not found.own.has_masks():
-        found.rests_on.append(NOT_MOVED)
     found.rests_on += narrower(found.firmware, found.lists, found.own)
     if lines is None:
         found.rests_on.append("This stackbound does not list the places where a step may be flagged; the tool `flagged` finds some.")

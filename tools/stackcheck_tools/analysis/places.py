@@ -13,6 +13,7 @@ from stackcheck_tools.analysis import core_registers
 from stackcheck_tools.analysis.causes import Cause
 from stackcheck_tools.analysis.kinds import CALLS, CORES, GIVEN, MOVES, ORDINARY, SAFETY, STORES, VECTORS, WHOLE, counted
 from stackcheck_tools.analysis.node_values import Nodes
+from stackcheck_tools.analysis.warnings_of_words import MOVED
 from stackcheck_tools.analysis.widening import RECORDS
 from stackcheck_tools.firmware import debug_lines, fuses, opcodes, start_up
 from stackcheck_tools.firmware.elf import CODE_END, Elf
@@ -32,7 +33,6 @@ MOST_WORDS = 4  # word addresses that one entry prints
 START = ("__do_clear_bss", "__do_copy_data")
 Z = 30  # the pair of a call
 WHY = "say here why it keeps the bound"
-MOVED = "may move the interrupt vectors (IVSEL); the bound takes them to be at 0"
 
 
 class Place:

@@ -16,7 +16,6 @@ if TYPE_CHECKING:
     from stackcheck_tools.firmware.firmware import Firmware
     from stackcheck_tools.spec.lines import Lines
 
-RETURN = 2  # bytes of a return address
 KIND = "recur"
 PLACE = "recursion"  # a kind of places: calls of which such a line speaks
 MOST_STATES = 2_000_000  # tuples of counts with an instance each
@@ -149,8 +148,8 @@ class Nest:
                     continue
                 found[edge.cut][counts[edge.cut]] = max(found[edge.cut][counts[edge.cut]], depth)
                 to = counts[:edge.cut] + (counts[edge.cut] + 1,) + counts[edge.cut + 1:]
-            if base.get((to, edge.to), -1) < depth + RETURN:
-                base[to, edge.to] = depth + RETURN
+            if base.get((to, edge.to), -1) < depth + self.device.back:
+                base[to, edge.to] = depth + self.device.back
 
 
 def numbered(recursions: List[Recursion]) -> List[Tuple[int, Recursion]]:

@@ -28,8 +28,8 @@ START_UP = "@startup"
 
 def assumption_line(device: Device, kind: str, place: int, items: Set[int]) -> str:
     """The line of an assumption file of this kind, at this word, with these items: a depth, data addresses or words."""
-    item = str if kind == recursion.KIND else "{:04X}".format if kind == "store" else device.word
-    return " ".join([kind, *([] if place == NOWHERE else [device.word(place)]), *map(item, sorted(items))])
+    told = [str(it) if kind == recursion.KIND else f"{it:04X}" if kind == "store" else device.word(it) for it in sorted(items)]
+    return " ".join([kind, *([] if place == NOWHERE else [device.word(place)]), *told])
 
 
 class Line:
@@ -104,7 +104,8 @@ def is_of_form(kind: str, rest: List[str]) -> bool:
     form = FORMS[kind].split()
     if kind in AT_SITES and rest and AT_LINE.match(rest[0]):
         form.pop(0)
-    return len(rest) >= len(form) if form[-1:] == [".."] else len(rest) == len(form)
+    least = len(form) - (kind == scratch.KIND)  # one number is enough there
+    return len(rest) >= least if form[-1:] == [".."] else len(rest) == len(form)
 
 
 def words_of(line: str) -> List[str]:
