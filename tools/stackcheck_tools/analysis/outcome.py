@@ -105,7 +105,7 @@ def refuse(firmware: Firmware, spec: str, given: str, work: Mending) -> Refused:
     found.places += others(firmware, work, name, word)
     found.reasons = refusals.reasons(firmware, work, refusal) or list(refusals.of_cause(firmware, name))
     found.cause, found.cure = refusals.overriding(name, found.reasons) or (found.cause, found.cure)
-    found.cure_lines = lines_for(firmware, work, name) or list(cycles.lines(firmware, work))
+    found.cure_lines = lines_for(firmware, work, name) or list(cycles.lines(work))
     return found
 
 

@@ -148,8 +148,8 @@ class Look:
         """What kind of place a word is, by what may happen there and by whose line speaks of it."""
         cause, lines = self.outcome.causes.get(word, Cause()), self.lines
         is_transfer = cause.transfer and not cause.addresses and not cause.live and not lines.has(word, "jump")
-        if is_transfer and recursion.of_call(self.elf, lines, self.outcome.recursions, word):
-            return recursion.PLACE
+        if is_transfer and (limit := recursion.of_call(self.elf, lines, self.outcome.recursions, word)):
+            return recursion.BY_RUNS if limit.is_by_runs() else recursion.PLACE
         if cause.transfer or not cause and word not in self.cores:
             if lines.is_given(word, "jump") and not self.unlisted(word):
                 return GIVEN
@@ -174,6 +174,8 @@ class Look:
         if kind == CORES:
             names = self.cores[word]
             yield f"may write {' '.join(names)}, whose {'address stands' if len(names) == 1 else 'addresses stand'} in this file"
+        if kind == recursion.BY_RUNS and (limit := recursion.of_call(self.elf, self.lines, self.outcome.recursions, word)):
+            yield limit.by_runs()
         if kind in (CALLS, WHOLE):
             text = self.outcome.firmware.device.word
             yield from (f"its pointer is {text(it)} here, which its list does not have" for it in self.unlisted(word))
@@ -190,7 +192,8 @@ def put(look: Look, entry: Place, word: int) -> None:
     entry.words.append(word)
     entry.kinds[word] = kind
     entry.may_enable = entry.may_enable or kind == SAFETY and bool(outcome.own.sites("never")) and may_enable(look.nodes, word, cause)
-    entry.cause.join(cause)
+    if kind != recursion.BY_RUNS:
+        entry.cause.join(cause)
     entry.warned += [it for it in look.texts(word, kind) if it not in entry.warned]
     if word in outcome.closers:
         entry.closers.append(outcome.closers[word])
@@ -242,7 +245,10 @@ def entries(outcome: Told) -> List[Place]:
         entry.kinds[warned.word] = warned.kind
         entry.warned.append(warned.text)
     for entry in found.values():
-        if entry.is_ordinary():
+        limit = recursion.of_call(outcome.firmware.elf, outcome.own, outcome.recursions, entry.words[0]) if entry.words else None
+        if limit and limit.is_by_runs():
+            entry.keep = limit.line()
+        elif entry.is_ordinary():
             entry.keep = keep_line(outcome, entry)
     return [*found.values(), *entry_of_fuses(outcome)]
 
@@ -284,7 +290,7 @@ def judge(outcome: Accepted, keeps: List[Keep]) -> List[Keep]:
     """Notes at each entry the line that judges it, and returns the lines that judge none."""
     idle = []
     for keep in keeps:
-        judged = [it for it in outcome.entries if is_of(outcome.firmware.elf, keep, it)]
+        judged = [it for it in outcome.entries if recursion.BY_RUNS not in it.kinds.values() and is_of(outcome.firmware.elf, keep, it)]
         for it in judged:
             it.judged = it.judged or keep
         if not judged:

@@ -62,7 +62,7 @@ def holds(outcome: Accepted) -> str:
     if outcome.premises is None:
         return "for every run up to its first flagged step; this stackbound does not list where that may be"
     conditions = [*recursion.conditions(outcome.recursions),
-                  *(condition(outcome, kind, count) for kind in ORDINARY if (count := count_of(outcome, (kind,))))]
+                  *(condition(outcome, kind, count) for kind in ORDINARY if kind in CONDITIONS and (count := count_of(outcome, (kind,))))]
     language = of_language(outcome)
     given = " that keeps to the lines of the spec" if count_of(outcome, (GIVEN,)) else ""
     if conditions:
