@@ -60,7 +60,7 @@ class Limits:
     runs call none of them, or deeper than can be counted."""
 
     def __init__(self, work: Mending, entries: List[int], certificate: str) -> None:
-        self.work, self.entries = work, entries
+        self.work, self.entries, self.refusal = work, entries, work.refusal or ""
         self.given = recursion.numbered(work.recursions)
         self.nest = recursion.Nest(work.firmware, certificate, [*entries, *(entry for entry, _ in self.given)])
         self.trials = work.trials(work.folder, ANY)
@@ -71,7 +71,7 @@ class Limits:
         """Whether a run calls a word with more bytes on the stack."""
         lines = lines_at(self.work, self.entries, recursion.greatest(self.work.device))
         lines.give(entry, recursion.KIND, {depth})
-        self.work.program(lines)
+        self.trials.program = self.work.program(lines)
         stop = self.trials.short(number)
         return stop is not None and stop.kind == "transfer" and stop.other == entry
 
@@ -89,7 +89,7 @@ class Limits:
 
     def deepest(self, number: int) -> int:
         """How deep a run goes, wherever."""
-        self.work.program(lines_at(self.work, self.entries, recursion.greatest(self.work.device)))
+        self.trials.program = self.work.program(lines_at(self.work, self.entries, recursion.greatest(self.work.device)))
         self.trials.deepest = None
         self.trials.short(number)
         return min(self.trials.deepest or 0, recursion.greatest(self.work.device))

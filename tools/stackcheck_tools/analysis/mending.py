@@ -11,7 +11,7 @@ import os
 from typing import Callable, Dict, Iterable, List, Optional, Set, Tuple
 
 from stackcheck_tools.analysis import causes, core_registers, cycles, mask_cost
-from stackcheck_tools.analysis.cures import REFUSAL, parts
+from stackcheck_tools.analysis.cures import CURES, REFUSAL, cure, parts
 from stackcheck_tools.analysis.node_values import Nodes
 from stackcheck_tools.analysis.program import DEVICES, OK, REFUSED, USAGE, NoProgram, Program
 from stackcheck_tools.analysis.trials import DEVICE_LINES, Run, Scope, Stop, Trials, handled, scope
@@ -215,6 +215,12 @@ class Mending(Analysis):
             self.recursions += self.limits.lines
             self.certificate = self.refusal = None
             self.mend()
+
+    def cure_of_recursion(self) -> Optional[str]:
+        """What helps against a recursion that is taken to be as deep as the runs."""
+        if self.limits is None or not any(it.is_by_runs() for it in self.recursions):
+            return None
+        return CURES[cure(self.elf, self.device, self.limits.refusal, self.lines)[0]][2]
 
     def begin_with_masks(self) -> bool:
         """Writes `masks`, where the device doesn't make it needless, with `never` lines for the vectors that have no handler; whether that

@@ -62,7 +62,8 @@ class Accepted:
     certificate: str
     own: Lines  # the lines under which it was accepted
     lists: Lists  # of calls through pointers
-    recursions: List[recursion.Recursion] = field(default_factory=list)  # of the spec, with the depths that they came to
+    recursions: List[recursion.Recursion] = field(default_factory=list)  # of the spec or by runs, with the depths that they came to
+    cure: Optional[str] = None  # of a recursion that is as deep as the runs
     seen: Optional[int] = None
     told_of_masks: Optional[str] = None  # what the line `masks` costs, or why it was left out
     flagged: Optional[str] = None
@@ -156,7 +157,8 @@ def tell_premises(found: Accepted, program: Program, certificate: str) -> None:
         kind, *words = line.split()
         if kind not in UNASSUMED:
             found.rests_on.append(f"assumed: {line}, at {found.firmware.place_of_line(kind, int(words[0], 16))}")
-    found.rests_on += [it.told() for it in found.recursions]
+    found.rests_on += [line for it in found.recursions for line in it.told()]
+    found.rests_on += [f"cure: {found.cure}"] if found.cure else []
     if found.written:
         found.rests_on.append(f"lines of its own (--plain leaves them out, --write-spec FILE keeps them): {len(found.written)}")
         found.rests_on += [f"assumed: {it}" for it in found.written]
@@ -191,7 +193,7 @@ def take(firmware: Firmware, spec: str, given: str, work: Mending, words: Namesp
     """Judges the certificate that was found, and gathers what is told of it."""
     made = work.certificate or ""
     found = Accepted(firmware, spec, given, list(written(firmware, work.lines)), made, work.lines, work.lists, work.recursions,
-                     work.deepest, work.told_of_masks)
+                     work.cure_of_recursion(), work.deepest, work.told_of_masks)
     if work.stop:
         found.flagged, found.stop = flagged(firmware, work, work.stop), work.stop
     program, certificate = work.program(), os.path.join(folder, "certificate")

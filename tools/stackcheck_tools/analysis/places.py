@@ -140,6 +140,10 @@ class Look:
         """The numbers that the pointer of a call is known to be and that its list doesn't have."""
         return sorted(self.nodes.known(word, Z) - self.lines.of(word, "jump"))
 
+    def limit(self, word: int) -> Optional[recursion.Recursion]:
+        """The line `recursion` that speaks of a call."""
+        return recursion.of_call(self.elf, self.lines, self.outcome.recursions, word)
+
     def is_by_name(self, word: int) -> bool:
         """Whether an instruction writes one address that is known."""
         return not opcodes.is_pointer_store(self.elf.word(word)) or self.nodes.fixed(word)
@@ -148,12 +152,14 @@ class Look:
         """What kind of place a word is, by what may happen there and by whose line speaks of it."""
         cause, lines = self.outcome.causes.get(word, Cause()), self.lines
         is_transfer = cause.transfer and not cause.addresses and not cause.live and not lines.has(word, "jump")
-        if is_transfer and (limit := recursion.of_call(self.elf, lines, self.outcome.recursions, word)):
+        limit = self.limit(word)
+        if is_transfer and limit:
             return recursion.BY_RUNS if limit.is_by_runs() else recursion.PLACE
         if cause.transfer or not cause and word not in self.cores:
-            if lines.is_given(word, "jump") and not self.unlisted(word):
-                return GIVEN
-            return WHOLE if word in self.outcome.lists.whole and not self.unlisted(word) else CALLS
+            is_known = lines.is_given(word, "jump") or word in self.outcome.lists.whole
+            if not is_known or self.unlisted(word):
+                return CALLS
+            return recursion.BY_RUNS if limit and limit.is_by_runs() else GIVEN if lines.is_given(word, "jump") else WHOLE
         if cause.moves and self.is_by_name(word):
             return MOVES
         if word in self.cores:
@@ -174,7 +180,7 @@ class Look:
         if kind == CORES:
             names = self.cores[word]
             yield f"may write {' '.join(names)}, whose {'address stands' if len(names) == 1 else 'addresses stand'} in this file"
-        if kind == recursion.BY_RUNS and (limit := recursion.of_call(self.elf, self.lines, self.outcome.recursions, word)):
+        if kind == recursion.BY_RUNS and (limit := self.limit(word)):
             yield limit.by_runs()
         if kind in (CALLS, WHOLE):
             text = self.outcome.firmware.device.word
@@ -245,9 +251,9 @@ def entries(outcome: Told) -> List[Place]:
         entry.kinds[warned.word] = warned.kind
         entry.warned.append(warned.text)
     for entry in found.values():
-        limit = recursion.of_call(outcome.firmware.elf, outcome.own, outcome.recursions, entry.words[0]) if entry.words else None
-        if limit and limit.is_by_runs():
-            entry.keep = limit.line()
+        if by_runs := [word for word, kind in entry.kinds.items() if kind == recursion.BY_RUNS]:
+            limit = look.limit(int(by_runs[0]))
+            entry.keep = limit.line() if limit else None
         elif entry.is_ordinary():
             entry.keep = keep_line(outcome, entry)
     return [*found.values(), *entry_of_fuses(outcome)]

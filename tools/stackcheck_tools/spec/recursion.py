@@ -52,13 +52,14 @@ class Recursion:
         """What is told of a call of such a function."""
         return f"calls {self.name}, of which the simulated runs had at most {self.count} on the stack"
 
-    def told(self) -> str:
-        """What the line came to: the deepest call, and what each further activation takes."""
+    def told(self) -> Iterator[str]:
+        """Yields what the line came to: the deepest call, and what each further activation takes; and the line to copy, if the spec has none."""
         entry = max(self.entries, key=lambda it: self.depths.get(it, 0))
         step = self.steps.get(entry)
         more = f" ({step} for each further activation)" if step else ""
         seen = ", as deep as the simulated runs" if self.is_by_runs() else ""
-        return f"{KIND_OF_SPEC} {self.name} {self.count}{seen}: calls up to {self.depths.get(entry, 0)} bytes deep{more}"
+        yield f"{KIND_OF_SPEC} {self.name} {self.count}{seen}: calls up to {self.depths.get(entry, 0)} bytes deep{more}"
+        yield from [f"spec: {self.line()}"] * self.is_by_runs()
 
 
 def read(elf: Elf, number: int, words: List[str], why: str) -> Recursion:
@@ -206,6 +207,10 @@ def line_at(recursions: List[Recursion], word: Optional[int]) -> Optional[Recurs
 def conditions(recursions: List[Recursion]) -> Iterator[str]:
     """Yields what the first line says of them."""
     yield from (f"{it.name} nests at most {it.count} deep" for it in recursions if not it.is_by_runs())
+
+
+def conditions_by_runs(recursions: List[Recursion]) -> Iterator[str]:
+    """Yields the same of those without a line in the spec."""
     if by_runs := [f"{it.name} nests at most {it.count} deep" for it in recursions if it.is_by_runs()]:
         yield " and ".join(by_runs) + ", as deep as the runs of this call"
 
