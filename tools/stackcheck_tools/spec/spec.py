@@ -28,8 +28,10 @@ START_UP = "@startup"
 
 def assumption_line(device: Device, kind: str, place: int, items: Set[int]) -> str:
     """The line of an assumption file of this kind, at this word, with these items: a depth, data addresses or words."""
-    told = [str(it) if kind == recursion.KIND else f"{it:04X}" if kind == "store" else device.word(it) for it in sorted(items)]
-    return " ".join([kind, *([] if place == NOWHERE else [device.word(place)]), *told])
+    def item(number: int) -> str:
+        return str(number) if kind == recursion.KIND else f"{number:04X}" if kind == "store" else device.word(number)
+
+    return " ".join([kind, *([] if place == NOWHERE else [device.word(place)]), *map(item, sorted(items))])
 
 
 class Line:
