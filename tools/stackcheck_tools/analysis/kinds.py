@@ -13,11 +13,12 @@ if TYPE_CHECKING:
 # a correct program may be flagged there
 CALLS, STORES, VECTORS, CORES, MOVES, UNSET = "calls", "stores", "vectors", "cores", "moves", "unset"
 SAFETY, WHOLE = "memory safety", "whole lists"  # only a program without a meaning in its language is
+UNUSED = "unused units"  # a vector of a unit of which the firmware writes no register
 GIVEN = "given"  # the spec says itself what happens there
 ORDINARY = (CALLS, STORES, VECTORS, CORES, MOVES, UNSET, FUSES, BY_RUNS)
 WORDS = {CALLS: "call{s}", STORES: "store{s}", VECTORS: "vector{s}", CORES: "store{s} near the core", MOVES: "write{s} of {moving}",
          UNSET: "use{s} of the stack before SPL is written", FUSES: "fuse{s}", SAFETY: "of memory safety",
-         WHOLE: "call{s} with a complete list", GIVEN: "given line{s}",
+         WHOLE: "call{s} with a complete list", UNUSED: "vector{s} of unused units", GIVEN: "given line{s}",
          PLACE: "limited call{s}", BY_RUNS: "call{s} as deep as the runs"}
 
 

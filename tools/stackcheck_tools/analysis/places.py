@@ -9,9 +9,9 @@ from __future__ import annotations
 import os
 from typing import TYPE_CHECKING, Dict, Iterator, List, Optional, Set, Tuple, Union
 
-from stackcheck_tools.analysis import core_registers
+from stackcheck_tools.analysis import core_registers, units
 from stackcheck_tools.analysis.causes import Cause
-from stackcheck_tools.analysis.kinds import CALLS, CORES, GIVEN, MOVES, ORDINARY, SAFETY, STORES, VECTORS, WHOLE, counted
+from stackcheck_tools.analysis.kinds import CALLS, CORES, GIVEN, MOVES, ORDINARY, SAFETY, STORES, UNUSED, VECTORS, WHOLE, counted
 from stackcheck_tools.analysis.node_values import Nodes
 from stackcheck_tools.analysis.warnings_of_words import MOVED
 from stackcheck_tools.analysis.widening import RECORDS
@@ -206,15 +206,17 @@ def put(look: Look, entry: Place, word: int) -> None:
         entry.closers.append(outcome.closers[word])
 
 
-def entry_of_vector(outcome: Told, word: int) -> Place:
+def entry_of_vector(outcome: Told, nodes: Nodes, word: int) -> Place:
     """The entry of a vector that a `never` line names."""
     number = outcome.firmware.device.vector_of(word)
     vector = outcome.firmware.handler(number)
     is_given, device = outcome.own.is_given(word, "never"), outcome.firmware.device
-    why = "no header names its enable bit" if device.is_open(number) else "may be enabled"
+    is_unused = device.is_open(number) and not units.uses_nameless(outcome.firmware.elf, nodes)
+    why = "may be enabled" if not device.is_open(number) else \
+        "its unit is not used: no register is written that the header does not name" if is_unused else "no header names its enable bit"
     told = "a `never` line says that it is not entered" if is_given else f"it has no handler, and {why}"
     entry = Place(device, vector, f"{vector}: {told}")
-    entry.kinds[word] = GIVEN if is_given else VECTORS
+    entry.kinds[word] = GIVEN if is_given else UNUSED if is_unused else VECTORS
     return entry
 
 
@@ -235,7 +237,7 @@ def entries(outcome: Told) -> List[Place]:
     for line in outcome.premises or ():
         kind, at = line.split()[:2]
         if kind == "never":
-            found[line] = entry_of_vector(outcome, int(at, 16))
+            found[line] = entry_of_vector(outcome, look.nodes, int(at, 16))
         elif kind == "at":
             put(look, entry_of(outcome, int(at, 16), found), int(at, 16))
         else:

@@ -142,6 +142,14 @@ atmega8hva battery manager: 6 to 9 vectors without a known bit
 m3000 the header names no vectors
 """
 
+# The data addresses of the registers that headers name, of devices with a vector whose enable bit none has.
+NAMED = """\
+attiny1634 0020-004D 004F-0050 0052-0057 0059-007F
+attiny828 0020-002F 0034-0036 003B-0041 0043-0048 004A-0050 0053-0057 005D-0061 0064 0066-0069 006B-006F 0073 0078-0082 0084-008B 00B8-00BD 00C0-00C6 00DE-00DF 00E2 00E8-00E9 00F0-00F1
+atmega324pb 0020-002E 0035-0039 003B-0048 004A-0050 0053-0055 0057 005D-0061 0064-0066 0068-0069 006B-0073 0078-007C 007E-0082 0084-008B 0090-0092 0094-009B 00AC-00AE 00B0-00B4 00B6 00B8-00BD 00C0-00C2 00C4-00C6 00C8-00CA 00CC-00CE 00D8-00DD
+atmega328pb 0023-002E 0035-0039 003B-0048 004A-0050 0053-0055 0057 005D-0061 0064-0066 0068-0069 006B-0073 0078-007C 007E-0082 0084-008B 0090-0092 0094-009B 00AC-00AE 00B0-00B4 00B6 00B8-00BD 00C0-00C2 00C4-00C6 00C8-00CA 00CC-00CE 00D8-00DD
+"""
+
 # The lists of vectors. A line for each: its number; the places of its enable bit (names of the register, data address, mask), behind `~` if
 # the vector stays enabled, or `open` if none is known; and its names without `_vect`. Reserved vectors have no line.
 VECTORS = (

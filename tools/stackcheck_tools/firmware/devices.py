@@ -7,7 +7,7 @@ import functools
 import re
 from typing import TYPE_CHECKING, Iterator, List, NamedTuple, Optional, Tuple
 
-from stackcheck_tools.firmware.device_table import CLASSES, LEFT_OUT, VECTORS
+from stackcheck_tools.firmware.device_table import CLASSES, LEFT_OUT, NAMED, VECTORS
 
 if TYPE_CHECKING:
     from stackcheck_tools.firmware.elf import Elf
@@ -15,6 +15,7 @@ if TYPE_CHECKING:
 FIRST = ("atmega48pa", "atmega88pa", "atmega168pa", "atmega328p")  # those of certificates without a device's name
 DEFAULT = "atmega328p"  # the one that stackbound takes without --device
 MOST_NEAR, ALIKE = 4, 0.85
+R0_TO_R31 = 32  # data addresses of the working registers
 # protected registers with their data addresses; some devices lack SPH, RAMPZ or EIND
 CORE = {**{f"r{n}": n for n in range(32)}, "RAMPZ": 0x5B, "EIND": 0x5C, "SPL": 0x5D, "SPH": 0x5E, "SREG": 0x5F}
 OTHER_CORES = (  # names of chips that no row of the table can describe, and why
@@ -118,9 +119,22 @@ class Device:
         """Whether no known bit enables a vector, which then counts as enabled."""
         return not self.rows[vector].places
 
+    def is_nameless(self, address: int) -> bool:
+        """Whether no header names the register at a data address, on a device with a vector whose enable bit none names: it may have the
+        bit."""
+        return R0_TO_R31 <= address < self.first and not any(begin <= address <= end for begin, end in spans_of(self.name))
+
     def enables_text(self, enables: int) -> str:
         """Enable bits as a certificate writes them, whose lowest is that of vector 2."""
         return f"{enables:0{(self.last_vector + 2) // 4}X}"
+
+
+@functools.lru_cache(maxsize=None)
+def spans_of(name: str) -> Tuple[Tuple[int, int], ...]:
+    """The spans of data addresses of the registers that headers name, of a device with a vector whose enable bit none has."""
+    spans: List[str] = next((line.split()[1:] for line in NAMED.splitlines() if line.split()[0] == name), [])
+    parts = ((first, last or first) for first, _, last in (it.partition("-") for it in spans))
+    return tuple((int(first, 16), int(last, 16)) for first, last in parts)
 
 
 def table() -> Iterator[Tuple[str, List[str]]]:
