@@ -14,7 +14,7 @@ MOST_STATES = 20_000  # words with what is pushed there, of one function
 IN_SPL, IN_SPL_R28, OUT_SPL, POP = 0xB60D, 0xB7CD, 0xBE0D, 0x900F
 RETURNS = (0x9508, 0x9518)
 NEAR = 8  # instructions between a read of the stack pointer and its write
-NONE = -1  # no register
+R0, NONE = 0, -1  # the register that holds nothing for long; no register
 
 
 class Pushed(NamedTuple):
@@ -88,11 +88,11 @@ class Walk:
         self.left += [(to, held) for to in opcodes.following(self.elf, word)]
 
     def popped(self, held: Stack, register: int) -> Stack:
-        """Behind a `pop`: a register that is given back is popped into itself, a parameter into any other. What was pushed before the frame
+        """Behind a `pop`: the compiler pops a parameter into r0, and a register that it kept into itself. What was pushed before the frame
         pointer was read is the frame."""
         if held[-1:] == (None,):
             return (*held[:-2], None)
-        if held and (last := held[-1]) and last.register != register:
+        if held and (last := held[-1]) and register == R0 != last.register:
             self.give_back([last])
         return held[:-1]
 
