@@ -13,7 +13,7 @@ from self_test import SelfTest
 HERE = pathlib.Path(__file__).resolve().parent
 MOST = 16_777_216  # the most equal choices in a line of a schedule
 BOARDS = {"atmega328p": "uno", "atmega2560": "mega2560"}                       # of QEMU
-ARCHITECTURES = {"atmega328p": "avr:5", "atmega1284p": "avr:51", "attiny85": "avr:25", "atmega8": "avr:4"}  # of gdb
+ARCHITECTURES = {"atmega328p": "avr:5", "attiny85": "avr:25", "atmega8": "avr:4"}  # of gdb, which has no `elpm`
 
 
 class Outcome(typing.NamedTuple):
