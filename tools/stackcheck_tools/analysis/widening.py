@@ -25,7 +25,8 @@ UNNAMED = "the file has no names, so no search finds every function whose addres
 UNTRIED = "a bound with every function whose address may be taken was not tried"
 PLAIN = ", except those in tables of virtual functions alone, which it does not read"
 REFUTED = "a simulated run went to {}, which no search and no record names as a function whose address is taken: the list may lack others"
-EMPTY = "the file takes the address of no function, and this call is none of avr-libc's own: its pointer is made in a way that no list knows"
+EMPTY = ("the file takes the address of no function, and this call is none of avr-libc's own: its pointer is made in a way that no list "
+         "knows")
 TOO_MANY = "{} functions have their address taken, and a list has at most {}"
 RECORDS = "link with -Wl,--emit-relocs: then the linker's records name every function whose address is taken"
 
