@@ -5,7 +5,7 @@ from __future__ import annotations
 
 import functools
 import struct
-from typing import Iterable, Iterator, List, NamedTuple, Optional, Set, Tuple
+from typing import Iterable, List, NamedTuple, Optional, Set, Tuple
 
 from stackcheck_tools.firmware.elf import ABSOLUTE, ALLOCATED, BOUNDS, CODE_END, EXECUTED, Elf, text_at
 
@@ -17,11 +17,14 @@ IN_WORDS = (5, 12, 13, 14, 24, 25)  # those of a number of words, R_AVR_16_PM an
 
 
 class Record(NamedTuple):
-    """A record that is no branch: where it stands, its type, and the byte address of code that it names."""
+    """A record: where it stands, its type, the address that it names, the address and the section of its symbol, and the symbol's name."""
 
     place: int
     kind: int
     address: int
+    base: int
+    section: int
+    name: str
 
 
 def sections(elf: Elf) -> List[Tuple[int, ...]]:
@@ -40,26 +43,32 @@ def constructor_lists(elf: Elf) -> Tuple[int, int]:
     return begin, max(elf.all.get("__dtors_end", begin), elf.all.get("__ctors_end", begin))
 
 
-def of_section(elf: Elf, header: Tuple[int, ...]) -> Iterator[Record]:
-    """Yields the records of a section that name a place of code. The linker's own marks are none, nor are symbols without a section."""
-    table = elf.headers[header[6]]
-    names = elf.headers[table[6]][4]
-    for at in range(header[4], header[4] + header[5] - 11, 12):
-        place, info, addend = struct.unpack_from("<IIi", elf.data, at)
-        kind = info & 0xFF
-        if kind in BRANCHES or kind in DIFFERENCES:
-            continue
-        name, value, _, _, _, section = struct.unpack_from("<IIIBBH", elf.data, table[4] + 16 * (info >> 8))
-        if section not in (UNDEFINED, ABSOLUTE) and not text_at(elf.data, names + name).startswith(BOUNDS) and (value + addend) % 2 == 0 \
-                and 0 <= value + addend < CODE_END:
-            yield Record(place, kind, value + addend)
+@functools.lru_cache(maxsize=None)
+def every(elf: Elf) -> Tuple[Record, ...]:
+    """All records of the sections that take memory."""
+    found = []
+    for header in sections(elf):
+        table = elf.headers[header[6]]
+        names = elf.headers[table[6]][4]
+        for at in range(header[4], header[4] + header[5] - 11, 12):
+            place, info, addend = struct.unpack_from("<IIi", elf.data, at)
+            name, value, _, _, _, section = struct.unpack_from("<IIIBBH", elf.data, table[4] + 16 * (info >> 8))
+            found.append(Record(place, info & 0xFF, value + addend, value, section, text_at(elf.data, names + name)))
+    return tuple(found)
+
+
+def names_code(record: Record) -> bool:
+    """Whether a record names a place of code otherwise than by a branch. The linker's own marks are none, nor are symbols without a
+    section."""
+    return record.kind not in BRANCHES and record.kind not in DIFFERENCES and record.section not in (UNDEFINED, ABSOLUTE) \
+        and not record.name.startswith(BOUNDS) and record.address % 2 == 0 and 0 <= record.address < CODE_END
 
 
 @functools.lru_cache(maxsize=None)
 def named(elf: Elf) -> Tuple[Record, ...]:
     """The records that name a place of code, but for those in the lists of constructors and destructors."""
     begin, end = constructor_lists(elf)
-    return tuple(it for header in sections(elf) for it in of_section(elf, header) if not begin <= it.place < end)
+    return tuple(it for it in every(elf) if names_code(it) and not begin <= it.place < end)
 
 
 def words(elf: Elf) -> Set[int]:
@@ -87,4 +96,4 @@ def taken(elf: Elf, but: Iterable[Tuple[int, int]] = ()) -> Optional[Set[int]]:
 
 def places(elf: Elf) -> Set[int]:
     """Where records of this file stand: what is written there is an address of a function or an object, or a half of one."""
-    return {struct.unpack_from("<I", elf.data, at)[0] for it in sections(elf) for at in range(it[4], it[4] + it[5] - 11, 12)}
+    return {it.place for it in every(elf)}

@@ -1,0 +1,417 @@
+"""From where the bytes in registers were loaded, along all ways within one function: what a pair points to, two bytes that are neighbours in
+memory, and what a comparison leaves of a pair. Calls change what a callee may change.
+
+A byte is a tuple whose first element says what it is:
+    given R          what register R held at the function's begin
+    constant B
+    own T            a value of its own
+    half P N H       the lower (H 0) or higher (1) byte of a pair P plus N
+    low P N D        the same, of which the lower byte alone was moved by D so far
+    memory P N T     the byte of memory to which the pair P plus N points
+    flash P N T      the same, of flash
+    fixed A T        the byte of memory at address A
+    frame ..         a byte of the stack pointer
+T is the tag of what gave the value: the word of an instruction and a register, or the same of a joint of ways, whose registers count from
+100. Two bytes with one tag, or told by bytes with one, come of one time that the instruction ran.
+A pair is the tuple of its two bytes. """
+
+from __future__ import annotations
+
+import functools
+import heapq
+from typing import AbstractSet, Dict, FrozenSet, Iterator, List, NamedTuple, Optional, Set, Tuple
+
+from stackcheck_tools.firmware import candidates, effects, opcodes, records, taken
+from stackcheck_tools.firmware.effects import X, Y, Z, ZERO
+from stackcheck_tools.firmware.elf import Elf, Symbol
+
+Byte = Tuple  # type: ignore[type-arg]
+Tag = Tuple[int, int]
+Pair = Tuple[Byte, Byte]
+Bytes = Tuple[Byte, ...]
+Spans = Tuple[Tuple[Pair, int, int], ...]
+
+GIVEN, CONSTANT, OWN, HALF, LOW, MEMORY, FLASH, FIXED = "given", "constant", "own", "half", "low", "memory", "flash", "fixed"
+TAGGED = (OWN, MEMORY, FLASH, FIXED)
+JOINT = 100  # from here on registers of tags are of joints
+FRAME: Pair = (("frame", 0), ("frame", 1))  # the stack pointer at the function's begin
+NOWHERE: Pair = ((CONSTANT, 0), (CONSTANT, 0))  # the base of pairs that are constants
+CHANGED = (0, *range(18, 28), Z, Z + 1)  # registers that a call may change
+BY_TABLE = (0, Z, Z + 1)  # those that `__tablejump2__` does
+SPL, SPH = 0x5D, 0x5E
+SAVES, RESTORES, TABLES = "__prologue_saves__", "__epilogue_restores__", "__tablejump"
+
+
+class State(NamedTuple):
+    """The bytes of the registers; how many bytes were pushed since the function's begin (None: not known), and which; the least and the
+    greatest number that pairs may be on this way, by comparisons."""
+
+    bytes: Bytes
+    depth: Optional[int]
+    pushed: Tuple[Byte, ...]
+    spans: Spans
+
+
+def signed(number: int) -> int:
+    return (number + 0x8000) % 0x10000 - 0x8000
+
+
+def half(pair: Pair, more: int, which: int) -> Byte:
+    """A byte of a pair plus a number."""
+    if pair == NOWHERE:
+        return CONSTANT, more >> 8 * which & 0xFF
+    return (HALF, pair, more, which) if more else pair[which]
+
+
+def pair_of(low: Byte, high: Byte) -> Tuple[Pair, int]:
+    """The pair from which two bytes are made, and what was added to it."""
+    if low[0] == high[0] == HALF and low[1:] == (*high[1:3], 0) and high[3] == 1:
+        return low[1], low[2]
+    if low[0] == high[0] == CONSTANT:
+        return NOWHERE, low[1] | high[1] << 8
+    return (low, high), 0
+
+
+def is_frame(pair: Pair) -> bool:
+    """Whether a pair is made of the stack pointer."""
+    return pair[0][0] == "frame"
+
+
+def are_halves(low: Byte, high: Byte) -> bool:
+    """Whether two bytes lie beside each other in memory."""
+    return low[0] == high[0] and (low[0] == FIXED and low[1] + 1 == high[1]
+                                  or low[0] in (MEMORY, FLASH) and low[1] == high[1] and low[2] + 1 == high[2])
+
+
+def tag_of(byte: Byte) -> Optional[Tag]:
+    return byte[-1] if byte[0] in TAGGED else None
+
+
+def is_of_frame(byte: Byte) -> bool:
+    """Whether a byte is made of the stack pointer by constants."""
+    return byte[0] == "frame" or byte[0] in (HALF, LOW) and is_frame(byte[1])
+
+
+def held(byte: Byte, tags: AbstractSet[Tag]) -> bool:
+    """Whether a byte has one of these tags, or is told by one that has."""
+    kind = byte[0]
+    if kind in (OWN, FIXED):
+        return byte[-1] in tags
+    if kind in (MEMORY, FLASH):
+        return byte[3] in tags or holds(byte[1], tags)
+    return kind in (HALF, LOW) and holds(byte[1], tags)
+
+
+def holds(pair: Pair, tags: AbstractSet[Tag]) -> bool:
+    return held(pair[0], tags) or held(pair[1], tags)
+
+
+class Function:
+    """What is known before each word of a function, and on the ways from its branches. `is_whole`: no way leads into the middle of an
+    instruction."""
+
+    def __init__(self, elf: Elf, symbol: Symbol) -> None:
+        self.elf, self.symbol = elf, symbol
+        self.begin, self.end = (it // 2 for it in elf.extent(symbol))
+        self.words = {word for word, _ in opcodes.words_of(elf, symbol)}
+        self.is_whole = True
+        self.has_high, self.return_bytes = elf.chip.has_sph, 3 if elf.chip.words > 0x10000 else 2
+        self.before: Dict[int, State] = {}
+        self.left: List[int] = []
+        self.labels: Optional[Set[int]] = None
+        self.naming: Set[int] = set()  # words that have given values of their own
+        is_handler = symbol.name.startswith("__vector_")
+        first = tuple((CONSTANT, 0) if it == ZERO and not is_handler else (GIVEN, it) for it in range(32))
+        self.enter(self.begin, State(first, 0, (), ()))
+        for word in sorted(entered_inside(elf).get(symbol.address, ())):
+            self.enter(word, State(tuple((OWN, (word, it)) for it in range(32)), None, (), ()))
+        self.run()
+
+    def enter(self, word: int, state: State) -> None:
+        if not self.begin <= word < self.end:
+            return
+        if word not in self.words:
+            self.is_whole = False
+            return
+        known = self.before.get(word)
+        met = state if known is None else joined(known, state, word)
+        if met != known:
+            self.before[word] = met
+            heapq.heappush(self.left, word)
+
+    def run(self) -> None:
+        while self.left:
+            word = heapq.heappop(self.left)
+            if self.left and self.left[0] == word:
+                continue
+            for to, state in self.ways(word, self.before[word]):
+                self.enter(to, state)
+
+    def ways(self, word: int, state: State) -> Iterator[Tuple[int, State]]:
+        """Yields the words that may follow, and what is known on the way there."""
+        elf, opcode = self.elf, self.elf.word(word)
+        after = word + opcodes.length(opcode)
+        if opcode in (0x9508, 0x9518):
+            return
+        if opcodes.is_jump(opcode):
+            yield from ((to, state) for to in self.to_labels(word))
+        elif (to := opcodes.jump_target(elf, word)) is not None:
+            yield from self.jump(word, to, after, state)
+        elif (to := opcodes.call_target(elf, word)) == after:
+            room = None if state.depth is None else state.depth + self.return_bytes
+            yield after, state._replace(depth=room, pushed=(*state.pushed, *[(OWN, (word, -1 - it)) for it in range(self.return_bytes)]))
+        elif to is not None or opcodes.is_call(opcode):
+            yield after, self.fresh(word, state, CHANGED)
+        else:
+            moved = self.behind(word, opcode, state)
+            for number, to in enumerate(opcodes.following(elf, word)):
+                yield to, moved if opcode & 0xF800 != 0xF000 else self.compared(word, opcode, moved, number == 1)
+
+    def to_labels(self, word: int) -> Set[int]:
+        """The words of this function to which a jump through a pointer may lead."""
+        if table := candidates.table_of_jumps(self.elf, word):
+            return table
+        if self.labels is None:
+            known = records.words(self.elf) if records.has_records(self.elf) else taken.numbers_in_data(self.elf) | taken.numbers_loaded(self.elf)
+            self.labels = (self.words & known) - {self.begin}
+        return self.labels
+
+    def jump(self, word: int, to: int, after: int, state: State) -> Iterator[Tuple[int, State]]:
+        symbol = self.elf.symbol_at(2 * to)
+        name = symbol.name if symbol else ""
+        if name == SAVES:
+            low, high = state.bytes[X], state.bytes[X + 1]
+            size = low[1] | high[1] << 8 if low[0] == high[0] == CONSTANT else None
+            moved = self.fresh(word, state, CHANGED)
+            if size is not None:
+                moved = with_pair(moved, Y, FRAME, -size)
+            else:
+                moved = moved._replace(bytes=(*moved.bytes[:Y], ("frame", word, 0), ("frame", word, 1), *moved.bytes[Y + 2:]))
+            yield after, moved._replace(depth=size, pushed=())
+        elif name.startswith(TABLES) and not self.begin <= to < self.end:
+            moved = self.fresh(word, state, BY_TABLE)
+            yield from ((it, moved) for it in self.to_labels(word))
+        else:
+            yield to, state
+
+    def fresh(self, word: int, state: State, registers: Tuple[int, ...]) -> State:
+        """The state in which a word has given these registers values of their own."""
+        return self.given(word, state, {it: (OWN, (word, it)) for it in registers})
+
+    def given(self, word: int, state: State, made: Dict[int, Byte]) -> State:
+        """The state in which a word has given registers these values. What was told by those that the same word gave before, in a loop,
+        isn't known any more."""
+        if word in self.naming:
+            state = without(state, word, {(word, it) for it in made})
+        self.naming.add(word)
+        values = list(state.bytes)
+        for it, byte in made.items():
+            values[it] = byte
+        return State(tuple(values), state.depth, state.pushed, state.spans)
+
+    def behind(self, word: int, opcode: int, state: State) -> State:
+        """The state behind an instruction that is no jump and no call."""
+        effect = effects.of(opcode, self.elf.word(word + 1) if opcodes.length(opcode) == 2 else 0)
+        if effect is effects.NOTHING:
+            return state
+        if isinstance(effect, effects.Copy):
+            return put(state, effect.to, state.bytes[effect.of:effect.of + effect.count])
+        if isinstance(effect, effects.Constant):
+            return put(state, effect.to, ((CONSTANT, effect.byte),))
+        if isinstance(effect, effects.Load):
+            return self.load(word, effect, state)
+        if isinstance(effect, effects.LoadAt):
+            return self.from_stack(state, word, effect.to, effect.address) or self.given(
+                word, state, {effect.to: (FIXED, effect.address, (word, effect.to))})
+        if isinstance(effect, effects.Store):
+            return self.step(state, effect.pair, effect.step)
+        if isinstance(effect, effects.LoadFlash):
+            pair, more = pair_of(state.bytes[Z], state.bytes[Z + 1])
+            return self.given(word, self.step(state, Z, effect.step), {effect.to: (FLASH, pair, more, (word, effect.to))})
+        if isinstance(effect, effects.Step):
+            return self.step(state, effect.pair, effect.by)
+        if isinstance(effect, effects.Sum):
+            return self.sum(state, effect) or self.fresh(word, state, (effect.to,))
+        return self.with_stack(word, effect, state)
+
+    def load(self, word: int, effect: effects.Load, state: State) -> State:
+        pair, more = pair_of(state.bytes[effect.pair], state.bytes[effect.pair + 1])
+        if not self.has_high and state.bytes[effect.pair][0] == "frame":
+            pair, more = FRAME, 0
+        moved = self.step(state, effect.pair, effect.step)
+        if pair == NOWHERE:
+            return self.given(word, moved, {effect.to: (FIXED, more + effect.more & 0xFFFF, (word, effect.to))})
+        return self.given(word, moved, {effect.to: (MEMORY, pair, signed(more + effect.more), (word, effect.to))})
+
+    def step(self, state: State, register: int, by: int) -> State:
+        """The state behind a move of a pair."""
+        if not by:
+            return state
+        pair, more = pair_of(state.bytes[register], state.bytes[register + 1])
+        return with_pair(state, register, pair, signed(more + by) if pair != NOWHERE else more + by & 0xFFFF)
+
+    def sum(self, state: State, effect: effects.Sum) -> Optional[State]:
+        """The state behind a sum or a difference; None where it isn't followed."""
+        to, of, values = effect.to, effect.of, state.bytes
+        other = (CONSTANT, effect.byte) if of is None else values[of]
+        if other[0] != CONSTANT and of is not None and not effect.is_less and values[to][0] == CONSTANT:
+            to, other = of, values[to]  # a constant to which a pair is added
+        if other[0] != CONSTANT:
+            return None
+        by = -other[1] if effect.is_less else other[1]
+        if effect.carries:
+            if not to or not effect.to or to % 2 != effect.to % 2:
+                return None
+            low = values[effect.to - 1]
+            if low[0] != LOW or half(low[1], low[2], 1) != values[to]:
+                return None
+            return with_pair(state, effect.to - 1, low[1], signed(low[2] + low[3] + 256 * by))
+        if values[to][0] == CONSTANT:
+            return put(state, effect.to, ((CONSTANT, values[to][1] + by & 0xFF),)) if effect.of is None else None
+        if to % 2:
+            return None
+        pair, more = pair_of(values[to], values[to + 1])
+        if not self.has_high and values[to][0] in ("frame", HALF) and is_frame(values[to] if values[to][0] == "frame" else values[to][1]):
+            return None
+        return put(state, effect.to, ((LOW, pair, more, by),))
+
+    def from_stack(self, state: State, word: int, to: int, address: int) -> Optional[State]:
+        """The state behind a read of the stack pointer; None of another address."""
+        if address not in (SPL, SPH) or not self.elf.chip.core.get("SPL"):
+            return None
+        which = int(address == SPH)
+        byte = half(FRAME, -state.depth, which) if state.depth is not None else ("frame", word - which, which)
+        return put(state, to, (byte,))
+
+    def with_stack(self, word: int, effect: effects.Effect, state: State) -> State:
+        if isinstance(effect, effects.Push):
+            return state._replace(depth=None if state.depth is None else state.depth + 1, pushed=(*state.pushed, state.bytes[effect.of]))
+        if isinstance(effect, effects.Pop):
+            moved = state._replace(depth=None if state.depth is None else state.depth - 1, pushed=state.pushed[:-1])
+            return put(moved, effect.to, (state.pushed[-1],)) if state.pushed else self.fresh(word, moved, (effect.to,))
+        if isinstance(effect, effects.Output):
+            if effect.address != SPL:
+                return state
+            byte = state.bytes[effect.of]
+            if byte[0] == HALF and byte[1] == FRAME or byte == FRAME[0]:
+                depth = -byte[2] if byte[0] == HALF else 0
+                pushed = state.pushed[:depth] if len(state.pushed) == state.depth and depth <= len(state.pushed) else \
+                    (*state.pushed, *[(OWN, (word, -1 - it)) for it in range(depth - len(state.pushed))]) if len(state.pushed) == state.depth else ()
+                return state._replace(depth=depth, pushed=pushed)
+            return state._replace(depth=None, pushed=())
+        if isinstance(effect, effects.Input):
+            if (found := self.from_stack(state, word, effect.to, effect.address)) is not None:
+                return found
+        return self.fresh(word, state, effects.written(effect))
+
+    def compared(self, word: int, opcode: int, state: State, is_taken: bool) -> State:
+        """The state on a way from `brcs` or `brcc`, with what the comparison before leaves of a pair."""
+        if opcode & 7 != 0:
+            return state
+        found = self.comparison(word)
+        if found is None:
+            return state
+        (pair, more), limit = found
+        is_below = is_taken == (opcode & 0x0400 == 0)  # the carry is 1
+        least, greatest = (0, limit - 1) if is_below else (limit, 0xFFFF)
+        least, greatest = least - more, greatest - more
+        if least < 0 <= greatest or least > 0xFFFF or limit == 0:
+            return state
+        span = pair, least % 0x10000, greatest % 0x10000
+        if span[1] > span[2]:
+            return state
+        others = tuple(it for it in state.spans if it[0] != pair)
+        for _, low, high in (it for it in state.spans if it[0] == pair):
+            span = pair, max(span[1], low), min(span[2], high)
+        return state._replace(spans=(*others, span))
+
+    def comparison(self, word: int) -> Optional[Tuple[Tuple[Pair, int], int]]:
+        """The pair whose number is compared right before a branch, with what was added to it, and the number with which it is; None where
+        it is something else."""
+        last, first = self.elf.word(word - 1), self.elf.word(word - 2)
+        if word - 1 not in self.before:
+            return None
+        step = effects.of(last, 0)
+        if isinstance(step, effects.Step) and step.by < 0:
+            values = self.before[word - 1].bytes
+            return pair_of(values[step.pair], values[step.pair + 1]), -step.by
+        if first & 0xF000 == 0x3000 and last & 0xFC00 == 0x0400 and word - 2 in self.before:
+            values = self.before[word - 2].bytes
+            low, high, other = 16 + (first >> 4 & 15), last >> 4 & 31, values[last & 15 | last >> 5 & 16]
+            if high == low + 1 and other[0] == CONSTANT:
+                return pair_of(values[low], values[high]), first & 15 | first >> 4 & 0xF0 | other[1] << 8
+        return None
+
+
+def put(state: State, register: int, values: Tuple[Byte, ...]) -> State:
+    """The state with other bytes in registers from one on."""
+    return state._replace(bytes=(*state.bytes[:register], *values, *state.bytes[register + len(values):]))
+
+
+def with_pair(state: State, register: int, pair: Pair, more: int) -> State:
+    return put(state, register, (half(pair, more, 0), half(pair, more, 1)))
+
+
+def without(state: State, word: int, tags: AbstractSet[Tag]) -> State:
+    """The state in which nothing is told by values with these tags."""
+    values = [(OWN, (word, 2 * JOINT + at)) if held(byte, tags) else byte for at, byte in enumerate(state.bytes)]
+    pushed = [(OWN, (word, -2 * JOINT - at)) if held(byte, tags) else byte for at, byte in enumerate(state.pushed)]
+    return State(tuple(values), state.depth, tuple(pushed), tuple(it for it in state.spans if not holds(it[0], tags)))
+
+
+def joined(known: State, state: State, word: int) -> State:
+    """What holds on both ways that meet at a word. Registers that were equal on each way stay equal."""
+    if known == state:
+        return known
+    names: Dict[Tuple[Byte, Byte], Byte] = {}
+    stale = {(word, JOINT + at) for at in range(32) if tag_of(state.bytes[at]) != (word, JOINT + at)}
+
+    def meet(ours: Byte, theirs: Byte, at: int) -> Byte:
+        if ours == theirs and not held(theirs, stale):
+            return ours
+        if (ours, theirs) not in names:
+            names[ours, theirs] = made(ours, theirs, at)
+        return names[ours, theirs]
+
+    def made(ours: Byte, theirs: Byte, at: int) -> Byte:
+        if ours[0] == theirs[0] and ours[0] in (MEMORY, FLASH) and ours[2] == theirs[2]:
+            pairs = ours[1], theirs[1]
+            pair = pairs[0] if pairs[0] == pairs[1] and not holds(pairs[1], stale) else (meet(pairs[0][0], pairs[1][0], at + 40),
+                                                                                         meet(pairs[0][1], pairs[1][1], at + 80))
+            return ours[0], pair, ours[2], (word, JOINT + at)
+        if ours[0] == theirs[0] == FIXED and ours[1] == theirs[1]:
+            return FIXED, ours[1], (word, JOINT + at)
+        if is_of_frame(ours) or is_of_frame(theirs):
+            return "frame", word, at
+        return OWN, (word, JOINT + at)
+
+    values = tuple([meet(a, b, at) if a is not b or stale else a for at, (a, b) in enumerate(zip(known.bytes, state.bytes))])
+    pushed: Tuple[Byte, ...] = ()
+    if len(known.pushed) == len(state.pushed):
+        pushed = tuple([meet(a, b, 160 + at) for at, (a, b) in enumerate(zip(known.pushed, state.pushed))])
+    depth = known.depth if known.depth == state.depth else None
+    theirs = {pair: (least, greatest) for pair, least, greatest in state.spans}
+    spans = tuple((pair, min(least, theirs[pair][0]), max(greatest, theirs[pair][1])) for pair, least, greatest in known.spans
+                  if pair in theirs and not holds(pair, stale))
+    return State(values, depth, pushed, spans)
+
+
+@functools.lru_cache(maxsize=None)
+def entered_inside(elf: Elf) -> Dict[int, FrozenSet[int]]:
+    """The words behind the begin of each function, by its address, that other code enters by calls and jumps that name them."""
+    found: Dict[int, Set[int]] = {}
+    for words in candidates.code(elf):
+        for word, _ in words:
+            to = opcodes.jump_target(elf, word)
+            to = opcodes.call_target(elf, word) if to is None else to
+            symbol = elf.symbol_at(2 * to) if to is not None else None
+            if to is not None and symbol is not None and symbol.address != 2 * to and symbol is not elf.symbol_at(2 * word):
+                found.setdefault(symbol.address, set()).add(to)
+    return {at: frozenset(words) for at, words in found.items()}
+
+
+@functools.lru_cache(maxsize=None)
+def of_function(elf: Elf, address: int) -> Optional[Function]:
+    """What is known in the function at a byte address; None where none is there."""
+    symbol = elf.symbol_at(address)
+    return None if symbol is None else Function(elf, symbol)

@@ -1,0 +1,540 @@
+"""Where the pointers of stores and calls come from: from the address of an object or function, from memory that holds pointers, or from a
+number. One worklist over the words that a certificate reaches: functions are followed by what they are given and give back, registers and
+slots of frames along all ways, other memory by all that is written there. It is run twice: what is a pointer isn't known before all that is
+written was seen, so the first run takes all objects to hold pointers, and the second begins with the pointers that the first one found. """
+
+from __future__ import annotations
+
+import heapq
+from typing import AbstractSet, Dict, Iterator, List, NamedTuple, Optional, Protocol, Set, Tuple
+
+from stackcheck_tools.dataflow import loaded, origin
+from stackcheck_tools.dataflow.addresses import Addresses
+from stackcheck_tools.dataflow.memory import Memory
+from stackcheck_tools.dataflow.origin import (ALONE, CODE, FIRST_OBJECT, FLASH, KEPT, MOVED, NUMBER, OBJECTS, OTHER, POINTERS, TABLE, ZERO,
+                                              constants, few)
+from stackcheck_tools.firmware import effects, opcodes
+from stackcheck_tools.firmware.devices import Device
+from stackcheck_tools.firmware.effects import Y, Z
+from stackcheck_tools.firmware.elf import Elf
+
+Key = Tuple[int, int]  # the word at which a function is entered, and one that is reached there
+Registers = Tuple[int, ...]
+KEPT_BY_CALLS = (*range(2, 18), 28, 29)
+MOST_ROUNDS = 40
+RETURNS = (0x9508, 0x9518)
+SMALL = 32  # addresses below are of registers
+
+
+class State(NamedTuple):
+    """What the registers are made of, and the slots of the frame by their distance from where the stack pointer stood at the begin."""
+
+    registers: Registers
+    slots: Dict[int, int]
+
+
+NOTHING = State((0,) * 32, {})
+
+
+class Reached(Protocol):
+    """The words that a certificate reaches, and the numbers that a pair of registers is known to be at one of them."""
+
+    at: Dict[int, List[int]]
+
+    def known(self, word: int, register: int) -> Set[int]: ...
+
+
+class Targets(Protocol):
+    """The lists of calls and jumps through pointers."""
+
+    def of(self, site: int, kind: str) -> Set[int]: ...
+
+
+def joined(ours: Registers, theirs: Registers) -> Registers:
+    return ours if ours == theirs else tuple([few(a | b) if a != b else a for a, b in zip(ours, theirs)])
+
+
+class Run:
+    """One run of the worklist. `before`: what is known before each word, by the function that was entered."""
+
+    def __init__(self, elf: Elf, device: Device, reached: Reached, targets: Targets, told: Addresses, earlier: Optional["Run"] = None) -> None:
+        self.elf, self.device, self.reached, self.targets, self.told = elf, device, reached, targets, told
+        self.memory = Memory(told, earlier.memory if earlier else None)
+        self.hints: Dict[Key, Registers] = earlier.pointers() if earlier else {}
+        self.before: Dict[Key, State] = {}
+        self.exits: Dict[int, Registers] = {}
+        self.callers: Dict[int, Set[Key]] = {}
+        self.readers: Set[Key] = set()
+        self.left: List[Key] = []
+        self.near: Dict[int, Optional[loaded.State]] = {}
+        self.run()
+
+    def pointers(self) -> Dict[Key, Registers]:
+        """The pointers in the registers before each word."""
+        return {key: tuple([it & POINTERS for it in state.registers]) for key, state in self.before.items()}
+
+    def run(self) -> None:
+        for word in (0, *(self.device.vector_word(it) for it in self.device.vectors)):
+            if word in self.reached.at:
+                self.enter((word, word), NOTHING)
+        for _ in range(MOST_ROUNDS):
+            while self.left:
+                key = heapq.heappop(self.left)
+                if not self.left or self.left[0] != key:
+                    self.step(key)
+            if self.memory.changed:
+                self.memory.changed = False
+                for key in self.readers:
+                    heapq.heappush(self.left, key)
+            elif not self.enter_missed():
+                break
+
+    def enter_missed(self) -> bool:
+        """Enters words of the certificate to which no way is known yet: begins of functions, which are entered by a list of constructors, with
+        nothing; else as a jump through a pointer in the same function ends. Whether there was one."""
+        seen = {word for _, word in self.before}
+        jumps = [(key, state) for key, state in self.before.items() if opcodes.is_jump(self.elf.word(key[1]))]
+        for word in sorted(set(self.reached.at) - seen):
+            symbol = self.elf.symbol_at(2 * word)
+            if symbol is None or symbol.name in (loaded.SAVES, loaded.RESTORES):
+                continue
+            if self.is_begin(word):
+                self.enter((word, word), NOTHING)
+                return True
+            near = [(key[0], state) for key, state in jumps if symbol in (self.elf.symbol_at(2 * key[1]), self.elf.symbol_at(2 * key[0]))]
+            for entry, state in near:
+                self.enter((entry, word), state)
+            if near:
+                return True
+        return False
+
+    def enter(self, key: Key, state: State) -> None:
+        """Goes on at a word with what a way there knows."""
+        held = self.before.get(key)
+        if held is None:
+            if key in self.hints:
+                state = State(joined(state.registers, self.hints[key]), state.slots)
+            self.before[key] = state
+            heapq.heappush(self.left, key)
+            return
+        slots = held.slots
+        if slots != state.slots:
+            slots = {at: few(byte | state.slots[at]) for at, byte in slots.items() if at in state.slots}
+        registers = joined(held.registers, state.registers)
+        if registers != held.registers or slots != held.slots:
+            self.before[key] = State(registers, slots)
+            heapq.heappush(self.left, key)
+
+    def leave(self, entry: int, registers: Registers) -> None:
+        """Returns from a function."""
+        held = self.exits.get(entry)
+        met = registers if held is None else joined(held, registers)
+        if met != held:
+            self.exits[entry] = met
+            for it in self.callers.get(entry, ()):
+                heapq.heappush(self.left, it)
+
+    def call(self, key: Key, to: int, after: Optional[int]) -> None:
+        """Enters a function, behind which a run goes on at a word, or returns itself."""
+        state = self.before[key]
+        self.callers.setdefault(to, set()).add(key)
+        self.enter((to, to), State(state.registers, {}))
+        given = self.exits.get(to)
+        if given is None:
+            return
+        if after is None:
+            self.leave(key[0], given)
+            return
+        values = list(given)
+        for it in KEPT_BY_CALLS:
+            values[it] = state.registers[it]
+        values[effects.ZERO] = ZERO
+        self.enter((key[0], after), State(tuple(values), state.slots))
+
+    def is_begin(self, word: int) -> bool:
+        """Whether a function begins at a word."""
+        symbol = self.elf.symbol_at(2 * word)
+        return symbol is not None and symbol.address == 2 * word and (symbol.is_function or not symbol.name.startswith("."))
+
+    def nearby(self, word: int) -> Optional[loaded.State]:
+        """From where the registers were loaded before a word, as its function tells."""
+        if word not in self.near:
+            symbol = self.elf.symbol_at(2 * word)
+            function = loaded.of_function(self.elf, symbol.address) if symbol else None
+            self.near[word] = function.before.get(word) if function and function.is_whole else None
+        return self.near[word]
+
+    def nearby_after(self, word: int) -> Optional[loaded.State]:
+        """The same behind the instruction at a word, which is no jump."""
+        return self.nearby(word + opcodes.length(self.elf.word(word)))
+
+    def step(self, key: Key) -> None:
+        """Follows the instruction at a word."""
+        entry, word = key
+        opcode, state = self.elf.word(word), self.before[key]
+        after = word + opcodes.length(opcode)
+        if opcode in RETURNS:
+            self.leave(entry, state.registers)
+        elif opcodes.is_jump(opcode):
+            self.jump_through(key)
+        elif (to := opcodes.jump_target(self.elf, word)) is not None:
+            self.jump(key, to, after)
+        elif (to := opcodes.call_target(self.elf, word)) is not None:
+            if to == after:
+                self.enter((entry, after), state)  # makes room
+            else:
+                self.call(key, to, after)
+        elif opcodes.is_call(opcode):
+            for to in self.targets.of(word, "jump") | self.reached.known(word, Z):
+                self.call(key, to, after)
+        else:
+            self.go_on(key, opcode)
+
+    def jump_through(self, key: Key) -> None:
+        """Follows `ijmp` and `eijmp`: to words of the same function, or as a call at the end of it."""
+        entry, word = key
+        own = self.elf.symbol_at(2 * word)
+        is_helper = own is not None and own.name.startswith(loaded.TABLES)
+        for to in self.targets.of(word, "jump") | self.reached.known(word, Z):
+            if to not in self.reached.at:
+                continue
+            symbol = self.elf.symbol_at(2 * to)
+            if is_helper and not self.is_begin(to):
+                if symbol is self.elf.symbol_at(2 * entry):
+                    self.enter((entry, to), self.before[key])
+            elif symbol is own:
+                self.enter((entry, to), self.before[key])
+            else:
+                self.call(key, to, None)
+
+    def jump(self, key: Key, to: int, after: int) -> None:
+        """Follows `jmp` and `rjmp`: in the same function, or to the begin of another one as a call at the end."""
+        entry, word = key
+        symbol, state = self.elf.symbol_at(2 * to), self.before[key]
+        name = symbol.name if symbol else ""
+        if name == loaded.SAVES:
+            values = list(state.registers)
+            for it in (effects.X, effects.X + 1, Z, Z + 1):
+                values[it] = NUMBER
+            values[Y] = values[Y + 1] = self.memory.frame_bit(entry)
+            self.enter((entry, after), State(tuple(values), {}))
+        elif name == loaded.RESTORES:
+            self.leave(entry, state.registers)
+        elif symbol is not None and not name.startswith(loaded.TABLES) and to != entry and 2 * to == symbol.address and self.is_begin(to) \
+                and self.elf.symbol_at(2 * word) is not symbol:
+            self.call(key, to, None)
+        else:
+            self.enter((entry, to), state)
+
+    def go_on(self, key: Key, opcode: int) -> None:
+        """Follows what is no jump and no call."""
+        entry, word = key
+        state = self.before[key]
+        moved = Behind(self, key).state
+        ways = opcodes.following(self.elf, word)
+        tested = self.elf.word(word - 1)
+        is_tested = tested & 0xFC00 == 0x2000 and opcodes.destination(tested) == (tested & 15 | tested >> 5 & 16)
+        if opcode & 0xFC07 in (0xF001, 0xF401) and is_tested:  # `breq`, `brne` behind `and r, r`: the byte is 0 on one way
+            is_zero = 1 if opcode & 0x0400 == 0 else 0
+            values = list(state.registers)
+            values[opcodes.destination(tested)] = ZERO
+            self.enter((entry, ways[is_zero]), State(tuple(values), state.slots))
+            self.enter((entry, ways[1 - is_zero]), moved)
+            return
+        for to in ways:
+            self.enter((entry, to), moved)
+
+
+class Behind:
+    """The state behind an instruction."""
+
+    def __init__(self, run: Run, key: Key) -> None:
+        self.run, (self.entry, self.word), self.memory, self.told = run, key, run.memory, run.told
+        self.key, self.near = key, run.nearby(key[1])
+        before = run.before[key]
+        self.registers, self.slots = list(before.registers), before.slots
+        self.follow(effects.at(run.elf, self.word))
+        self.state = State(tuple(self.registers), self.slots)
+
+    def follow(self, effect: effects.Effect) -> None:
+        registers = self.registers
+        if isinstance(effect, effects.Copy):
+            registers[effect.to:effect.to + effect.count] = registers[effect.of:effect.of + effect.count]
+        elif isinstance(effect, effects.Constant):
+            registers[effect.to] = self.told.of_immediate(self.word, effect.to, effect.byte, True) if effect.is_named else 1 << effect.byte
+        elif isinstance(effect, effects.Sum):
+            self.sum(effect)
+        elif isinstance(effect, effects.Step):
+            self.move(effect.pair, effect.by)
+        elif isinstance(effect, effects.Logic):
+            other = 1 << effect.byte if effect.of is None else registers[effect.of]
+            registers[effect.to] = origin.mixed(registers[effect.to], other, effect.operation)
+        elif isinstance(effect, effects.Negation):
+            registers[effect.to] = origin.negated(registers[effect.to], effect.is_complement)
+        elif isinstance(effect, effects.Mixed):
+            made = [origin.shifted(registers[it], effect.shifts, effect.carries) for it in effect.of]
+            for to, byte in zip(effect.to, made):
+                registers[to] = byte if len(effect.to) == 1 else NUMBER
+        else:
+            self.follow_memory(effect)
+
+    # sums
+
+    def pair_at(self, register: int) -> Optional[Tuple[loaded.Pair, int]]:
+        """From what a pair of registers is made, as its function tells."""
+        return None if self.near is None else loaded.pair_of(self.near.bytes[register], self.near.bytes[register + 1])
+
+    def distance(self, register: int) -> Optional[int]:
+        """How far a pair is from where the stack pointer stood at the function's begin; None where that isn't known."""
+        found = self.pair_at(register)
+        if found is not None and found[0] == loaded.FRAME:
+            return found[1]
+        if self.near is not None and not self.run.elf.chip.has_sph and self.near.bytes[register] == loaded.FRAME[0]:
+            return 0
+        return None
+
+    def is_in_frame(self, register: int) -> bool:
+        return self.near is not None and loaded.is_of_frame(self.near.bytes[register])
+
+    def is_constant(self, register: int) -> bool:
+        return self.near is not None and self.near.bytes[register][0] == loaded.CONSTANT
+
+    def sum(self, effect: effects.Sum) -> None:
+        registers, to, of = self.registers, effect.to, effect.of
+        if self.is_in_frame(to) and (of is None or self.is_constant(of)):
+            self.note_open(to & ~1)
+            return  # keeps to its frame, at a distance that is known
+        if of is not None and not effect.is_less and self.is_constant(to) and self.is_in_frame(of):
+            registers[to] = registers[of]
+            return
+        lower = registers[to - 1] if effect.carries and to else 0
+        is_step = of is None and not effect.carries and effect.byte == 1 and self.run.elf.word(self.word) & 0xFE00 == 0x9400
+        if of is None and not is_step:
+            other, is_less = self.told.of_immediate(self.word, to, effect.byte, False), True
+            if other & ~origin.CONSTANTS and self.told.has_records and not self.told.is_subtracted(self.word):
+                is_less = False  # the address is negated, so it is added
+            elif other & ~origin.CONSTANTS and not self.told.has_records:
+                is_less = False
+        else:
+            other, is_less = 1 << effect.byte if of is None else registers[of], effect.is_less
+        if of == to:
+            registers[to] = (origin.ZERO | (1 << 255 if effect.carries else 0)) if is_less else origin.doubled(registers[to], effect.carries)
+        else:
+            apply = origin.less if is_less else origin.plus
+            registers[to] = apply(registers[to], other, effect.carries, lower)
+
+    def note_open(self, register: int) -> None:
+        """Notes a frame whose address is moved above it, to where arguments stand."""
+        symbol = self.run.elf.symbol_at(2 * self.word)
+        function = loaded.of_function(self.run.elf, symbol.address) if symbol else None
+        after = function.before.get(self.word + 1) if function else None
+        if after is not None:
+            pair, more = loaded.pair_of(after.bytes[register], after.bytes[register + 1])
+            if pair == loaded.FRAME and more > 0:
+                self.memory.open.add(self.memory.frame(self.entry))
+
+    def move(self, register: int, by: int) -> None:
+        """Adds a number to a pair."""
+        if not by:
+            return
+        if (distance := self.distance(register)) is not None:
+            if distance + by > 0:
+                self.memory.open.add(self.memory.frame(self.entry))
+            return
+        apply = origin.plus if by > 0 else origin.less
+        low = apply(self.registers[register], 1 << abs(by), False, 0)
+        self.registers[register + 1] = apply(self.registers[register + 1], ZERO, True, low)
+        self.registers[register] = low
+
+    # memory
+
+    def follow_memory(self, effect: effects.Effect) -> None:
+        registers = self.registers
+        if isinstance(effect, effects.Load):
+            found = self.read(effect.pair, effect.more)
+            self.move(effect.pair, effect.step)
+            self.take(effect.to, found, KEPT)
+        elif isinstance(effect, effects.LoadAt):
+            self.take(effect.to, self.at_address(effect.address), KEPT)
+        elif isinstance(effect, effects.LoadFlash):
+            made = registers[Z] | registers[Z + 1]
+            self.move(Z, effect.step)
+            is_table = bool(made & (TABLE | CODE | KEPT | FLASH)) or not self.told.has_records
+            self.take(effect.to, KEPT if is_table else NUMBER, FLASH)
+        elif isinstance(effect, effects.Store):
+            self.write(effect.pair, effect.more, registers[effect.of])
+            self.move(effect.pair, effect.step)
+        elif isinstance(effect, effects.StoreAt):
+            self.write_at(effect.address, registers[effect.of])
+        elif isinstance(effect, effects.Input):
+            registers[effect.to] = self.at_address(effect.address)
+        elif isinstance(effect, effects.Push):
+            self.push(registers[effect.of])
+        elif isinstance(effect, effects.Pop):
+            registers[effect.to] = self.pop()
+
+    def push(self, byte: int) -> None:
+        if self.near is None or self.near.depth is None:
+            return
+        distance = -self.near.depth
+        self.memory.put(self.memory.pushed, (self.memory.frame(self.entry), distance), byte)
+        self.slots = {**self.slots, distance: byte}
+
+    def pop(self) -> int:
+        if self.near is None or self.near.depth is None:
+            return KEPT
+        at = 1 - self.near.depth
+        return self.slots[at] if at in self.slots else origin.paired(self.memory.in_frame(self.entry, at))
+
+    def address(self, register: int, more: int) -> Optional[int]:
+        """The address that a pair is known to be, plus a number."""
+        found = self.pair_at(register)
+        return (found[1] + more) & 0xFFFF if found is not None and found[0] == loaded.NOWHERE else None
+
+    def objects_at(self, register: int, more: int) -> Iterator[Tuple[int, Optional[int]]]:
+        """Yields the places of objects to which a pair may point: at a distance where it is an object's address to which a known number was
+        added."""
+        bits = self.registers[register] | self.registers[register + 1]
+        found = self.pair_at(register)
+        distance: Optional[int] = None
+        if found is not None and (base := self.base_of(*found)) is not None and not base & MOVED and base & OBJECTS == bits & OBJECTS:
+            distance = found[1] + more
+        for number in origin.objects(bits):
+            is_static = self.memory.is_static(number)
+            is_inside = distance is not None and is_static and 0 <= distance < self.told.spans[number][1] - self.told.spans[number][0]
+            yield number, distance if is_inside else None
+
+    def base_of(self, pair: loaded.Pair, more: int) -> Optional[int]:
+        """What a pair was made of to which a number was added; None where no register holds it any more."""
+        if self.near is None:
+            return None
+        low, high = pair
+        if low[0] == high[0] == loaded.GIVEN and (first := self.run.before.get((self.entry, self.entry))):
+            return first.registers[low[1]] | first.registers[high[1]]
+        for at in range(31):
+            if self.near.bytes[at] == low and self.near.bytes[at + 1] == high:
+                return self.registers[at] | self.registers[at + 1]
+        return None
+
+    def read(self, register: int, more: int) -> int:
+        """What a byte of memory is made of to which a pair points."""
+        self.run.readers.add(self.key)
+        if (distance := self.distance(register)) is not None:
+            at = distance + more
+            return self.slots[at] if at in self.slots else self.memory.in_frame(self.entry, at)
+        if (address := self.address(register, more)) is not None:
+            return self.at_address(address)
+        low, high = self.registers[register], self.registers[register + 1]
+        found = 0
+        for place in self.objects_at(register, more):
+            found |= self.memory.through_pointer(place)
+        if high & (KEPT | FLASH | OTHER) or not found:
+            found |= NUMBER if self.is_of_registers(low, high, more) else KEPT
+        return few(found)
+
+    def is_of_registers(self, low: int, high: int, more: int) -> bool:
+        """Whether a pair points to inputs and outputs alone."""
+        if (low | high) & ~origin.CONSTANTS or not low or not high:
+            return False
+        numbers = [upper << 8 | lower for upper in constants(high) for lower in constants(low)]
+        return all(it >= SMALL and self.is_io(it + more) for it in numbers)
+
+    def is_io(self, address: int) -> bool:
+        return address < self.run.device.first
+
+    def at_address(self, address: int) -> int:
+        """What a byte at a known address is made of."""
+        self.run.readers.add(self.key)
+        if address in (loaded.SPL, loaded.SPH):
+            return self.memory.frame_bit(self.entry)
+        if address < SMALL:
+            return self.registers[address]
+        return NUMBER if self.is_io(address) else self.memory.static(address)
+
+    def take(self, to: int, found: int, mark: int) -> None:
+        """Gives a register a byte that was read: for itself, or as a half of the pair of which another register has the other half."""
+        other = self.partner(to)
+        if other is None:
+            self.registers[to] = origin.alone(found)
+            return
+        held = self.registers[other]
+        if held & (POINTERS | ALONE):
+            found = origin.paired(found)
+        if found & (POINTERS | ALONE):
+            held = origin.paired(held)
+        if mark == FLASH:
+            found, held = (it & ~KEPT | FLASH if it & KEPT else it for it in (found, held))
+        self.registers[to], self.registers[other] = found, held
+
+    def partner(self, to: int) -> Optional[int]:
+        """The register that holds the other half of the pair in memory of which a load reads one half. The lower half has to be in an even
+        register or in r0, and the other one in the odd one above: single bytes that lie beside each other are read one behind the other
+        too."""
+        if self.near is None:
+            return None
+        after = self.run.nearby_after(self.word)
+        if after is None:
+            return None
+        own = after.bytes[to]
+        if own[0] not in (loaded.MEMORY, loaded.FLASH, loaded.FIXED):
+            return None
+        lower = [to - 1, 0] if to % 2 else list(range(0, 32, 2)) if to == 0 else []
+        upper = [to + 1] if to % 2 == 0 and to else list(range(1, 32, 2)) if to == 0 else []
+        for other in lower:
+            if other != to and loaded.are_halves(self.near.bytes[other], own):
+                return other
+        for other in upper:
+            if loaded.are_halves(own, self.near.bytes[other]):
+                return other
+        return None
+
+    def write_frame(self, distance: int, byte: int) -> None:
+        self.memory.put(self.memory.by_name, (self.memory.frame(self.entry), distance), byte)
+        self.slots = {**self.slots, distance: byte if byte & OBJECTS else byte & ~MOVED}
+
+    def write_at(self, address: int, byte: int) -> None:
+        if address < SMALL:
+            self.registers[address] = byte
+        elif not self.is_io(address):
+            self.memory.put(self.memory.by_name, self.memory.place_of(address), byte)
+
+    def write(self, register: int, more: int, byte: int) -> None:
+        """Writes a byte to where a pair points."""
+        if (distance := self.distance(register)) is not None:
+            self.write_frame(distance + more, byte)
+            return
+        if (address := self.address(register, more)) is not None:
+            self.write_at(address, byte)
+            return
+        low, high = self.registers[register], self.registers[register + 1]
+        places = list(self.objects_at(register, more))
+        if high & ZERO and not places:
+            for it in constants(low):
+                if it + more < SMALL:  # a register by its address
+                    self.registers[it + more] = few(self.registers[it + more] | byte)
+        for place in places:
+            self.memory.put(self.memory.through, place, byte)
+
+
+class Origins:
+    """What is asked of both runs."""
+
+    def __init__(self, elf: Elf, device: Device, reached: Reached, targets: Targets) -> None:
+        self.elf, self.told = elf, Addresses(elf)
+        first = Run(elf, device, reached, targets, self.told)
+        self.run = Run(elf, device, reached, targets, self.told, first)
+        self.by_word: Dict[int, List[Key]] = {}
+        for key in self.run.before:
+            self.by_word.setdefault(key[1], []).append(key)
+
+    def is_reached(self, word: int) -> bool:
+        return word in self.by_word
+
+    def pairs_at(self, word: int, register: int) -> Iterator[Tuple[int, int]]:
+        """Yields what a pair of registers is made of at a word, by each function that reaches it; not where it is a place of the frame that
+        is known."""
+        near = self.run.nearby(word)
+        is_frame = near is not None and loaded.pair_of(near.bytes[register], near.bytes[register + 1])[0] == loaded.FRAME
+        for key in self.by_word.get(word, ()) if not is_frame else ():
+            registers = self.run.before[key].registers
+            yield registers[register], registers[register + 1]
