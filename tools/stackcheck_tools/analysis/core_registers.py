@@ -45,19 +45,8 @@ def stands(elf: Elf, address: int) -> bool:
     return address in numbers_in_data(elf) or address < 0x100 and address in bytes_loaded(elf)
 
 
-def reads_into_registers(nodes: Nodes, word: int) -> bool:
-    """Whether a store is the one of avr-libc's `eeprom_read_block` where `eeprom_read_word` and its like alone enter it, behind its begin:
-    these give it the addresses of the registers in which they return."""
-    elf = nodes.elf
-    begins = [it.address for it in elf.named("eeprom_read_block")]
-    inner = [it.address for it in elf.named("eeprom_read_blraw")]
-    return any(begin < at <= 2 * word < begin + 40 and not nodes.at.get(begin // 2) for begin in begins for at in inner)
-
-
 def is_enabling(look: Look, lines: Lines, word: int) -> bool:
     """Whether a store may write a register that enables interrupts through a number, and its line doesn't list it."""
-    if reads_into_registers(look.nodes, word):
-        return False
     left = look.nodes.elf.chip.enabling - lines.of(word, "store")
     return any(look.nodes.may_write(word, it) and look.pointers.why_written(word, it) for it in sorted(left))
 
@@ -78,8 +67,6 @@ def written(look: Look, device: Device, word: int, cause: Cause, listed: Set[int
     registers = [(address, name) for address, name in sorted(core(device).items()) if address not in listed]
     if look.nodes.fixed(word):
         return {name: FIXED for address, name in registers if address in cause.addresses}
-    if reads_into_registers(look.nodes, word):
-        return {}
     found = ((name, look.pointers.why_written(word, address)) for address, name in registers if may_write(look.nodes, device, word, address))
     return {name: why for name, why in found if why}
 

@@ -38,6 +38,8 @@ FRAME: Pair = (("frame", 0), ("frame", 1))  # the stack pointer at the function'
 NOWHERE: Pair = ((CONSTANT, 0), (CONSTANT, 0))  # the base of pairs that are constants
 CHANGED = (0, *range(18, 28), Z, Z + 1)  # registers that a call may change
 BY_TABLE = (0, Z, Z + 1)  # those that `__tablejump2__` does
+OUTSIDE = -1  # from where a function is entered
+MOST_VISITS = 60  # of a word, behind which nothing is told there
 SPL, SPH = 0x5D, 0x5E
 SAVES, RESTORES, TABLES = "__prologue_saves__", "__epilogue_restores__", "__tablejump"
 
@@ -117,26 +119,28 @@ class Function:
         self.is_whole = True
         self.has_high, self.return_bytes = elf.chip.has_sph, 3 if elf.chip.words > 0x10000 else 2
         self.before: Dict[int, State] = {}
+        self.from_words: Dict[int, Dict[int, State]] = {}
+        self.visits: Dict[int, int] = {}
         self.left: List[int] = []
         self.labels: Optional[Set[int]] = None
         self.naming: Set[int] = set()  # words that have given values of their own
         is_handler = symbol.name.startswith("__vector_")
         first = tuple((CONSTANT, 0) if it == ZERO and not is_handler else (GIVEN, it) for it in range(32))
-        self.enter(self.begin, State(first, 0, (), ()))
+        self.enter(OUTSIDE, self.begin, State(first, 0, (), ()))
         for word in sorted(entered_inside(elf).get(symbol.address, ())):
-            self.enter(word, State(tuple((OWN, (word, it)) for it in range(32)), None, (), ()))
+            self.enter(OUTSIDE, word, nothing(word))
         self.run()
 
-    def enter(self, word: int, state: State) -> None:
+    def enter(self, source: int, word: int, state: State) -> None:
+        """Goes on at a word with what the way from another word knows."""
         if not self.begin <= word < self.end:
             return
         if word not in self.words:
             self.is_whole = False
             return
-        known = self.before.get(word)
-        met = state if known is None else joined(known, state, word)
-        if met != known:
-            self.before[word] = met
+        ways = self.from_words.setdefault(word, {})
+        if ways.get(source) != state:
+            ways[source] = state
             heapq.heappush(self.left, word)
 
     def run(self) -> None:
@@ -144,28 +148,34 @@ class Function:
             word = heapq.heappop(self.left)
             if self.left and self.left[0] == word:
                 continue
-            for to, state in self.ways(word, self.before[word]):
-                self.enter(to, state)
+            ways = list(self.from_words[word].values())
+            self.visits[word] = self.visits.get(word, 0) + 1
+            state = ways[0] if len(ways) == 1 else nothing(word) if self.visits[word] > MOST_VISITS else joined(ways, word)
+            if state != self.before.get(word):
+                self.before[word] = state
+                self.follow(word, state)
 
-    def ways(self, word: int, state: State) -> Iterator[Tuple[int, State]]:
-        """Yields the words that may follow, and what is known on the way there."""
+    def follow(self, word: int, state: State) -> None:
+        """Goes on at the words that may follow one."""
         elf, opcode = self.elf, self.elf.word(word)
         after = word + opcodes.length(opcode)
         if opcode in (0x9508, 0x9518):
             return
         if opcodes.is_jump(opcode):
-            yield from ((to, state) for to in self.to_labels(word))
+            for to in self.to_labels(word):
+                self.enter(word, to, state)
         elif (to := opcodes.jump_target(elf, word)) is not None:
-            yield from self.jump(word, to, after, state)
+            self.jump(word, to, after, state)
         elif (to := opcodes.call_target(elf, word)) == after:
             room = None if state.depth is None else state.depth + self.return_bytes
-            yield after, state._replace(depth=room, pushed=(*state.pushed, *[(OWN, (word, -1 - it)) for it in range(self.return_bytes)]))
+            made = [(OWN, (word, -1 - it)) for it in range(self.return_bytes)]
+            self.enter(word, after, state._replace(depth=room, pushed=(*state.pushed, *made)))
         elif to is not None or opcodes.is_call(opcode):
-            yield after, self.fresh(word, state, CHANGED)
+            self.enter(word, after, self.fresh(word, state, CHANGED))
         else:
             moved = self.behind(word, opcode, state)
             for number, to in enumerate(opcodes.following(elf, word)):
-                yield to, moved if opcode & 0xF800 != 0xF000 else self.compared(word, opcode, moved, number == 1)
+                self.enter(word, to, moved if opcode & 0xF800 != 0xF000 else self.compared(word, opcode, moved, number == 1))
 
     def to_labels(self, word: int) -> Set[int]:
         """The words of this function to which a jump through a pointer may lead."""
@@ -176,23 +186,21 @@ class Function:
             self.labels = (self.words & known) - {self.begin}
         return self.labels
 
-    def jump(self, word: int, to: int, after: int, state: State) -> Iterator[Tuple[int, State]]:
+    def jump(self, word: int, to: int, after: int, state: State) -> None:
         symbol = self.elf.symbol_at(2 * to)
         name = symbol.name if symbol else ""
         if name == SAVES:
             low, high = state.bytes[X], state.bytes[X + 1]
             size = low[1] | high[1] << 8 if low[0] == high[0] == CONSTANT else None
             moved = self.fresh(word, state, CHANGED)
-            if size is not None:
-                moved = with_pair(moved, Y, FRAME, -size)
-            else:
-                moved = moved._replace(bytes=(*moved.bytes[:Y], ("frame", word, 0), ("frame", word, 1), *moved.bytes[Y + 2:]))
-            yield after, moved._replace(depth=size, pushed=())
+            moved = put(moved, Y, (("frame", word, 0), ("frame", word, 1))) if size is None else with_pair(moved, Y, FRAME, -size)
+            self.enter(word, after, moved._replace(depth=size, pushed=()))
         elif name.startswith(TABLES) and not self.begin <= to < self.end:
             moved = self.fresh(word, state, BY_TABLE)
-            yield from ((it, moved) for it in self.to_labels(word))
+            for it in self.to_labels(word):
+                self.enter(word, it, moved)
         else:
-            yield to, state
+            self.enter(word, to, state)
 
     def fresh(self, word: int, state: State, registers: Tuple[int, ...]) -> State:
         """The state in which a word has given these registers values of their own."""
@@ -359,41 +367,56 @@ def without(state: State, word: int, tags: AbstractSet[Tag]) -> State:
     return State(tuple(values), state.depth, tuple(pushed), tuple(it for it in state.spans if not holds(it[0], tags)))
 
 
-def joined(known: State, state: State, word: int) -> State:
-    """What holds on both ways that meet at a word. Registers that were equal on each way stay equal."""
-    if known == state:
-        return known
-    names: Dict[Tuple[Byte, Byte], Byte] = {}
-    stale = {(word, JOINT + at) for at in range(32) if tag_of(state.bytes[at]) != (word, JOINT + at)}
+def nothing(word: int) -> State:
+    """The state in which nothing is known but that each register has a value of its own."""
+    return State(tuple((OWN, (word, JOINT + it)) for it in range(32)), None, (), ())
 
-    def meet(ours: Byte, theirs: Byte, at: int) -> Byte:
-        if ours == theirs and not held(theirs, stale):
-            return ours
-        if (ours, theirs) not in names:
-            names[ours, theirs] = made(ours, theirs, at)
-        return names[ours, theirs]
 
-    def made(ours: Byte, theirs: Byte, at: int) -> Byte:
-        if ours[0] == theirs[0] and ours[0] in (MEMORY, FLASH) and ours[2] == theirs[2]:
-            pairs = ours[1], theirs[1]
-            pair = pairs[0] if pairs[0] == pairs[1] and not holds(pairs[1], stale) else (meet(pairs[0][0], pairs[1][0], at + 40),
-                                                                                         meet(pairs[0][1], pairs[1][1], at + 80))
-            return ours[0], pair, ours[2], (word, JOINT + at)
-        if ours[0] == theirs[0] == FIXED and ours[1] == theirs[1]:
-            return FIXED, ours[1], (word, JOINT + at)
-        if is_of_frame(ours) or is_of_frame(theirs):
-            return "frame", word, at
-        return OWN, (word, JOINT + at)
+class Joint:
+    """What holds on all ways that meet at a word. Registers that are equal on each way stay equal; a byte that was loaded on each way from
+    the same place of what a pair points to, is loaded so."""
 
-    values = tuple([meet(a, b, at) if a is not b or stale else a for at, (a, b) in enumerate(zip(known.bytes, state.bytes))])
-    pushed: Tuple[Byte, ...] = ()
-    if len(known.pushed) == len(state.pushed):
-        pushed = tuple([meet(a, b, 160 + at) for at, (a, b) in enumerate(zip(known.pushed, state.pushed))])
-    depth = known.depth if known.depth == state.depth else None
-    theirs = {pair: (least, greatest) for pair, least, greatest in state.spans}
-    spans = tuple((pair, min(least, theirs[pair][0]), max(greatest, theirs[pair][1])) for pair, least, greatest in known.spans
-                  if pair in theirs and not holds(pair, stale))
-    return State(values, depth, pushed, spans)
+    def __init__(self, ways: List[State], word: int) -> None:
+        self.word, self.ways = word, ways
+        self.names: Dict[Tuple[Byte, ...], Byte] = {}
+        self.stale = [{(word, JOINT + at) for at in range(32) if tag_of(way.bytes[at]) != (word, JOINT + at)} for way in ways]
+
+    def meet(self, found: Tuple[Byte, ...], at: int) -> Byte:
+        first = found[0]
+        if found.count(first) == len(found) and not any(held(first, it) for it in self.stale):
+            return first
+        if found not in self.names:
+            self.names[found] = self.made(found, at)
+        return self.names[found]
+
+    def made(self, found: Tuple[Byte, ...], at: int) -> Byte:
+        kind, tag = found[0][0], (self.word, JOINT + at)
+        if kind in (MEMORY, FLASH) and all(it[0] == kind and it[2] == found[0][2] for it in found):
+            pair = self.meet(tuple([it[1][0] for it in found]), at + 40), self.meet(tuple([it[1][1] for it in found]), at + 80)
+            return kind, pair, found[0][2], tag
+        if kind == FIXED and all(it[:2] == found[0][:2] for it in found):
+            return FIXED, found[0][1], tag
+        return ("frame", self.word, at) if any(is_of_frame(it) for it in found) else (OWN, tag)
+
+    def spans(self) -> Iterator[Tuple[Pair, int, int]]:
+        """Yields what comparisons leave of pairs on each way."""
+        known = [{pair: (least, greatest) for pair, least, greatest in way.spans} for way in self.ways]
+        for pair in known[0]:
+            if all(pair in it for it in known) and not any(holds(pair, it) for it in self.stale):
+                yield pair, min(it[pair][0] for it in known), max(it[pair][1] for it in known)
+
+    def state(self) -> State:
+        ways = self.ways
+        values = tuple([self.meet(found, at) for at, found in enumerate(zip(*(way.bytes for way in ways)))])
+        pushed: Tuple[Byte, ...] = ()
+        if all(len(way.pushed) == len(ways[0].pushed) for way in ways):
+            pushed = tuple([self.meet(found, 160 + at) for at, found in enumerate(zip(*(way.pushed for way in ways)))])
+        depth = ways[0].depth if all(way.depth == ways[0].depth for way in ways) else None
+        return State(values, depth, pushed, tuple(self.spans()) if ways[0].spans else ())
+
+
+def joined(ways: List[State], word: int) -> State:
+    return Joint(ways, word).state()
 
 
 @functools.lru_cache(maxsize=None)

@@ -536,5 +536,13 @@ class Origins:
         near = self.run.nearby(word)
         is_frame = near is not None and loaded.pair_of(near.bytes[register], near.bytes[register + 1])[0] == loaded.FRAME
         for key in self.by_word.get(word, ()) if not is_frame else ():
+            if register == effects.X and self.returns_in_registers(key[0]):
+                continue
             registers = self.run.before[key].registers
             yield registers[register], registers[register + 1]
+
+    def returns_in_registers(self, entry: int) -> bool:
+        """Whether a function is one of avr-libc's that has `eeprom_read_block` store into the registers in which it returns, by their
+        addresses."""
+        symbol = self.elf.symbol_at(2 * entry)
+        return symbol is not None and symbol.name.startswith("eeprom_read_") and not symbol.name.startswith("eeprom_read_bl")
