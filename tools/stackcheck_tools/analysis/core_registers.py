@@ -62,13 +62,13 @@ def may_write(nodes: Nodes, device: Device, word: int, address: int) -> bool:
 
 
 def written(look: Look, device: Device, word: int, cause: Cause, listed: Set[int]) -> Dict[str, str]:
-    """The names of the registers of the core that a store may write through a pointer that is made of a number, and why; of a pointer that is
-    one constant, those that the list of places names."""
+    """The names of the registers of the core that a store may write through a pointer that is made of a number, and why; of a pointer that
+    is one constant, those that the list of places names."""
     registers = [(address, name) for address, name in sorted(core(device).items()) if address not in listed]
     if look.nodes.fixed(word):
         return {name: FIXED for address, name in registers if address in cause.addresses}
-    found = ((name, look.pointers.why_written(word, address)) for address, name in registers if may_write(look.nodes, device, word, address))
-    return {name: why for name, why in found if why}
+    permitted = [(address, name) for address, name in registers if may_write(look.nodes, device, word, address)]
+    return {name: why for address, name in permitted if (why := look.pointers.why_written(word, address))}
 
 
 def found(look: Look, device: Device, lines: Lines, causes: Dict[int, Cause]) -> Dict[int, Dict[str, str]]:

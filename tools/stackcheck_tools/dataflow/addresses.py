@@ -3,11 +3,10 @@
 from __future__ import annotations
 
 import bisect
-import functools
 from typing import Dict, List, Optional, Tuple
 
 from stackcheck_tools.dataflow.origin import CODE, MOVED, NUMBER, OTHER, TABLE, ZERO, object_bit
-from stackcheck_tools.firmware import effects, opcodes, records
+from stackcheck_tools.firmware import effects, records
 from stackcheck_tools.firmware.elf import ABSOLUTE, ALLOCATED, CODE_END, EEPROM, Elf
 from stackcheck_tools.firmware.records import Record
 
@@ -28,6 +27,7 @@ class Addresses:
         self.data = [(it[3] - CODE_END, it[3] - CODE_END + it[5]) for it in elf.headers
                      if it[2] & ALLOCATED and it[5] and elf.sram() <= it[3] < EEPROM]
         self.functions = {it.address // 2 for it in elf.code}
+        self.firsts: Dict[int, int] = {}
         self.named: Dict[int, List[Record]] = {}
         for record in records.every(elf) if self.has_records else ():
             is_placed = record.section not in (records.UNDEFINED, ABSOLUTE) or record.section and record.base >= CODE_END
@@ -103,7 +103,7 @@ class Addresses:
         def moved(at: int) -> Optional[Tuple[int, int, int]]:
             load = effects.of_byte(self.elf.word(at))
             copy = effects.of_two(self.elf.word(at + 1))
-            if isinstance(load, effects.Constant) and isinstance(copy, effects.Copy) and (copy.count, copy.of) == (1, load.to):
+            if isinstance(load, effects.Constant) and isinstance(copy, effects.Copy) and (copy.size, copy.of) == (1, load.to):
                 return copy.to, load.byte, load.to
             return None
 
@@ -116,9 +116,13 @@ class Addresses:
                     return self.object_at(low | high << 8)
         return 0
 
-    @functools.lru_cache(maxsize=None)
     def first_value(self, address: int) -> int:
         """What a byte of static data holds first."""
+        if address not in self.firsts:
+            self.firsts[address] = self.look_first(address)
+        return self.firsts[address]
+
+    def look_first(self, address: int) -> int:
         at, found = address + CODE_END, 0
         for place in (at, at - 1):
             for it in self.named.get(place, ()):

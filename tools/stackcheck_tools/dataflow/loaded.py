@@ -1,19 +1,5 @@
-"""From where the bytes in registers were loaded, along all ways within one function: what a pair points to, two bytes that are neighbours in
-memory, and what a comparison leaves of a pair. Calls change what a callee may change.
-
-A byte is a tuple whose first element says what it is:
-    given R          what register R held at the function's begin
-    constant B
-    own T            a value of its own
-    half P N H       the lower (H 0) or higher (1) byte of a pair P plus N
-    low P N D        the same, of which the lower byte alone was moved by D so far
-    memory P N T     the byte of memory to which the pair P plus N points
-    flash P N T      the same, of flash
-    fixed A T        the byte of memory at address A
-    frame ..         a byte of the stack pointer
-T is the tag of what gave the value: the word of an instruction and a register, or the same of a joint of ways, whose registers count from
-100. Two bytes with one tag, or told by bytes with one, come of one time that the instruction ran.
-A pair is the tuple of its two bytes. """
+"""From where the bytes in registers were loaded, along all ways within one function: what a pair points to, two bytes that are neighbours
+in memory, and what a comparison leaves of a pair. A call changes what a callee may change. """
 
 from __future__ import annotations
 
@@ -25,30 +11,53 @@ from stackcheck_tools.firmware import candidates, effects, opcodes, records, tak
 from stackcheck_tools.firmware.effects import X, Y, Z, ZERO
 from stackcheck_tools.firmware.elf import Elf, Symbol
 
-Byte = Tuple  # type: ignore[type-arg]
 Tag = Tuple[int, int]
-Pair = Tuple[Byte, Byte]
-Bytes = Tuple[Byte, ...]
-Spans = Tuple[Tuple[Pair, int, int], ...]
-
-GIVEN, CONSTANT, OWN, HALF, LOW, MEMORY, FLASH, FIXED = "given", "constant", "own", "half", "low", "memory", "flash", "fixed"
+GIVEN, CONSTANT, OWN, HALF, LOW, MEMORY, FLASH, FIXED, STACK = range(9)
 TAGGED = (OWN, MEMORY, FLASH, FIXED)
+UNTAGGED: Tag = (-1, -1)
 JOINT = 100  # from here on registers of tags are of joints
-FRAME: Pair = (("frame", 0), ("frame", 1))  # the stack pointer at the function's begin
-NOWHERE: Pair = ((CONSTANT, 0), (CONSTANT, 0))  # the base of pairs that are constants
-CHANGED = (0, *range(18, 28), Z, Z + 1)  # registers that a call may change
-BY_TABLE = (0, Z, Z + 1)  # those that `__tablejump2__` does
+BASES = 1000  # and from here on of what no register holds
 OUTSIDE = -1  # from where a function is entered
 MOST_VISITS = 60  # of a word, behind which nothing is told there
+CHANGED = (0, *range(18, 28), Z, Z + 1)  # registers that a call may change
+BY_TABLE = (0, Z, Z + 1)  # those that `__tablejump2__` does
 SPL, SPH = 0x5D, 0x5E
+RETURNS = (0x9508, 0x9518)
 SAVES, RESTORES, TABLES = "__prologue_saves__", "__epilogue_restores__", "__tablejump"
+
+
+class Byte(NamedTuple):
+    """What a byte is, by its kind:
+    GIVEN     what register `number` held at the function's begin
+    CONSTANT  `number`
+    OWN       a value of its own
+    HALF      the lower (`part` 0) or higher (1) byte of `pair` plus `number`
+    LOW       the lower byte of the same, which alone was moved by `part` so far
+    MEMORY    the byte of memory to which `pair` plus `number` points
+    FLASH     the same, of flash
+    FIXED     the byte of memory at address `number`
+    STACK     the lower (`part` 0) or higher byte of the stack pointer at the function's begin, or at another place (`tag`)
+    `tag` says what gave the value: the word of an instruction and a register, or the same of a joint of ways, whose registers count from
+    JOINT. Two bytes with one tag, or told by bytes with one, come of one time that the instruction ran. """
+
+    kind: int
+    number: int = 0
+    pair: Optional[Tuple[Byte, Byte]] = None
+    part: int = 0
+    tag: Tag = UNTAGGED
+
+
+Pair = Tuple[Byte, Byte]
+Spans = Tuple[Tuple[Pair, int, int], ...]
+FRAME: Pair = (Byte(STACK), Byte(STACK, part=1))
+NOWHERE: Pair = (Byte(CONSTANT), Byte(CONSTANT))  # the base of pairs that are constants
 
 
 class State(NamedTuple):
     """The bytes of the registers; how many bytes were pushed since the function's begin (None: not known), and which; the least and the
     greatest number that pairs may be on this way, by comparisons."""
 
-    bytes: Bytes
+    bytes: Tuple[Byte, ...]
     depth: Optional[int]
     pushed: Tuple[Byte, ...]
     spans: Spans
@@ -61,47 +70,41 @@ def signed(number: int) -> int:
 def half(pair: Pair, more: int, which: int) -> Byte:
     """A byte of a pair plus a number."""
     if pair == NOWHERE:
-        return CONSTANT, more >> 8 * which & 0xFF
-    return (HALF, pair, more, which) if more else pair[which]
+        return Byte(CONSTANT, more >> 8 * which & 0xFF)
+    return Byte(HALF, more, pair, which) if more else pair[which]
+
+
+def own(word: int, register: int) -> Byte:
+    return Byte(OWN, tag=(word, register))
 
 
 def pair_of(low: Byte, high: Byte) -> Tuple[Pair, int]:
     """The pair from which two bytes are made, and what was added to it."""
-    if low[0] == high[0] == HALF and low[1:] == (*high[1:3], 0) and high[3] == 1:
-        return low[1], low[2]
-    if low[0] == high[0] == CONSTANT:
-        return NOWHERE, low[1] | high[1] << 8
+    if low.kind == high.kind == HALF and low.pair is not None and low[1:3] == high[1:3] and (low.part, high.part) == (0, 1):
+        return low.pair, low.number
+    if low.kind == high.kind == CONSTANT:
+        return NOWHERE, low.number | high.number << 8
     return (low, high), 0
-
-
-def is_frame(pair: Pair) -> bool:
-    """Whether a pair is made of the stack pointer."""
-    return pair[0][0] == "frame"
-
-
-def are_halves(low: Byte, high: Byte) -> bool:
-    """Whether two bytes lie beside each other in memory."""
-    return low[0] == high[0] and (low[0] == FIXED and low[1] + 1 == high[1]
-                                  or low[0] in (MEMORY, FLASH) and low[1] == high[1] and low[2] + 1 == high[2])
-
-
-def tag_of(byte: Byte) -> Optional[Tag]:
-    return byte[-1] if byte[0] in TAGGED else None
 
 
 def is_of_frame(byte: Byte) -> bool:
     """Whether a byte is made of the stack pointer by constants."""
-    return byte[0] == "frame" or byte[0] in (HALF, LOW) and is_frame(byte[1])
+    return byte.kind == STACK or byte.kind in (HALF, LOW) and byte.pair is not None and is_frame(byte.pair)
+
+
+def is_frame(pair: Pair) -> bool:
+    """Whether a pair is made of the stack pointer."""
+    return pair[0].kind == STACK
+
+
+def are_halves(low: Byte, high: Byte) -> bool:
+    """Whether two bytes lie beside each other in memory."""
+    return low.kind == high.kind and low.kind in (MEMORY, FLASH, FIXED) and low.pair == high.pair and low.number + 1 == high.number
 
 
 def held(byte: Byte, tags: AbstractSet[Tag]) -> bool:
     """Whether a byte has one of these tags, or is told by one that has."""
-    kind = byte[0]
-    if kind in (OWN, FIXED):
-        return byte[-1] in tags
-    if kind in (MEMORY, FLASH):
-        return byte[3] in tags or holds(byte[1], tags)
-    return kind in (HALF, LOW) and holds(byte[1], tags)
+    return byte.tag in tags or byte.pair is not None and holds(byte.pair, tags)
 
 
 def holds(pair: Pair, tags: AbstractSet[Tag]) -> bool:
@@ -125,7 +128,7 @@ class Function:
         self.labels: Optional[Set[int]] = None
         self.naming: Set[int] = set()  # words that have given values of their own
         is_handler = symbol.name.startswith("__vector_")
-        first = tuple((CONSTANT, 0) if it == ZERO and not is_handler else (GIVEN, it) for it in range(32))
+        first = tuple(Byte(CONSTANT) if it == ZERO and not is_handler else Byte(GIVEN, it) for it in range(32))
         self.enter(OUTSIDE, self.begin, State(first, 0, (), ()))
         for word in sorted(entered_inside(elf).get(symbol.address, ())):
             self.enter(OUTSIDE, word, nothing(word))
@@ -159,30 +162,31 @@ class Function:
         """Goes on at the words that may follow one."""
         elf, opcode = self.elf, self.elf.word(word)
         after = word + opcodes.length(opcode)
-        if opcode in (0x9508, 0x9518):
+        if opcode in RETURNS:
             return
         if opcodes.is_jump(opcode):
-            for to in self.to_labels(word):
-                self.enter(word, to, state)
+            for label in self.to_labels(word):
+                self.enter(word, label, state)
         elif (to := opcodes.jump_target(elf, word)) is not None:
             self.jump(word, to, after, state)
-        elif (to := opcodes.call_target(elf, word)) == after:
+        elif (called := opcodes.call_target(elf, word)) == after:
             room = None if state.depth is None else state.depth + self.return_bytes
-            made = [(OWN, (word, -1 - it)) for it in range(self.return_bytes)]
+            made = [own(word, -1 - it) for it in range(self.return_bytes)]
             self.enter(word, after, state._replace(depth=room, pushed=(*state.pushed, *made)))
-        elif to is not None or opcodes.is_call(opcode):
+        elif called is not None or opcodes.is_call(opcode):
             self.enter(word, after, self.fresh(word, state, CHANGED))
         else:
             moved = self.behind(word, opcode, state)
-            for number, to in enumerate(opcodes.following(elf, word)):
-                self.enter(word, to, moved if opcode & 0xF800 != 0xF000 else self.compared(word, opcode, moved, number == 1))
+            for number, way in enumerate(opcodes.following(elf, word)):
+                self.enter(word, way, moved if opcode & 0xF800 != 0xF000 else self.compared(word, opcode, moved, number == 1))
 
     def to_labels(self, word: int) -> Set[int]:
         """The words of this function to which a jump through a pointer may lead."""
         if table := candidates.table_of_jumps(self.elf, word):
             return table
         if self.labels is None:
-            known = records.words(self.elf) if records.has_records(self.elf) else taken.numbers_in_data(self.elf) | taken.numbers_loaded(self.elf)
+            numbers = taken.numbers_in_data(self.elf) | taken.numbers_loaded(self.elf)
+            known = records.words(self.elf) if records.has_records(self.elf) else numbers
             self.labels = (self.words & known) - {self.begin}
         return self.labels
 
@@ -191,9 +195,9 @@ class Function:
         name = symbol.name if symbol else ""
         if name == SAVES:
             low, high = state.bytes[X], state.bytes[X + 1]
-            size = low[1] | high[1] << 8 if low[0] == high[0] == CONSTANT else None
+            size = low.number | high.number << 8 if low.kind == high.kind == CONSTANT else None
             moved = self.fresh(word, state, CHANGED)
-            moved = put(moved, Y, (("frame", word, 0), ("frame", word, 1))) if size is None else with_pair(moved, Y, FRAME, -size)
+            moved = put(moved, Y, unknown_frame(word)) if size is None else with_pair(moved, Y, FRAME, -size)
             self.enter(word, after, moved._replace(depth=size, pushed=()))
         elif name.startswith(TABLES) and not self.begin <= to < self.end:
             moved = self.fresh(word, state, BY_TABLE)
@@ -204,7 +208,7 @@ class Function:
 
     def fresh(self, word: int, state: State, registers: Tuple[int, ...]) -> State:
         """The state in which a word has given these registers values of their own."""
-        return self.given(word, state, {it: (OWN, (word, it)) for it in registers})
+        return self.given(word, state, {it: own(word, it) for it in registers})
 
     def given(self, word: int, state: State, made: Dict[int, Byte]) -> State:
         """The state in which a word has given registers these values. What was told by those that the same word gave before, in a loop,
@@ -223,19 +227,19 @@ class Function:
         if effect is effects.NOTHING:
             return state
         if isinstance(effect, effects.Copy):
-            return put(state, effect.to, state.bytes[effect.of:effect.of + effect.count])
+            return put(state, effect.to, state.bytes[effect.of:effect.of + effect.size])
         if isinstance(effect, effects.Constant):
-            return put(state, effect.to, ((CONSTANT, effect.byte),))
+            return put(state, effect.to, (Byte(CONSTANT, effect.byte),))
         if isinstance(effect, effects.Load):
             return self.load(word, effect, state)
         if isinstance(effect, effects.LoadAt):
-            return self.from_stack(state, word, effect.to, effect.address) or self.given(
-                word, state, {effect.to: (FIXED, effect.address, (word, effect.to))})
+            found = self.from_stack(state, word, effect.to, effect.address)
+            return found or self.given(word, state, {effect.to: Byte(FIXED, effect.address, tag=(word, effect.to))})
         if isinstance(effect, effects.Store):
             return self.step(state, effect.pair, effect.step)
         if isinstance(effect, effects.LoadFlash):
             pair, more = pair_of(state.bytes[Z], state.bytes[Z + 1])
-            return self.given(word, self.step(state, Z, effect.step), {effect.to: (FLASH, pair, more, (word, effect.to))})
+            return self.given(word, self.step(state, Z, effect.step), {effect.to: Byte(FLASH, more, pair, tag=(word, effect.to))})
         if isinstance(effect, effects.Step):
             return self.step(state, effect.pair, effect.by)
         if isinstance(effect, effects.Sum):
@@ -244,12 +248,11 @@ class Function:
 
     def load(self, word: int, effect: effects.Load, state: State) -> State:
         pair, more = pair_of(state.bytes[effect.pair], state.bytes[effect.pair + 1])
-        if not self.has_high and state.bytes[effect.pair][0] == "frame":
+        if not self.has_high and state.bytes[effect.pair].kind == STACK:
             pair, more = FRAME, 0
-        moved = self.step(state, effect.pair, effect.step)
-        if pair == NOWHERE:
-            return self.given(word, moved, {effect.to: (FIXED, more + effect.more & 0xFFFF, (word, effect.to))})
-        return self.given(word, moved, {effect.to: (MEMORY, pair, signed(more + effect.more), (word, effect.to))})
+        moved, tag, more = self.step(state, effect.pair, effect.step), (word, effect.to), more + effect.more
+        return self.given(word, moved, {effect.to: Byte(FIXED, more & 0xFFFF, tag=tag) if pair == NOWHERE else
+                                        Byte(MEMORY, signed(more), pair, tag=tag)})
 
     def step(self, state: State, register: int, by: int) -> State:
         """The state behind a move of a pair."""
@@ -260,36 +263,35 @@ class Function:
 
     def sum(self, state: State, effect: effects.Sum) -> Optional[State]:
         """The state behind a sum or a difference; None where it isn't followed."""
-        to, of, values = effect.to, effect.of, state.bytes
-        other = (CONSTANT, effect.byte) if of is None else values[of]
-        if other[0] != CONSTANT and of is not None and not effect.is_less and values[to][0] == CONSTANT:
-            to, other = of, values[to]  # a constant to which a pair is added
-        if other[0] != CONSTANT:
+        to, values = effect.to, state.bytes
+        other = Byte(CONSTANT, effect.byte) if effect.of is None else values[effect.of]
+        if other.kind != CONSTANT and effect.of is not None and not effect.is_less and values[to].kind == CONSTANT:
+            to, other = effect.of, values[to]  # a constant to which a pair is added
+        if other.kind != CONSTANT:
             return None
-        by = -other[1] if effect.is_less else other[1]
+        by = -other.number if effect.is_less else other.number
         if effect.carries:
-            if not to or not effect.to or to % 2 != effect.to % 2:
-                return None
-            low = values[effect.to - 1]
-            if low[0] != LOW or half(low[1], low[2], 1) != values[to]:
-                return None
-            return with_pair(state, effect.to - 1, low[1], signed(low[2] + low[3] + 256 * by))
-        if values[to][0] == CONSTANT:
-            return put(state, effect.to, ((CONSTANT, values[to][1] + by & 0xFF),)) if effect.of is None else None
-        if to % 2:
+            return self.high_sum(state, effect.to, values[to], by)
+        if values[to].kind == CONSTANT:
+            return put(state, effect.to, (Byte(CONSTANT, values[to].number + by & 0xFF),)) if effect.of is None else None
+        if to % 2 or not self.has_high and is_of_frame(values[to]):
             return None
         pair, more = pair_of(values[to], values[to + 1])
-        if not self.has_high and values[to][0] in ("frame", HALF) and is_frame(values[to] if values[to][0] == "frame" else values[to][1]):
+        return put(state, effect.to, (Byte(LOW, more, pair, by),))
+
+    def high_sum(self, state: State, to: int, high: Byte, by: int) -> Optional[State]:
+        """The state behind the higher half of a sum whose lower half stands below."""
+        low = state.bytes[to - 1]
+        if to % 2 == 0 or low.kind != LOW or low.pair is None or half(low.pair, low.number, 1) != high:
             return None
-        return put(state, effect.to, ((LOW, pair, more, by),))
+        return with_pair(state, to - 1, low.pair, signed(low.number + low.part + 256 * by))
 
     def from_stack(self, state: State, word: int, to: int, address: int) -> Optional[State]:
         """The state behind a read of the stack pointer; None of another address."""
-        if address not in (SPL, SPH) or not self.elf.chip.core.get("SPL"):
+        if address not in (SPL, SPH):
             return None
         which = int(address == SPH)
-        byte = half(FRAME, -state.depth, which) if state.depth is not None else ("frame", word - which, which)
-        return put(state, to, (byte,))
+        return put(state, to, (half(FRAME, -state.depth, which) if state.depth is not None else unknown_frame(word - which)[which],))
 
     def with_stack(self, word: int, effect: effects.Effect, state: State) -> State:
         if isinstance(effect, effects.Push):
@@ -298,19 +300,19 @@ class Function:
             moved = state._replace(depth=None if state.depth is None else state.depth - 1, pushed=state.pushed[:-1])
             return put(moved, effect.to, (state.pushed[-1],)) if state.pushed else self.fresh(word, moved, (effect.to,))
         if isinstance(effect, effects.Output):
-            if effect.address != SPL:
-                return state
-            byte = state.bytes[effect.of]
-            if byte[0] == HALF and byte[1] == FRAME or byte == FRAME[0]:
-                depth = -byte[2] if byte[0] == HALF else 0
-                pushed = state.pushed[:depth] if len(state.pushed) == state.depth and depth <= len(state.pushed) else \
-                    (*state.pushed, *[(OWN, (word, -1 - it)) for it in range(depth - len(state.pushed))]) if len(state.pushed) == state.depth else ()
-                return state._replace(depth=depth, pushed=pushed)
-            return state._replace(depth=None, pushed=())
+            return self.set_stack(word, state, state.bytes[effect.of]) if effect.address == SPL else state
         if isinstance(effect, effects.Input):
             if (found := self.from_stack(state, word, effect.to, effect.address)) is not None:
                 return found
         return self.fresh(word, state, effects.written(effect))
+
+    def set_stack(self, word: int, state: State, low: Byte) -> State:
+        """The state behind a write of the stack pointer, by what its lower byte becomes."""
+        depth = -low.number if low.kind == HALF and low.pair == FRAME else 0 if low == FRAME[0] else None
+        if depth is None or len(state.pushed) != state.depth:
+            return state._replace(depth=depth, pushed=())
+        made = [own(word, -1 - it) for it in range(depth - len(state.pushed))]
+        return state._replace(depth=depth, pushed=(*state.pushed[:max(depth, 0)], *made))
 
     def compared(self, word: int, opcode: int, state: State, is_taken: bool) -> State:
         """The state on a way from `brcs` or `brcc`, with what the comparison before leaves of a pair."""
@@ -346,8 +348,8 @@ class Function:
         if first & 0xF000 == 0x3000 and last & 0xFC00 == 0x0400 and word - 2 in self.before:
             values = self.before[word - 2].bytes
             low, high, other = 16 + (first >> 4 & 15), last >> 4 & 31, values[last & 15 | last >> 5 & 16]
-            if high == low + 1 and other[0] == CONSTANT:
-                return pair_of(values[low], values[high]), first & 15 | first >> 4 & 0xF0 | other[1] << 8
+            if high == low + 1 and other.kind == CONSTANT:
+                return pair_of(values[low], values[high]), first & 15 | first >> 4 & 0xF0 | other.number << 8
         return None
 
 
@@ -360,16 +362,21 @@ def with_pair(state: State, register: int, pair: Pair, more: int) -> State:
     return put(state, register, (half(pair, more, 0), half(pair, more, 1)))
 
 
+def unknown_frame(word: int) -> Pair:
+    """The stack pointer at a place where it isn't known how many bytes were pushed."""
+    return Byte(STACK, tag=(word, 0)), Byte(STACK, part=1, tag=(word, 0))
+
+
 def without(state: State, word: int, tags: AbstractSet[Tag]) -> State:
     """The state in which nothing is told by values with these tags."""
-    values = [(OWN, (word, 2 * JOINT + at)) if held(byte, tags) else byte for at, byte in enumerate(state.bytes)]
-    pushed = [(OWN, (word, -2 * JOINT - at)) if held(byte, tags) else byte for at, byte in enumerate(state.pushed)]
+    values = [own(word, 2 * JOINT + at) if held(byte, tags) else byte for at, byte in enumerate(state.bytes)]
+    pushed = [own(word, -2 * JOINT - at) if held(byte, tags) else byte for at, byte in enumerate(state.pushed)]
     return State(tuple(values), state.depth, tuple(pushed), tuple(it for it in state.spans if not holds(it[0], tags)))
 
 
 def nothing(word: int) -> State:
     """The state in which nothing is known but that each register has a value of its own."""
-    return State(tuple((OWN, (word, JOINT + it)) for it in range(32)), None, (), ())
+    return State(tuple(own(word, JOINT + it) for it in range(32)), None, (), ())
 
 
 class Joint:
@@ -379,30 +386,41 @@ class Joint:
     def __init__(self, ways: List[State], word: int) -> None:
         self.word, self.ways = word, ways
         self.names: Dict[Tuple[Byte, ...], Byte] = {}
-        self.stale = [{(word, JOINT + at) for at in range(32) if tag_of(way.bytes[at]) != (word, JOINT + at)} for way in ways]
 
-    def meet(self, found: Tuple[Byte, ...], at: int) -> Byte:
+    def is_stale(self, byte: Byte, way: State) -> bool:
+        """Whether a byte is told by what met here before, in a loop, and has changed since."""
+        word, at = byte.tag
+        if word == self.word and at >= JOINT:
+            return at >= JOINT + len(way.bytes) or way.bytes[at - JOINT].tag != byte.tag
+        return byte.pair is not None and self.is_any_stale(byte.pair, way)
+
+    def is_any_stale(self, pair: Pair, way: State) -> bool:
+        return self.is_stale(pair[0], way) or self.is_stale(pair[1], way)
+
+    def meet(self, found: Tuple[Byte, ...], at: Optional[int] = None) -> Byte:
+        """What a byte is that the ways tell so; `at`: the register that has it."""
         first = found[0]
-        if found.count(first) == len(found) and not any(held(first, it) for it in self.stale):
+        if found.count(first) == len(found) and not any(self.is_stale(first, way) for way in self.ways):
             return first
         if found not in self.names:
-            self.names[found] = self.made(found, at)
+            self.names[found] = self.made(found, JOINT + (BASES + len(self.names) if at is None else at))
         return self.names[found]
 
     def made(self, found: Tuple[Byte, ...], at: int) -> Byte:
-        kind, tag = found[0][0], (self.word, JOINT + at)
-        if kind in (MEMORY, FLASH) and all(it[0] == kind and it[2] == found[0][2] for it in found):
-            pair = self.meet(tuple([it[1][0] for it in found]), at + 40), self.meet(tuple([it[1][1] for it in found]), at + 80)
-            return kind, pair, found[0][2], tag
-        if kind == FIXED and all(it[:2] == found[0][:2] for it in found):
-            return FIXED, found[0][1], tag
-        return ("frame", self.word, at) if any(is_of_frame(it) for it in found) else (OWN, tag)
+        first, tag = found[0], (self.word, at)
+        if first.kind in (MEMORY, FLASH, FIXED) and all(it.kind == first.kind and it.number == first.number for it in found):
+            pairs = [it.pair for it in found if it.pair is not None]
+            pair = (self.meet(tuple([it[0] for it in pairs])), self.meet(tuple([it[1] for it in pairs]))) if pairs else None
+            return Byte(first.kind, first.number, pair, tag=tag)
+        if any(is_of_frame(it) for it in found):
+            return Byte(STACK, part=at % 2, tag=(self.word, at - at % 2))
+        return Byte(OWN, tag=tag)
 
     def spans(self) -> Iterator[Tuple[Pair, int, int]]:
         """Yields what comparisons leave of pairs on each way."""
         known = [{pair: (least, greatest) for pair, least, greatest in way.spans} for way in self.ways]
         for pair in known[0]:
-            if all(pair in it for it in known) and not any(holds(pair, it) for it in self.stale):
+            if all(pair in it for it in known) and not any(self.is_any_stale(pair, way) for way in self.ways):
                 yield pair, min(it[pair][0] for it in known), max(it[pair][1] for it in known)
 
     def state(self) -> State:
@@ -410,7 +428,7 @@ class Joint:
         values = tuple([self.meet(found, at) for at, found in enumerate(zip(*(way.bytes for way in ways)))])
         pushed: Tuple[Byte, ...] = ()
         if all(len(way.pushed) == len(ways[0].pushed) for way in ways):
-            pushed = tuple([self.meet(found, 160 + at) for at, found in enumerate(zip(*(way.pushed for way in ways)))])
+            pushed = tuple([self.meet(found) for found in zip(*(way.pushed for way in ways))])
         depth = ways[0].depth if all(way.depth == ways[0].depth for way in ways) else None
         return State(values, depth, pushed, tuple(self.spans()) if ways[0].spans else ())
 

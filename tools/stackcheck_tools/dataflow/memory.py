@@ -5,7 +5,7 @@ from __future__ import annotations
 from typing import Dict, Optional, Set, Tuple
 
 from stackcheck_tools.dataflow.addresses import Addresses
-from stackcheck_tools.dataflow.origin import ALONE, FIRST_OBJECT, KEPT, MOVED, NUMBER, OBJECTS, OTHER, POINTERS, few, object_bit
+from stackcheck_tools.dataflow.origin import ALONE, KEPT, MOVED, OBJECTS, POINTERS, few, object_bit
 
 Place = Tuple[int, Optional[int]]  # an object, and the distance from its begin (None: not known)
 Written = Dict[Place, int]
@@ -15,10 +15,10 @@ FAR = 256  # bytes of an object whose first values are looked at
 
 
 class Memory:
-    """`by_name`: what is written at known places of objects and frames; `through`: the same through pointers that were made of an object.
-    `pushed`: what is pushed, which no pointer
-    to an object reads. An object is a number: one of the firmware's objects, or behind these the frame of a function. `known`: what an earlier look found; without
-    it each object may hold pointers. `open`: frames of which a pointer leads out, where arguments stand."""
+    """An object is a number: one of the firmware's objects, or behind these the frame of a function. `by_name`: what is written at known
+    places of them; `through`: through pointers that were made of them; `pushed`: what is pushed, which no pointer to an object reads. `known`:
+    what an earlier look found; without it each object may hold pointers. `open`: frames of which a pointer leads out, to where arguments
+    stand."""
 
     def __init__(self, told: Addresses, known: Optional["Memory"] = None) -> None:
         self.told, self.known = told, known
@@ -114,8 +114,3 @@ class Memory:
         if place in self.by_name or place in self.pushed:
             return few(self.by_name.get(place, 0) | self.pushed.get(place, 0) | self.through.get(place, 0))
         return self.through_pointer((number, distance))
-
-
-def is_unknown(bits: int) -> bool:
-    """Whether a pointer may lead to memory of which nothing is told."""
-    return bool(bits & OTHER) or not bits >> FIRST_OBJECT and not bits & NUMBER

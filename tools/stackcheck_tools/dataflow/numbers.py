@@ -7,15 +7,17 @@ from typing import AbstractSet, FrozenSet, Iterator, Optional, Set, Tuple
 
 from stackcheck_tools.dataflow import loaded
 from stackcheck_tools.dataflow.addresses import Addresses
-from stackcheck_tools.dataflow.origin import ALONE, CODE, FLASH, KEPT, MOVED, NUMBER, POINTERS, constants, is_number
+from stackcheck_tools.dataflow.origin import ALONE, FLASH, KEPT, MOVED, NUMBER, OBJECTS, POINTERS, constants, is_number
 from stackcheck_tools.dataflow.origins import Origins
-from stackcheck_tools.firmware import effects, opcodes
+from stackcheck_tools.firmware import effects
 from stackcheck_tools.firmware.effects import Z
-from stackcheck_tools.firmware.elf import CODE_END, EEPROM, Elf
+from stackcheck_tools.firmware.elf import CODE_END, EEPROM
 from stackcheck_tools.firmware.taken import pieces, virtual_tables
 
-MADE, IN_FLASH, IN_DATA, ADDED = ("is made of a number", "is read from a table in flash that has this number", "is read from memory that has this number",
-                                  "is something added to a pointer that was read from memory")
+MADE = "is made of a number"
+IN_FLASH = "is read from a table in flash that has this number"
+IN_DATA = "is read from memory that has this number first"
+ADDED = "is something added to a pointer that was read from memory"
 
 
 def is_address(told: Addresses, place: int) -> bool:
@@ -79,8 +81,8 @@ class Pointers:
 
     def why(self, wanted: int, pairs: Iterator[Tuple[int, int]]) -> Iterator[str]:
         for low, high in pairs:
-            is_widened = not high & POINTERS
-            if (is_widened and low & POINTERS or may_be(low, wanted & 0xFF)) and may_be(high, wanted >> 8):
+            is_widened = not high & POINTERS and low & POINTERS and (self.elf.chip.has_sph or not low & OBJECTS)
+            if (is_widened or may_be(low, wanted & 0xFF)) and may_be(high, wanted >> 8):
                 yield MADE
             elif (low | high) & FLASH and wanted in numbers_in_flash(self.told):
                 yield IN_FLASH

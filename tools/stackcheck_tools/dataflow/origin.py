@@ -178,11 +178,11 @@ def paired(byte: int) -> int:
     return byte & ~ALONE | KEPT if byte & ALONE else byte
 
 
-SHOWN = ((NUMBER, "number"), (ALONE, "alone"), (KEPT, "kept"), (FLASH, "flash"), (MOVED, "moved"), (CODE, "code"), (TABLE, "table"), (OTHER, "other"),
-         (LESS, "less"))
+SHOWN = {"number": NUMBER, "alone": ALONE, "kept": KEPT, "flash": FLASH, "moved": MOVED, "code": CODE, "table": TABLE,
+         "other": OTHER, "less": LESS}
 
 
 def shown(byte: int) -> str:
     """A byte in words."""
-    found = [name for mark, name in SHOWN if byte & mark] + [f"{it:02X}" for it in constants(byte)] + [f"object {it}" for it in objects(byte)]
-    return "|".join(found) or "nothing"
+    found = [name for name, mark in SHOWN.items() if byte & mark]
+    return "|".join([*found, *(f"{it:02X}" for it in constants(byte)), *(f"object {it}" for it in objects(byte))]) or "nothing"

@@ -6,13 +6,12 @@ written was seen, so the first run takes all objects to hold pointers, and the s
 from __future__ import annotations
 
 import heapq
-from typing import AbstractSet, Dict, Iterator, List, NamedTuple, Optional, Protocol, Set, Tuple
+from typing import Dict, Iterator, List, NamedTuple, Optional, Protocol, Set, Tuple
 
 from stackcheck_tools.dataflow import loaded, origin
 from stackcheck_tools.dataflow.addresses import Addresses
 from stackcheck_tools.dataflow.memory import Memory
-from stackcheck_tools.dataflow.origin import (ALONE, CODE, FIRST_OBJECT, FLASH, KEPT, MOVED, NUMBER, OBJECTS, OTHER, POINTERS, TABLE, ZERO,
-                                              constants, few)
+from stackcheck_tools.dataflow.origin import ALONE, CODE, FLASH, KEPT, MOVED, NUMBER, OBJECTS, OTHER, POINTERS, TABLE, ZERO, constants, few
 from stackcheck_tools.firmware import effects, opcodes
 from stackcheck_tools.firmware.devices import Device
 from stackcheck_tools.firmware.effects import Y, Z
@@ -21,6 +20,7 @@ from stackcheck_tools.firmware.elf import Elf
 Key = Tuple[int, int]  # the word at which a function is entered, and one that is reached there
 Registers = Tuple[int, ...]
 KEPT_BY_CALLS = (*range(2, 18), 28, 29)
+NO_ARGUMENTS = (*range(2, 8), 28, 29)  # registers in which no caller leaves anything for a callee
 MOST_ROUNDS = 40
 RETURNS = (0x9508, 0x9518)
 SMALL = 32  # addresses below are of registers
@@ -50,6 +50,16 @@ class Targets(Protocol):
     def of(self, site: int, kind: str) -> Set[int]: ...
 
 
+class Firmware(NamedTuple):
+    """What is followed, and what is known of it."""
+
+    elf: Elf
+    device: Device
+    reached: Reached
+    targets: Targets
+    told: Addresses
+
+
 def joined(ours: Registers, theirs: Registers) -> Registers:
     return ours if ours == theirs else tuple([few(a | b) if a != b else a for a, b in zip(ours, theirs)])
 
@@ -57,9 +67,9 @@ def joined(ours: Registers, theirs: Registers) -> Registers:
 class Run:
     """One run of the worklist. `before`: what is known before each word, by the function that was entered."""
 
-    def __init__(self, elf: Elf, device: Device, reached: Reached, targets: Targets, told: Addresses, earlier: Optional["Run"] = None) -> None:
-        self.elf, self.device, self.reached, self.targets, self.told = elf, device, reached, targets, told
-        self.memory = Memory(told, earlier.memory if earlier else None)
+    def __init__(self, firmware: Firmware, earlier: Optional["Run"] = None) -> None:
+        self.elf, self.device, self.reached, self.targets, self.told = firmware
+        self.memory: Memory = Memory(self.told, earlier.memory if earlier else None)
         self.hints: Dict[Key, Registers] = earlier.pointers() if earlier else {}
         self.before: Dict[Key, State] = {}
         self.exits: Dict[int, Registers] = {}
@@ -90,8 +100,8 @@ class Run:
                 break
 
     def enter_missed(self) -> bool:
-        """Enters words of the certificate to which no way is known yet: begins of functions, which are entered by a list of constructors, with
-        nothing; else as a jump through a pointer in the same function ends. Whether there was one."""
+        """Enters words of the certificate to which no way is known yet: begins of functions, which are entered by a list of constructors,
+        with nothing; else as a jump through a pointer in the same function ends. Whether there was one."""
         seen = {word for _, word in self.before}
         jumps = [(key, state) for key, state in self.before.items() if opcodes.is_jump(self.elf.word(key[1]))]
         for word in sorted(set(self.reached.at) - seen):
@@ -138,7 +148,10 @@ class Run:
         """Enters a function, behind which a run goes on at a word, or returns itself."""
         state = self.before[key]
         self.callers.setdefault(to, set()).add(key)
-        self.enter((to, to), State(state.registers, {}))
+        arguments = list(state.registers)
+        for it in NO_ARGUMENTS:
+            arguments[it] = 0
+        self.enter((to, to), State(tuple(arguments), {}))
         given = self.exits.get(to)
         if given is None:
             return
@@ -230,7 +243,7 @@ class Run:
         """Follows what is no jump and no call."""
         entry, word = key
         state = self.before[key]
-        moved = Behind(self, key).state
+        moved = Behind(self, key).state()
         ways = opcodes.following(self.elf, word)
         tested = self.elf.word(word - 1)
         is_tested = tested & 0xFC00 == 0x2000 and opcodes.destination(tested) == (tested & 15 | tested >> 5 & 16)
@@ -253,15 +266,18 @@ class Behind:
         self.key, self.near = key, run.nearby(key[1])
         before = run.before[key]
         self.registers, self.slots = list(before.registers), before.slots
-        self.follow(effects.at(run.elf, self.word))
-        self.state = State(tuple(self.registers), self.slots)
+
+    def state(self) -> State:
+        self.follow(effects.at(self.run.elf, self.word))
+        return State(tuple(self.registers), self.slots)
 
     def follow(self, effect: effects.Effect) -> None:
         registers = self.registers
         if isinstance(effect, effects.Copy):
-            registers[effect.to:effect.to + effect.count] = registers[effect.of:effect.of + effect.count]
+            registers[effect.to:effect.to + effect.size] = registers[effect.of:effect.of + effect.size]
         elif isinstance(effect, effects.Constant):
-            registers[effect.to] = self.told.of_immediate(self.word, effect.to, effect.byte, True) if effect.is_named else 1 << effect.byte
+            is_named = effect.is_named
+            registers[effect.to] = self.told.of_immediate(self.word, effect.to, effect.byte, True) if is_named else 1 << effect.byte
         elif isinstance(effect, effects.Sum):
             self.sum(effect)
         elif isinstance(effect, effects.Step):
@@ -297,7 +313,7 @@ class Behind:
         return self.near is not None and loaded.is_of_frame(self.near.bytes[register])
 
     def is_constant(self, register: int) -> bool:
-        return self.near is not None and self.near.bytes[register][0] == loaded.CONSTANT
+        return self.near is not None and self.near.bytes[register].kind == loaded.CONSTANT
 
     def sum(self, effect: effects.Sum) -> None:
         registers, to, of = self.registers, effect.to, effect.of
@@ -318,7 +334,8 @@ class Behind:
         else:
             other, is_less = 1 << effect.byte if of is None else registers[of], effect.is_less
         if of == to:
-            registers[to] = (origin.ZERO | (1 << 255 if effect.carries else 0)) if is_less else origin.doubled(registers[to], effect.carries)
+            borrowed = origin.of_constants((0, 0xFF)) if effect.carries else ZERO
+            registers[to] = borrowed if is_less else origin.doubled(registers[to], effect.carries)
         else:
             apply = origin.less if is_less else origin.plus
             registers[to] = apply(registers[to], other, effect.carries, lower)
@@ -409,8 +426,8 @@ class Behind:
         if self.near is None:
             return None
         low, high = pair
-        if low[0] == high[0] == loaded.GIVEN and (first := self.run.before.get((self.entry, self.entry))):
-            return first.registers[low[1]] | first.registers[high[1]]
+        if low.kind == high.kind == loaded.GIVEN and (first := self.run.before.get((self.entry, self.entry))):
+            return first.registers[low.number] | first.registers[high.number]
         for at in range(31):
             if self.near.bytes[at] == low and self.near.bytes[at + 1] == high:
                 return self.registers[at] | self.registers[at + 1]
@@ -476,8 +493,6 @@ class Behind:
         if after is None:
             return None
         own = after.bytes[to]
-        if own[0] not in (loaded.MEMORY, loaded.FLASH, loaded.FIXED):
-            return None
         lower = [to - 1, 0] if to % 2 else list(range(0, 32, 2)) if to == 0 else []
         upper = [to + 1] if to % 2 == 0 and to else list(range(1, 32, 2)) if to == 0 else []
         for other in lower:
@@ -521,8 +536,8 @@ class Origins:
 
     def __init__(self, elf: Elf, device: Device, reached: Reached, targets: Targets) -> None:
         self.elf, self.told = elf, Addresses(elf)
-        first = Run(elf, device, reached, targets, self.told)
-        self.run = Run(elf, device, reached, targets, self.told, first)
+        firmware = Firmware(elf, device, reached, targets, self.told)
+        self.run = Run(firmware, Run(firmware))
         self.by_word: Dict[int, List[Key]] = {}
         for key in self.run.before:
             self.by_word.setdefault(key[1], []).append(key)

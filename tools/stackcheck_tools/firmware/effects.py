@@ -4,7 +4,7 @@ else. What flags and the program counter become isn't told."""
 from __future__ import annotations
 
 import functools
-from typing import Dict, NamedTuple, Optional, Tuple, Union
+from typing import NamedTuple, Optional, Tuple, Union
 
 from stackcheck_tools.firmware import opcodes
 from stackcheck_tools.firmware.elf import Elf
@@ -19,7 +19,7 @@ class Copy(NamedTuple):
 
     to: int
     of: int
-    count: int
+    size: int
 
 
 class Constant(NamedTuple):
@@ -134,14 +134,15 @@ class Pop(NamedTuple):
 
 
 class Nothing(NamedTuple):
-    """What writes no register and no byte of memory but by `sbi` and `cbi`: tests, branches, jumps, calls."""
+    """What writes no register and no byte of SRAM: tests, branches, jumps, calls."""
 
 
-Effect = Union[Copy, Constant, Sum, Step, Logic, Negation, Mixed, Load, LoadAt, LoadFlash, Store, StoreAt, Input, Output, Push, Pop, Nothing]
+Effect = Union[Copy, Constant, Sum, Step, Logic, Negation, Mixed, Load, LoadAt, LoadFlash, Store, StoreAt, Input, Output, Push, Pop,
+               Nothing]
 
 NOTHING = Nothing()
 OPERATIONS = {0x2000: "and", 0x2400: "xor", 0x2800: "or", 0x6000: "or", 0x7000: "and"}
-SUMS = {0x0C00: (False, False), 0x1C00: (False, True), 0x1800: (True, False), 0x0800: (True, True)}  # add adc sub sbc: less, carries
+SUMS = {0x0C00: (False, False), 0x1C00: (False, True), 0x1800: (True, False), 0x0800: (True, True)}  # `add` .. `sbc`: less, carries
 DISPLACED = {0x0: Z, 0x8: Y, 0xC: X}
 
 
@@ -250,7 +251,7 @@ def written(effect: Effect) -> Tuple[int, ...]:
     if isinstance(effect, LoadFlash):
         return (effect.to, Z, Z + 1) if effect.step else (effect.to,)
     if isinstance(effect, Copy):
-        return tuple(range(effect.to, effect.to + effect.count))
+        return tuple(range(effect.to, effect.to + effect.size))
     if isinstance(effect, Step):
         return effect.pair, effect.pair + 1
     if isinstance(effect, Mixed):
@@ -258,6 +259,3 @@ def written(effect: Effect) -> Tuple[int, ...]:
     if isinstance(effect, (Constant, Sum, Logic, Negation, LoadAt, Input, Pop)):
         return (effect.to,)
     return ()
-
-
-REGISTERS: Dict[int, str] = {X: "X", Y: "Y", Z: "Z"}
