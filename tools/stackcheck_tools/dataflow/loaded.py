@@ -7,7 +7,7 @@ import functools
 import heapq
 from typing import AbstractSet, Dict, FrozenSet, Iterator, List, NamedTuple, Optional, Set, Tuple
 
-from stackcheck_tools.firmware import candidates, effects, opcodes, records, taken
+from stackcheck_tools.firmware import candidates, effects, opcodes, records, switches
 from stackcheck_tools.firmware.effects import X, Y, Z, ZERO
 from stackcheck_tools.firmware.elf import Elf, Symbol
 
@@ -180,13 +180,13 @@ class Function:
             for number, way in enumerate(opcodes.following(elf, word)):
                 self.enter(word, way, moved if opcode & 0xF800 != 0xF000 else self.compared(word, opcode, moved, number == 1))
 
-    def to_labels(self, word: int) -> Set[int]:
+    def to_labels(self, word: int) -> AbstractSet[int]:
         """The words of this function to which a jump through a pointer may lead."""
         if table := candidates.table_of_jumps(self.elf, word):
             return table
         if self.labels is None:
-            numbers = taken.numbers_in_data(self.elf) | taken.numbers_loaded(self.elf)
-            known = records.words(self.elf) if records.has_records(self.elf) else numbers
+            has_records = records.has_records(self.elf)
+            known = records.words(self.elf) | records.differences(self.elf) if has_records else switches.numbers(self.elf)
             self.labels = (self.words & known) - {self.begin}
         return self.labels
 

@@ -45,6 +45,11 @@ class Memory:
     def is_static(self, number: int) -> bool:
         return number < len(self.told.spans)
 
+    def is_small(self, number: int) -> bool:
+        """Whether an object has no more than the two bytes of a pointer, so that what is written in it is written to this one."""
+        begin, end = self.told.spans[number]
+        return end - begin <= 2
+
     def put(self, where: Written, place: Place, byte: int) -> None:
         byte = byte if byte & OBJECTS else byte & ~MOVED
         held = where.get(place, 0)
@@ -99,8 +104,9 @@ class Memory:
         place = self.place_of(address)
         if place[0] == NAMELESS:
             return few(self.by_name[place] | self.told.first_value(address)) if place in self.by_name else KEPT
-        if place in self.by_name:
-            return few(self.by_name[place] | self.through.get(place, 0) | self.told.first_value(address))
+        if place in self.by_name or self.is_small(place[0]):
+            found = self.by_name.get(place, 0) | self.through.get(place, 0) | self.told.first_value(address)
+            return few(found | (self.through.get((place[0], None), 0) if self.is_small(place[0]) else 0))
         if any((place[0], it) in self.through for it in (None, place[1])):
             return self.through_pointer(place)
         return few(self.told.first_value(address))

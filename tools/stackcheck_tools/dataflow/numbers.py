@@ -9,10 +9,10 @@ from stackcheck_tools.dataflow import loaded
 from stackcheck_tools.dataflow.addresses import Addresses
 from stackcheck_tools.dataflow.origin import ALONE, FLASH, KEPT, MOVED, NUMBER, OBJECTS, POINTERS, constants, is_number
 from stackcheck_tools.dataflow.origins import Origins
-from stackcheck_tools.firmware import effects
+from stackcheck_tools.firmware import effects, virtual_tables
 from stackcheck_tools.firmware.effects import Z
 from stackcheck_tools.firmware.elf import CODE_END, EEPROM
-from stackcheck_tools.firmware.taken import pieces, virtual_tables
+from stackcheck_tools.firmware.taken import pieces
 
 MADE = "is made of a number"
 IN_FLASH = "is read from a table in flash that has this number"
@@ -29,7 +29,7 @@ def is_address(told: Addresses, place: int) -> bool:
 def numbers_kept(told: Addresses) -> FrozenSet[int]:
     """The numbers of two bytes that static data holds first and that aren't known to be addresses."""
     elf, found = told.elf, set()
-    tables = [] if told.has_records else virtual_tables(elf)
+    tables = () if told.has_records else virtual_tables.spans(elf)
     for at, size in elf.objects.values():
         for place in range(at, at + size - 1) if CODE_END <= at < EEPROM else ():
             pair = elf.at_data_address(place, 2)
@@ -94,6 +94,8 @@ class Pointers:
         symbol = self.elf.symbol_at(2 * word)
         if symbol is not None and symbol.name.startswith(loaded.TABLES):
             return None
+        if not self.origins.is_reached(word):
+            return MADE
         return next(self.why_entered(listed, self.origins.pairs_at(word, Z)), None)
 
     def why_entered(self, listed: AbstractSet[int], pairs: Iterator[Tuple[int, int]]) -> Iterator[str]:

@@ -12,7 +12,7 @@ from stackcheck_tools.dataflow import loaded, origin
 from stackcheck_tools.dataflow.addresses import Addresses
 from stackcheck_tools.dataflow.memory import Memory
 from stackcheck_tools.dataflow.origin import ALONE, CODE, FLASH, KEPT, MOVED, NUMBER, OBJECTS, OTHER, POINTERS, TABLE, ZERO, constants, few
-from stackcheck_tools.firmware import effects, opcodes
+from stackcheck_tools.firmware import effects, opcodes, start_up
 from stackcheck_tools.firmware.devices import Device
 from stackcheck_tools.firmware.effects import Y, Z
 from stackcheck_tools.firmware.elf import Elf
@@ -264,6 +264,7 @@ class Behind:
     def __init__(self, run: Run, key: Key) -> None:
         self.run, (self.entry, self.word), self.memory, self.told = run, key, run.memory, run.told
         self.key, self.near = key, run.nearby(key[1])
+        self.is_own = run.elf.symbol_at(2 * self.entry) is run.elf.symbol_at(2 * self.word)  # else its frame is another function's
         before = run.before[key]
         self.registers, self.slots = list(before.registers), before.slots
 
@@ -302,15 +303,15 @@ class Behind:
 
     def distance(self, register: int) -> Optional[int]:
         """How far a pair is from where the stack pointer stood at the function's begin; None where that isn't known."""
-        found = self.pair_at(register)
+        found = self.pair_at(register) if self.is_own else None
         if found is not None and found[0] == loaded.FRAME:
             return found[1]
-        if self.near is not None and not self.run.elf.chip.has_sph and self.near.bytes[register] == loaded.FRAME[0]:
+        if self.is_own and self.near is not None and not self.run.elf.chip.has_sph and self.near.bytes[register] == loaded.FRAME[0]:
             return 0
         return None
 
     def is_in_frame(self, register: int) -> bool:
-        return self.near is not None and loaded.is_of_frame(self.near.bytes[register])
+        return self.is_own and self.near is not None and loaded.is_of_frame(self.near.bytes[register])
 
     def is_constant(self, register: int) -> bool:
         return self.near is not None and self.near.bytes[register].kind == loaded.CONSTANT
@@ -390,17 +391,23 @@ class Behind:
         elif isinstance(effect, effects.Pop):
             registers[effect.to] = self.pop()
 
+    def depth(self) -> Optional[int]:
+        """How many bytes were pushed since the function's begin."""
+        return self.near.depth if self.is_own and self.near is not None else None
+
     def push(self, byte: int) -> None:
-        if self.near is None or self.near.depth is None:
+        depth = self.depth()
+        if depth is None:
             return
-        distance = -self.near.depth
+        distance = -depth
         self.memory.put(self.memory.pushed, (self.memory.frame(self.entry), distance), byte)
         self.slots = {**self.slots, distance: byte}
 
     def pop(self) -> int:
-        if self.near is None or self.near.depth is None:
+        depth = self.depth()
+        if depth is None:
             return KEPT
-        at = 1 - self.near.depth
+        at = 1 - depth
         return self.slots[at] if at in self.slots else origin.paired(self.memory.in_frame(self.entry, at))
 
     def address(self, register: int, more: int) -> Optional[int]:
@@ -426,7 +433,7 @@ class Behind:
         if self.near is None:
             return None
         low, high = pair
-        if low.kind == high.kind == loaded.GIVEN and (first := self.run.before.get((self.entry, self.entry))):
+        if self.is_own and low.kind == high.kind == loaded.GIVEN and (first := self.run.before.get((self.entry, self.entry))):
             return first.registers[low.number] | first.registers[high.number]
         for at in range(31):
             if self.near.bytes[at] == low and self.near.bytes[at + 1] == high:
@@ -514,7 +521,9 @@ class Behind:
             self.memory.put(self.memory.by_name, self.memory.place_of(address), byte)
 
     def write(self, register: int, more: int, byte: int) -> None:
-        """Writes a byte to where a pair points."""
+        """Writes a byte to where a pair points, but for the loops of the start-up code, which write what stands there first."""
+        if start_up.filled(self.run.elf, self.word) is not None:
+            return
         if (distance := self.distance(register)) is not None:
             self.write_frame(distance + more, byte)
             return

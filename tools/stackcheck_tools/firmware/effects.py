@@ -259,3 +259,26 @@ def written(effect: Effect) -> Tuple[int, ...]:
     if isinstance(effect, (Constant, Sum, Logic, Negation, LoadAt, Input, Pop)):
         return (effect.to,)
     return ()
+
+
+def read(effect: Effect) -> Tuple[int, ...]:
+    """The registers that an effect reads, pointers among them; what tests and comparisons read isn't told."""
+    if isinstance(effect, Copy):
+        return tuple(range(effect.of, effect.of + effect.size))
+    if isinstance(effect, (Sum, Logic)):
+        return (effect.to,) if effect.of is None else (effect.to, effect.of)
+    if isinstance(effect, Step):
+        return effect.pair, effect.pair + 1
+    if isinstance(effect, Negation):
+        return (effect.to,)
+    if isinstance(effect, Mixed):
+        return effect.of
+    if isinstance(effect, Load):
+        return effect.pair, effect.pair + 1
+    if isinstance(effect, LoadFlash):
+        return Z, Z + 1
+    if isinstance(effect, Store):
+        return effect.of, effect.pair, effect.pair + 1
+    if isinstance(effect, (StoreAt, Output, Push)):
+        return (effect.of,)
+    return ()

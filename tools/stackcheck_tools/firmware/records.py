@@ -5,15 +5,16 @@ from __future__ import annotations
 
 import functools
 import struct
-from typing import Iterable, List, NamedTuple, Optional, Set, Tuple
+from typing import FrozenSet, Iterable, List, NamedTuple, Optional, Set, Tuple
 
 from stackcheck_tools.firmware.elf import ABSOLUTE, ALLOCATED, BOUNDS, CODE_END, EXECUTED, Elf, text_at
 
 RECORDS = 4  # the type of sections of records
 UNDEFINED = 0
 BRANCHES = (2, 3, 18)  # R_AVR_7_PCREL, R_AVR_13_PCREL, R_AVR_CALL
-DIFFERENCES = (30, 31, 32)  # R_AVR_DIFF8 and so on
-IN_WORDS = (5, 12, 13, 14, 24, 25)  # those of a number of words, R_AVR_16_PM and so on; the negative ones begin tables
+DIFFERENCES = {30: 1, 31: 2, 32: 4}  # R_AVR_DIFF8 and so on, with their bytes
+IN_WORDS = (5, 12, 13, 24, 25)  # those of a number of words, R_AVR_16_PM and so on; the negative ones begin tables
+THIRD = (14, 17)  # those of the third byte of a number of words, R_AVR_HH8_LDI_PM and its negative: no pointer has one
 
 
 class Record(NamedTuple):
@@ -60,7 +61,7 @@ def every(elf: Elf) -> Tuple[Record, ...]:
 def names_code(record: Record) -> bool:
     """Whether a record names a place of code otherwise than by a branch. The linker's own marks are none, nor are symbols without a
     section."""
-    return record.kind not in BRANCHES and record.kind not in DIFFERENCES and record.section not in (UNDEFINED, ABSOLUTE) \
+    return record.kind not in (*BRANCHES, *DIFFERENCES, *THIRD) and record.section not in (UNDEFINED, ABSOLUTE) \
         and not record.name.startswith(BOUNDS) and record.address % 2 == 0 and 0 <= record.address < CODE_END
 
 
@@ -76,6 +77,24 @@ def words(elf: Elf) -> Set[int]:
     return {it.address // 2 for it in named(elf)}
 
 
+@functools.lru_cache(maxsize=None)
+def differences(elf: Elf) -> FrozenSet[int]:
+    """The words of both places of code whose difference a record notes: the linker may change it, so that the compiler has named both."""
+    found: Set[int] = set()
+    for it in every(elf):
+        size = DIFFERENCES.get(it.kind, 0)
+        held = elf.flash[it.place:it.place + size] if it.place < CODE_END else elf.at_data_address(it.place, size)
+        if size and held and it.section not in (UNDEFINED, ABSOLUTE) and 0 <= it.address < CODE_END:
+            found |= {it.address, it.address - int.from_bytes(held, "little", signed=True)}
+    return frozenset(it // 2 for it in found if it % 2 == 0 and it >= 0)
+
+
+@functools.lru_cache(maxsize=None)
+def ends(elf: Elf) -> FrozenSet[int]:
+    """The addresses right behind objects."""
+    return frozenset(at + size for at, size in elf.objects.values() if size)
+
+
 def lies_between(elf: Elf, address: int) -> bool:
     """Whether a byte address is one of code that lies in no function with a size, in no object, and not in the lists of constructors."""
     begin, end = constructor_lists(elf)
@@ -86,11 +105,13 @@ def lies_between(elf: Elf, address: int) -> bool:
 
 def taken(elf: Elf, but: Iterable[Tuple[int, int]] = ()) -> Optional[Set[int]]:
     """The words of the functions whose address is taken: of each function or label that begins where a record names, and of what has no
-    name there; records within some spans of addresses are left out. None where the file has no records."""
+    name there; one behind an object it is the object's end, but for a number of words. Records within some spans of addresses are left out.
+    None where the file has no records."""
     if not has_records(elf):
         return None
     begins, spans = set(elf.addresses), list(but)
-    found = (it for it in named(elf) if it.address in begins or it.kind in IN_WORDS and lies_between(elf, it.address))
+    found = (it for it in named(elf) if it.address in begins and (it.kind in IN_WORDS or it.address not in ends(elf))
+             or it.kind in IN_WORDS and lies_between(elf, it.address))
     return {elf.pointed(it.address) // 2 for it in found if not any(begin <= it.place < end for begin, end in spans)}
 
 
