@@ -184,9 +184,12 @@ class Look:
         if kind in (CALLS, WHOLE):
             text = self.outcome.firmware.device.word
             yield from (f"its pointer is {text(it)} here, which its list does not have" for it in self.unlisted(word))
+            made = self.pointers.why_called(word, self.lines.of(word, "jump")) if kind == CALLS else None
+            if made and not self.unlisted(word):
+                yield f"its pointer {made}"
             if word in self.outcome.lists.why and not self.unlisted(word):
                 yield self.outcome.lists.why[word]
-                if kind == CALLS and not has_records(self.elf):
+                if kind == CALLS and not made and not has_records(self.elf):
                     yield f"cure: {RECORDS}"
 
 

@@ -6,7 +6,7 @@ import bisect
 from typing import Dict, List, Optional, Tuple
 
 from stackcheck_tools.dataflow.origin import CODE, MOVED, NUMBER, OTHER, TABLE, ZERO, object_bit
-from stackcheck_tools.firmware import effects, records
+from stackcheck_tools.firmware import candidates, effects, records, switches
 from stackcheck_tools.firmware.elf import ABSOLUTE, ALLOCATED, CODE_END, EEPROM, Elf
 from stackcheck_tools.firmware.records import Record
 
@@ -27,6 +27,8 @@ class Addresses:
         self.data = [(it[3] - CODE_END, it[3] - CODE_END + it[5]) for it in elf.headers
                      if it[2] & ALLOCATED and it[5] and elf.sram() <= it[3] < EEPROM]
         self.functions = {it.address // 2 for it in elf.code}
+        if not self.has_records:
+            self.functions |= {word for site in candidates.indirect(elf) for word in switches.labels(elf, site)}
         self.firsts: Dict[int, int] = {}
         self.named: Dict[int, List[Record]] = {}
         for record in records.every(elf) if self.has_records else ():

@@ -60,8 +60,9 @@ def what_else(data: bytes) -> Optional[str]:
 
 class Elf:
     """`path` is the file's name, `flash` has 131,072 bytes (FF where nothing is placed), `placed` the begin and the end of each part of it,
-    `code` the symbols of code by address, `all` the addresses of all names, `objects` address and size of those of data, `chip` the device
-    as whose code it is read: that of its note, and else the one that stackbound takes."""
+    `code` the symbols of code by address, `all` the addresses of all names, `objects` address and size of those of data, `has_local`
+    whether names are there that other files don't see, `chip` the device as whose code it is read: that of its note, and else the one that
+    stackbound takes."""
 
     def __init__(self, path: str) -> None:
         self.path = path
@@ -112,7 +113,7 @@ class Elf:
         self.code: List[Symbol] = []
         self.all: Dict[str, int] = {}
         self.objects: Dict[str, Tuple[int, int]] = {}
-        file = ""
+        self.has_local, file = False, ""
         for table in (it for it in self.headers if it[1] == 2):
             names = self.headers[table[6]][4]
             for at in range(table[4], table[4] + table[5] - 15, 16):
@@ -121,6 +122,7 @@ class Elf:
                 if kind == FILE_NAME:
                     file = name
                 elif name and section:
+                    self.has_local = self.has_local or info >> 4 == 0 and kind in (0, OBJECT, FUNCTION)
                     self.all.setdefault(name, address)
                     if kind == OBJECT:
                         self.objects[name] = address, size

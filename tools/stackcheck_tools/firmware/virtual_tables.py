@@ -52,8 +52,7 @@ def objects(elf: Elf) -> Iterator[Tuple[str, int, int]]:
 
 def is_whole(elf: Elf) -> bool:
     """Whether each table has a size and values, and the file its local names."""
-    has_local = any(it.file for it in elf.code)
-    return has_local and all(size and elf.at_data_address(address, size) is not None for _, address, size in objects(elf))
+    return elf.has_local and all(size and elf.at_data_address(address, size) is not None for _, address, size in objects(elf))
 
 
 def named_places(elf: Elf) -> FrozenSet[int]:
