@@ -10,7 +10,7 @@ from typing import Dict, Iterator, List, NamedTuple, Optional, Protocol, Set, Tu
 
 from stackcheck_tools.dataflow import loaded, origin
 from stackcheck_tools.dataflow.addresses import Addresses
-from stackcheck_tools.dataflow.memory import Memory
+from stackcheck_tools.dataflow.memory import Memory, Place
 from stackcheck_tools.dataflow.origin import ALONE, CODE, FLASH, KEPT, MOVED, NUMBER, OBJECTS, OTHER, POINTERS, TABLE, ZERO, constants, few
 from stackcheck_tools.firmware import effects, opcodes, start_up
 from stackcheck_tools.firmware.devices import Device
@@ -21,6 +21,8 @@ Key = Tuple[int, int]  # the word at which a function is entered, and one that i
 Registers = Tuple[int, ...]
 KEPT_BY_CALLS = (*range(2, 18), 28, 29)
 NO_ARGUMENTS = (*range(2, 8), 28, 29)  # registers in which no caller leaves anything for a callee
+# the lowest register in which avr-libc's functions get an argument that keep in lower ones what they haven't set on each way
+LOWEST = {"malloc": 24, "free": 24, "realloc": 22, "calloc": 22}
 MOST_ROUNDS = 40
 RETURNS = (0x9508, 0x9518)
 SMALL = 32  # addresses below are of registers
@@ -65,7 +67,8 @@ def joined(ours: Registers, theirs: Registers) -> Registers:
 
 
 class Run:
-    """One run of the worklist. `before`: what is known before each word, by the function that was entered."""
+    """One run of the worklist. `before`: what is known before each word, by the function that was entered; `ways`: the words from which
+    each is reached; `leaving`: those at which a function ends; `returned`: what calls enter that return."""
 
     def __init__(self, firmware: Firmware, earlier: Optional["Run"] = None) -> None:
         self.elf, self.device, self.reached, self.targets, self.told = firmware
@@ -74,6 +77,10 @@ class Run:
         self.before: Dict[Key, State] = {}
         self.exits: Dict[int, Registers] = {}
         self.callers: Dict[int, Set[Key]] = {}
+        self.ways: Dict[Key, Set[Key]] = {}
+        self.leaving: Dict[int, Set[Key]] = {}
+        self.returned: Dict[Key, Set[int]] = {}
+        self.now: Optional[Key] = None  # the word that is followed
         self.readers: Set[Key] = set()
         self.left: List[Key] = []
         self.near: Dict[int, Optional[loaded.State]] = {}
@@ -91,7 +98,9 @@ class Run:
             while self.left:
                 key = heapq.heappop(self.left)
                 if not self.left or self.left[0] != key:
+                    self.now = key
                     self.step(key)
+            self.now = None
             if self.memory.changed:
                 self.memory.changed = False
                 for key in self.readers:
@@ -120,6 +129,8 @@ class Run:
 
     def enter(self, key: Key, state: State) -> None:
         """Goes on at a word with what a way there knows."""
+        if self.now is not None:
+            self.ways.setdefault(key, set()).add(self.now)
         held = self.before.get(key)
         if held is None:
             if key in self.hints:
@@ -137,6 +148,8 @@ class Run:
 
     def leave(self, entry: int, registers: Registers) -> None:
         """Returns from a function."""
+        if self.now is not None:
+            self.leaving.setdefault(entry, set()).add(self.now)
         held = self.exits.get(entry)
         met = registers if held is None else joined(held, registers)
         if met != held:
@@ -148,8 +161,10 @@ class Run:
         """Enters a function, behind which a run goes on at a word, or returns itself."""
         state = self.before[key]
         self.callers.setdefault(to, set()).add(key)
-        arguments = list(state.registers)
-        for it in NO_ARGUMENTS:
+        arguments = Behind(self, key).arguments()
+        symbol = self.elf.symbol_at(2 * to)
+        lowest = LOWEST.get(symbol.name, 0) if symbol is not None else 0
+        for it in (*NO_ARGUMENTS, *range(8, lowest)):
             arguments[it] = 0
         self.enter((to, to), State(tuple(arguments), {}))
         given = self.exits.get(to)
@@ -162,6 +177,7 @@ class Run:
         for it in KEPT_BY_CALLS:
             values[it] = state.registers[it]
         values[effects.ZERO] = ZERO
+        self.returned.setdefault(key, set()).add(to)
         self.enter((key[0], after), State(tuple(values), state.slots))
 
     def is_begin(self, word: int) -> bool:
@@ -310,6 +326,18 @@ class Behind:
             return 0
         return None
 
+    def with_variable(self, register: int) -> int:
+        """What a register is made of: of a pair that is a place in the frame, the variable there."""
+        byte, low = self.registers[register], register & ~1
+        distance = self.distance(low) if low != Y and byte & self.memory.frame_bit(self.entry) else None
+        if distance is None:
+            return byte
+        return byte & ~self.memory.frame_bit(self.entry) | self.memory.frame_bit(self.entry, distance)
+
+    def arguments(self) -> List[int]:
+        """What the registers are made of as a function sees them that is called."""
+        return [self.with_variable(it) for it in range(32)]
+
     def is_in_frame(self, register: int) -> bool:
         return self.is_own and self.near is not None and loaded.is_of_frame(self.near.bytes[register])
 
@@ -333,13 +361,15 @@ class Behind:
             elif other & ~origin.CONSTANTS and not self.told.has_records:
                 is_less = False
         else:
-            other, is_less = 1 << effect.byte if of is None else registers[of], effect.is_less
+            other, is_less = 1 << effect.byte if of is None else self.with_variable(of), effect.is_less
         if of == to:
             borrowed = origin.of_constants((0, 0xFF)) if effect.carries else ZERO
             registers[to] = borrowed if is_less else origin.doubled(registers[to], effect.carries)
         else:
+            if to % 2 == 0 and not effect.carries:
+                registers[to + 1] = self.with_variable(to + 1)
             apply = origin.less if is_less else origin.plus
-            registers[to] = apply(registers[to], other, effect.carries, lower)
+            registers[to] = apply(self.with_variable(to), other, effect.carries, lower)
 
     def note_open(self, register: int) -> None:
         """Notes a frame whose address is moved above it, to where arguments stand."""
@@ -380,14 +410,14 @@ class Behind:
             is_table = bool(made & (TABLE | CODE | KEPT | FLASH)) or not self.told.has_records
             self.take(effect.to, KEPT if is_table else NUMBER, FLASH)
         elif isinstance(effect, effects.Store):
-            self.write(effect.pair, effect.more, registers[effect.of])
+            self.write(effect.pair, effect.more, self.with_variable(effect.of))
             self.move(effect.pair, effect.step)
         elif isinstance(effect, effects.StoreAt):
-            self.write_at(effect.address, registers[effect.of])
+            self.write_at(effect.address, self.with_variable(effect.of))
         elif isinstance(effect, effects.Input):
             registers[effect.to] = self.at_address(effect.address)
         elif isinstance(effect, effects.Push):
-            self.push(registers[effect.of])
+            self.push(self.with_variable(effect.of))
         elif isinstance(effect, effects.Pop):
             registers[effect.to] = self.pop()
 
@@ -400,7 +430,7 @@ class Behind:
         if depth is None:
             return
         distance = -depth
-        self.memory.put(self.memory.pushed, (self.memory.frame(self.entry), distance), byte)
+        self.memory.put(self.memory.pushed, Place(self.memory.frame(self.entry), distance, True), byte)
         self.slots = {**self.slots, distance: byte}
 
     def pop(self) -> int:
@@ -415,18 +445,25 @@ class Behind:
         found = self.pair_at(register)
         return (found[1] + more) & 0xFFFF if found is not None and found[0] == loaded.NOWHERE else None
 
-    def objects_at(self, register: int, more: int) -> Iterator[Tuple[int, Optional[int]]]:
+    def objects_at(self, register: int, more: int) -> Iterator[Place]:
         """Yields the places of objects to which a pair may point: at a distance where it is an object's address to which a known number was
-        added."""
+        added, else at what is added last or farther, since an index isn't negative."""
         bits = self.registers[register] | self.registers[register + 1]
         found = self.pair_at(register)
         distance: Optional[int] = None
         if found is not None and (base := self.base_of(*found)) is not None and not base & MOVED and base & OBJECTS == bits & OBJECTS:
             distance = found[1] + more
+        least = max(more + (found[1] if found is not None and found[0] != loaded.NOWHERE else 0), 0)
         for number in origin.objects(bits):
-            is_static = self.memory.is_static(number)
-            is_inside = distance is not None and is_static and 0 <= distance < self.told.spans[number][1] - self.told.spans[number][0]
-            yield number, distance if is_inside else None
+            is_known = distance is not None and self.is_inside(number, distance)
+            yield Place(number, distance, True) if distance is not None and is_known else Place(number, least, False)
+
+    def is_inside(self, number: int, distance: int) -> bool:
+        """Whether a distance is one in an object: in the firmware's, or in a variable of a frame."""
+        if not self.memory.is_static(number):
+            return self.memory.places[number][1] is not None
+        begin, end = self.told.spans[number]
+        return 0 <= distance < end - begin
 
     def base_of(self, pair: loaded.Pair, more: int) -> Optional[int]:
         """What a pair was made of to which a number was added; None where no register holds it any more."""
@@ -445,7 +482,9 @@ class Behind:
         self.run.readers.add(self.key)
         if (distance := self.distance(register)) is not None:
             at = distance + more
-            return self.slots[at] if at in self.slots else self.memory.in_frame(self.entry, at)
+            if at not in self.slots:
+                return self.memory.in_frame(self.entry, at)
+            return few(self.slots[at] | self.memory.by_address(self.entry, at))
         if (address := self.address(register, more)) is not None:
             return self.at_address(address)
         low, high = self.registers[register], self.registers[register + 1]
@@ -511,7 +550,7 @@ class Behind:
         return None
 
     def write_frame(self, distance: int, byte: int) -> None:
-        self.memory.put(self.memory.by_name, (self.memory.frame(self.entry), distance), byte)
+        self.memory.put(self.memory.by_name, Place(self.memory.frame(self.entry), distance, True), byte)
         self.slots = {**self.slots, distance: byte if byte & OBJECTS else byte & ~MOVED}
 
     def write_at(self, address: int, byte: int) -> None:
