@@ -184,7 +184,8 @@ class Look:
         if kind in (CALLS, WHOLE):
             text = self.outcome.firmware.device.word
             yield from (f"its pointer is {text(it)} here, which its list does not have" for it in self.unlisted(word))
-            made = self.pointers.why_called(word, self.lines.of(word, "jump")) if kind == CALLS else None
+            is_call = kind == CALLS and opcodes.is_indirect(self.elf.word(word))
+            made = self.pointers.why_called(word, self.lines.of(word, "jump")) if is_call else None
             if made and not self.unlisted(word):
                 yield f"its pointer {made}"
             if word in self.outcome.lists.why and not self.unlisted(word):

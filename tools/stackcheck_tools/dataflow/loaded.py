@@ -7,7 +7,7 @@ import functools
 import heapq
 from typing import AbstractSet, Dict, FrozenSet, Iterator, List, NamedTuple, Optional, Set, Tuple
 
-from stackcheck_tools.firmware import candidates, effects, opcodes, records, switches
+from stackcheck_tools.firmware import candidates, effects, functions, opcodes, records, switches
 from stackcheck_tools.firmware.effects import X, Y, Z, ZERO
 from stackcheck_tools.firmware.elf import Elf, Symbol
 
@@ -127,7 +127,7 @@ class Function:
         self.left: List[int] = []
         self.labels: Optional[Set[int]] = None
         self.naming: Set[int] = set()  # words that have given values of their own
-        is_handler = symbol.name.startswith("__vector_")
+        is_handler = self.begin in functions.handlers(elf)
         first = tuple(Byte(CONSTANT) if it == ZERO and not is_handler else Byte(GIVEN, it) for it in range(32))
         self.enter(OUTSIDE, self.begin, State(first, 0, (), ()))
         for word in sorted(entered_inside(elf).get(symbol.address, ())):
@@ -191,7 +191,7 @@ class Function:
         return self.labels
 
     def jump(self, word: int, to: int, after: int, state: State) -> None:
-        symbol = self.elf.symbol_at(2 * to)
+        symbol = functions.at(self.elf, 2 * to)
         name = symbol.name if symbol else ""
         if name == SAVES:
             low, high = state.bytes[X], state.bytes[X + 1]
@@ -445,8 +445,8 @@ def entered_inside(elf: Elf) -> Dict[int, FrozenSet[int]]:
         for word, _ in words:
             to = opcodes.jump_target(elf, word)
             to = opcodes.call_target(elf, word) if to is None else to
-            symbol = elf.symbol_at(2 * to) if to is not None else None
-            if to is not None and symbol is not None and symbol.address != 2 * to and symbol is not elf.symbol_at(2 * word):
+            symbol = functions.at(elf, 2 * to) if to is not None else None
+            if to is not None and symbol is not None and symbol.address != 2 * to and symbol is not functions.at(elf, 2 * word):
                 found.setdefault(symbol.address, set()).add(to)
     return {at: frozenset(words) for at, words in found.items()}
 
@@ -454,5 +454,5 @@ def entered_inside(elf: Elf) -> Dict[int, FrozenSet[int]]:
 @functools.lru_cache(maxsize=None)
 def of_function(elf: Elf, address: int) -> Optional[Function]:
     """What is known in the function at a byte address; None where none is there."""
-    symbol = elf.symbol_at(address)
+    symbol = functions.at(elf, address)
     return None if symbol is None else Function(elf, symbol)

@@ -44,7 +44,7 @@ class Memory:
         self.places: Dict[int, Tuple[int, Optional[int]]] = {} if known is None else known.places
         self.open: Set[int] = set()
         self.firsts: Dict[int, int] = {} if known is None else known.firsts
-        self.changed = False
+        self.changed: Set[int] = set()  # whole objects in which something new was written
         if known is not None:
             for held, own in ((known.by_name, self.by_name), (known.through, self.through)):
                 own.update({place: byte & POINTERS for place, byte in held.items()})
@@ -65,6 +65,10 @@ class Memory:
     def is_static(self, number: int) -> bool:
         return number < len(self.told.spans)
 
+    def whole(self, number: int) -> int:
+        """The frame in which a variable lies; another object is one itself."""
+        return number if self.is_static(number) else self.frame(self.places[number][0])
+
     def is_small(self, number: int) -> bool:
         """Whether an object has no more than the two bytes of a pointer, so that what is written in it is written to this one."""
         begin, end = self.told.spans[number]
@@ -78,7 +82,7 @@ class Memory:
             where[place] = met
             if where is not self.pushed:
                 self.of.setdefault(place.number, set()).add(place)
-            self.changed = True
+            self.changed.add(self.whole(place.number))
 
     def place_of(self, address: int) -> Place:
         """The place of a byte of static data."""

@@ -8,14 +8,15 @@ from __future__ import annotations
 import heapq
 from typing import Dict, Iterator, List, NamedTuple, Optional, Protocol, Set, Tuple
 
-from stackcheck_tools.dataflow import loaded, origin
+from stackcheck_tools.dataflow import instructions, loaded, origin
 from stackcheck_tools.dataflow.addresses import Addresses
+from stackcheck_tools.dataflow.instructions import Instruction
 from stackcheck_tools.dataflow.memory import Memory, Place
 from stackcheck_tools.dataflow.origin import ALONE, CODE, FLASH, KEPT, MOVED, NUMBER, OBJECTS, OTHER, POINTERS, TABLE, ZERO, constants, few
 from stackcheck_tools.firmware import effects, opcodes, start_up
 from stackcheck_tools.firmware.devices import Device
 from stackcheck_tools.firmware.effects import Y, Z
-from stackcheck_tools.firmware.elf import Elf
+from stackcheck_tools.firmware.elf import Elf, Symbol
 
 Key = Tuple[int, int]  # the word at which a function is entered, and one that is reached there
 Registers = Tuple[int, ...]
@@ -24,7 +25,6 @@ NO_ARGUMENTS = (*range(2, 8), 28, 29)  # registers in which no caller leaves any
 # the lowest register in which avr-libc's functions get an argument that keep in lower ones what they haven't set on each way
 LOWEST = {"malloc": 24, "free": 24, "realloc": 22, "calloc": 22}
 MOST_ROUNDS = 40
-RETURNS = (0x9508, 0x9518)
 SMALL = 32  # addresses below are of registers
 
 
@@ -81,7 +81,7 @@ class Run:
         self.leaving: Dict[int, Set[Key]] = {}
         self.returned: Dict[Key, Set[int]] = {}
         self.now: Optional[Key] = None  # the word that is followed
-        self.readers: Set[Key] = set()
+        self.readers: Dict[int, Set[Key]] = {}  # by what they read
         self.left: List[Key] = []
         self.near: Dict[int, Optional[loaded.State]] = {}
         self.run()
@@ -102,8 +102,9 @@ class Run:
                     self.step(key)
             self.now = None
             if self.memory.changed:
-                self.memory.changed = False
-                for key in self.readers:
+                again = set().union(*(self.readers.get(it, ()) for it in self.memory.changed))
+                self.memory.changed.clear()
+                for key in again:
                     heapq.heappush(self.left, key)
             elif not self.enter_missed():
                 break
@@ -114,13 +115,13 @@ class Run:
         seen = {word for _, word in self.before}
         jumps = [(key, state) for key, state in self.before.items() if opcodes.is_jump(self.elf.word(key[1]))]
         for word in sorted(set(self.reached.at) - seen):
-            symbol = self.elf.symbol_at(2 * word)
-            if symbol is None or symbol.name in (loaded.SAVES, loaded.RESTORES):
+            function = self.function(word)
+            if function is None or function.name in (loaded.SAVES, loaded.RESTORES):
                 continue
             if self.is_begin(word):
                 self.enter((word, word), NOTHING)
                 return True
-            near = [(key[0], state) for key, state in jumps if symbol in (self.elf.symbol_at(2 * key[1]), self.elf.symbol_at(2 * key[0]))]
+            near = [(key[0], state) for key, state in jumps if function in (self.function(key[1]), self.function(key[0]))]
             for entry, state in near:
                 self.enter((entry, word), state)
             if near:
@@ -161,9 +162,9 @@ class Run:
         """Enters a function, behind which a run goes on at a word, or returns itself."""
         state = self.before[key]
         self.callers.setdefault(to, set()).add(key)
-        arguments = Behind(self, key).arguments()
-        symbol = self.elf.symbol_at(2 * to)
-        lowest = LOWEST.get(symbol.name, 0) if symbol is not None else 0
+        arguments = Behind(self, key, instructions.at(self.elf, key[1])).arguments()
+        function = self.function(to)
+        lowest = LOWEST.get(function.name, 0) if function is not None else 0
         for it in (*NO_ARGUMENTS, *range(8, lowest)):
             arguments[it] = 0
         self.enter((to, to), State(tuple(arguments), {}))
@@ -182,110 +183,103 @@ class Run:
 
     def is_begin(self, word: int) -> bool:
         """Whether a function begins at a word."""
-        symbol = self.elf.symbol_at(2 * word)
-        return symbol is not None and symbol.address == 2 * word and (symbol.is_function or not symbol.name.startswith("."))
+        function = self.function(word)
+        return function is not None and function.address == 2 * word and (function.is_function or not function.name.startswith("."))
+
+    def function(self, word: int) -> Optional[Symbol]:
+        """The function in which a word lies."""
+        return instructions.at(self.elf, word).function
 
     def nearby(self, word: int) -> Optional[loaded.State]:
         """From where the registers were loaded before a word, as its function tells."""
         if word not in self.near:
-            symbol = self.elf.symbol_at(2 * word)
-            function = loaded.of_function(self.elf, symbol.address) if symbol else None
+            own = self.function(word)
+            function = loaded.of_function(self.elf, own.address) if own else None
             self.near[word] = function.before.get(word) if function and function.is_whole else None
         return self.near[word]
 
     def nearby_after(self, word: int) -> Optional[loaded.State]:
         """The same behind the instruction at a word, which is no jump."""
-        return self.nearby(word + opcodes.length(self.elf.word(word)))
+        return self.nearby(instructions.at(self.elf, word).after)
 
     def step(self, key: Key) -> None:
         """Follows the instruction at a word."""
         entry, word = key
-        opcode, state = self.elf.word(word), self.before[key]
-        after = word + opcodes.length(opcode)
-        if opcode in RETURNS:
+        state, code = self.before[key], instructions.at(self.elf, word)
+        if code.kind == instructions.OTHER:
+            self.go_on(key, code)
+        elif code.kind == instructions.RETURN:
             self.leave(entry, state.registers)
-        elif opcodes.is_jump(opcode):
-            self.jump_through(key)
-        elif (to := opcodes.jump_target(self.elf, word)) is not None:
-            self.jump(key, to, after)
-        elif (to := opcodes.call_target(self.elf, word)) is not None:
-            if to == after:
-                self.enter((entry, after), state)  # makes room
-            else:
-                self.call(key, to, after)
-        elif opcodes.is_call(opcode):
-            for to in self.targets.of(word, "jump") | self.reached.known(word, Z):
-                self.call(key, to, after)
+        elif code.kind == instructions.JUMP:
+            self.jump(key, code)
+        elif code.kind == instructions.CALL:
+            self.call(key, code.to, code.after)
+        elif code.kind == instructions.ROOM:
+            self.enter((entry, code.after), state)
+        elif code.kind == instructions.JUMP_THROUGH:
+            self.jump_through(key, code)
         else:
-            self.go_on(key, opcode)
+            for to in self.targets.of(word, "jump") | self.reached.known(word, Z):
+                self.call(key, to, code.after)
 
-    def jump_through(self, key: Key) -> None:
+    def jump_through(self, key: Key, code: Instruction) -> None:
         """Follows `ijmp` and `eijmp`: to words of the same function, or as a call at the end of it."""
         entry, word = key
-        own = self.elf.symbol_at(2 * word)
+        own = code.function
         is_helper = own is not None and own.name.startswith(loaded.TABLES)
         for to in self.targets.of(word, "jump") | self.reached.known(word, Z):
             if to not in self.reached.at:
                 continue
-            symbol = self.elf.symbol_at(2 * to)
+            function = self.function(to)
             if is_helper and not self.is_begin(to):
-                if symbol is self.elf.symbol_at(2 * entry):
+                if function is self.function(entry):
                     self.enter((entry, to), self.before[key])
-            elif symbol is own:
+            elif function is own:
                 self.enter((entry, to), self.before[key])
             else:
                 self.call(key, to, None)
 
-    def jump(self, key: Key, to: int, after: int) -> None:
+    def jump(self, key: Key, code: Instruction) -> None:
         """Follows `jmp` and `rjmp`: in the same function, or to the begin of another one as a call at the end."""
-        entry, word = key
-        symbol, state = self.elf.symbol_at(2 * to), self.before[key]
-        name = symbol.name if symbol else ""
+        entry, to, function, state = key[0], code.to, self.function(code.to), self.before[key]
+        name = function.name if function else ""
         if name == loaded.SAVES:
             values = list(state.registers)
             for it in (effects.X, effects.X + 1, Z, Z + 1):
                 values[it] = NUMBER
             values[Y] = values[Y + 1] = self.memory.frame_bit(entry)
-            self.enter((entry, after), State(tuple(values), {}))
+            self.enter((entry, code.after), State(tuple(values), {}))
         elif name == loaded.RESTORES:
             self.leave(entry, state.registers)
-        elif symbol is not None and not name.startswith(loaded.TABLES) and to != entry and 2 * to == symbol.address and self.is_begin(to) \
-                and self.elf.symbol_at(2 * word) is not symbol:
+        elif not name.startswith(loaded.TABLES) and to != entry and self.is_begin(to) and code.function is not function:
             self.call(key, to, None)
         else:
             self.enter((entry, to), state)
 
-    def go_on(self, key: Key, opcode: int) -> None:
+    def go_on(self, key: Key, code: Instruction) -> None:
         """Follows what is no jump and no call."""
-        entry, word = key
-        state = self.before[key]
-        moved = Behind(self, key).state()
-        ways = opcodes.following(self.elf, word)
-        tested = self.elf.word(word - 1)
-        is_tested = tested & 0xFC00 == 0x2000 and opcodes.destination(tested) == (tested & 15 | tested >> 5 & 16)
-        if opcode & 0xFC07 in (0xF001, 0xF401) and is_tested:  # `breq`, `brne` behind `and r, r`: the byte is 0 on one way
-            is_zero = 1 if opcode & 0x0400 == 0 else 0
-            values = list(state.registers)
-            values[opcodes.destination(tested)] = ZERO
-            self.enter((entry, ways[is_zero]), State(tuple(values), state.slots))
-            self.enter((entry, ways[1 - is_zero]), moved)
-            return
-        for to in ways:
-            self.enter((entry, to), moved)
+        moved = Behind(self, key, code).state()
+        for number, to in enumerate(code.ways):
+            state = moved
+            if code.tested is not None and number == code.zero:  # the byte that was just tested is 0
+                values = list(moved.registers)
+                values[code.tested] = ZERO
+                state = State(tuple(values), moved.slots)
+            self.enter((key[0], to), state)
 
 
 class Behind:
     """The state behind an instruction."""
 
-    def __init__(self, run: Run, key: Key) -> None:
+    def __init__(self, run: Run, key: Key, code: Instruction) -> None:
         self.run, (self.entry, self.word), self.memory, self.told = run, key, run.memory, run.told
-        self.key, self.near = key, run.nearby(key[1])
-        self.is_own = run.elf.symbol_at(2 * self.entry) is run.elf.symbol_at(2 * self.word)  # else its frame is another function's
+        self.key, self.code, self.near = key, code, run.nearby(key[1])
+        self.is_own = run.function(self.entry) is code.function  # else its frame is another function's
         before = run.before[key]
         self.registers, self.slots = list(before.registers), before.slots
 
     def state(self) -> State:
-        self.follow(effects.at(self.run.elf, self.word))
+        self.follow(self.code.effect)
         return State(tuple(self.registers), self.slots)
 
     def follow(self, effect: effects.Effect) -> None:
@@ -329,6 +323,8 @@ class Behind:
     def with_variable(self, register: int) -> int:
         """What a register is made of: of a pair that is a place in the frame, the variable there."""
         byte, low = self.registers[register], register & ~1
+        if not byte >> origin.FIRST_OBJECT:
+            return byte
         distance = self.distance(low) if low != Y and byte & self.memory.frame_bit(self.entry) else None
         if distance is None:
             return byte
@@ -353,7 +349,7 @@ class Behind:
             registers[to] = registers[of]
             return
         lower = registers[to - 1] if effect.carries and to else 0
-        is_step = of is None and not effect.carries and effect.byte == 1 and self.run.elf.word(self.word) & 0xFE00 == 0x9400
+        is_step = of is None and not effect.carries and effect.byte == 1 and self.code.opcode & 0xFE00 == 0x9400
         if of is None and not is_step:
             other, is_less = self.told.of_immediate(self.word, to, effect.byte, False), True
             if other & ~origin.CONSTANTS and self.told.has_records and not self.told.is_subtracted(self.word):
@@ -373,8 +369,8 @@ class Behind:
 
     def note_open(self, register: int) -> None:
         """Notes a frame whose address is moved above it, to where arguments stand."""
-        symbol = self.run.elf.symbol_at(2 * self.word)
-        function = loaded.of_function(self.run.elf, symbol.address) if symbol else None
+        own = self.code.function
+        function = loaded.of_function(self.run.elf, own.address) if own else None
         after = function.before.get(self.word + 1) if function else None
         if after is not None:
             pair, more = loaded.pair_of(after.bytes[register], after.bytes[register + 1])
@@ -440,6 +436,10 @@ class Behind:
         at = 1 - depth
         return self.slots[at] if at in self.slots else origin.paired(self.memory.in_frame(self.entry, at))
 
+    def note_read(self, number: int) -> None:
+        """Notes that what is read here changes with what is written in an object."""
+        self.run.readers.setdefault(self.memory.whole(number), set()).add(self.key)
+
     def address(self, register: int, more: int) -> Optional[int]:
         """The address that a pair is known to be, plus a number."""
         found = self.pair_at(register)
@@ -479,9 +479,9 @@ class Behind:
 
     def read(self, register: int, more: int) -> int:
         """What a byte of memory is made of to which a pair points."""
-        self.run.readers.add(self.key)
         if (distance := self.distance(register)) is not None:
             at = distance + more
+            self.note_read(self.memory.frame(self.entry))
             if at not in self.slots:
                 return self.memory.in_frame(self.entry, at)
             return few(self.slots[at] | self.memory.by_address(self.entry, at))
@@ -490,6 +490,7 @@ class Behind:
         low, high = self.registers[register], self.registers[register + 1]
         found = 0
         for place in self.objects_at(register, more):
+            self.note_read(place.number)
             found |= self.memory.through_pointer(place)
         if high & (KEPT | FLASH | OTHER) or not found:
             found |= NUMBER if self.is_of_registers(low, high, more) else KEPT
@@ -507,7 +508,7 @@ class Behind:
 
     def at_address(self, address: int) -> int:
         """What a byte at a known address is made of."""
-        self.run.readers.add(self.key)
+        self.note_read(self.memory.place_of(address).number)
         if address in (loaded.SPL, loaded.SPH):
             return self.memory.frame_bit(self.entry)
         if address < SMALL:
@@ -607,5 +608,5 @@ class Origins:
     def returns_in_registers(self, entry: int) -> bool:
         """Whether a function is one of avr-libc's that has `eeprom_read_block` store into the registers in which it returns, by their
         addresses."""
-        symbol = self.elf.symbol_at(2 * entry)
-        return symbol is not None and symbol.name.startswith("eeprom_read_") and not symbol.name.startswith("eeprom_read_bl")
+        function = self.run.function(entry)
+        return function is not None and function.name.startswith("eeprom_read_") and not function.name.startswith("eeprom_read_bl")
