@@ -14,6 +14,8 @@ from stackcheck_tools.analysis.causes import Cause
 from stackcheck_tools.analysis.kinds import CALLS, CORES, GIVEN, MOVES, ORDINARY, SAFETY, STORES, VECTORS, WHOLE, counted
 from stackcheck_tools.analysis.node_values import Nodes
 from stackcheck_tools.analysis.widening import RECORDS
+from stackcheck_tools.dataflow.numbers import Pointers
+from stackcheck_tools.dataflow.origins import Origins
 from stackcheck_tools.firmware import debug_lines, fuses, opcodes, start_up
 from stackcheck_tools.firmware.devices import Device
 from stackcheck_tools.firmware.elf import CODE_END, Elf
@@ -135,7 +137,10 @@ class Look:
     def __init__(self, outcome: Told) -> None:
         self.outcome, self.elf, self.lines = outcome, outcome.firmware.elf, outcome.own
         self.nodes = Nodes(self.elf, outcome.certificate)
-        self.cores = core_registers.found(outcome.firmware.device, self.nodes, self.lines, outcome.causes)
+        device = outcome.firmware.device
+        self.pointers = Pointers(Origins(self.elf, device, self.nodes, self.lines))
+        self.known = core_registers.Look(self.nodes, self.pointers)
+        self.cores = core_registers.found(self.known, device, self.lines, outcome.causes)
 
     def unlisted(self, word: int) -> List[int]:
         """The numbers that the pointer of a call is known to be and that its list doesn't have."""
@@ -154,7 +159,8 @@ class Look:
         if cause.transfer or not cause and word not in self.cores:
             if lines.is_given(word, "jump") and not self.unlisted(word):
                 return GIVEN
-            return WHOLE if word in self.outcome.lists.whole and not self.unlisted(word) else CALLS
+            is_whole = word in self.outcome.lists.whole and not self.unlisted(word)
+            return WHOLE if is_whole and not self.pointers.why_called(word, lines.of(word, "jump")) else CALLS
         if cause.moves and self.is_by_name(word):
             return MOVES
         if word in self.cores:
@@ -165,7 +171,7 @@ class Look:
             return GIVEN
         follows = lines.has_masks() or not self.outcome.firmware.device.is_first()
         is_followed = follows and not lines.has(word, "store")
-        return SAFETY if is_followed or not core_registers.is_enabling(self.nodes, lines, word, cause) else STORES
+        return SAFETY if is_followed or not core_registers.is_enabling(self.known, lines, word) else STORES
 
     def texts(self, word: int, kind: str) -> Iterator[str]:
         """Yields what is told of a word beside what the program says may happen there."""
@@ -173,14 +179,18 @@ class Look:
         if kind == MOVES or cause.moves and not str(cause):
             yield MOVED
         if kind == CORES:
-            names = self.cores[word]
-            yield f"may write {' '.join(names)}, whose {'address stands' if len(names) == 1 else 'addresses stand'} in this file"
+            for why in dict.fromkeys(self.cores[word].values()):
+                yield f"may write {' '.join(it for it, its in self.cores[word].items() if its == why)}: its pointer {why}"
         if kind in (CALLS, WHOLE):
             text = self.outcome.firmware.device.word
             yield from (f"its pointer is {text(it)} here, which its list does not have" for it in self.unlisted(word))
+            is_call = kind == CALLS and opcodes.is_indirect(self.elf.word(word))
+            made = self.pointers.why_called(word, self.lines.of(word, "jump")) if is_call else None
+            if made and not self.unlisted(word):
+                yield f"its pointer {made}"
             if word in self.outcome.lists.why and not self.unlisted(word):
                 yield self.outcome.lists.why[word]
-                if kind == CALLS and not has_records(self.elf):
+                if kind == CALLS and not made and not has_records(self.elf):
                     yield f"cure: {RECORDS}"
 
 
