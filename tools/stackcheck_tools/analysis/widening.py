@@ -7,7 +7,7 @@ from dataclasses import dataclass, field
 from typing import TYPE_CHECKING, Dict, FrozenSet, List, Optional, Set
 
 from stackcheck_tools.dataflow import calls
-from stackcheck_tools.firmware import candidates, debug_lines, records, switches
+from stackcheck_tools.firmware import candidates, debug_lines, switches
 from stackcheck_tools.firmware.elf import Elf
 from stackcheck_tools.spec.lines import Lines
 from stackcheck_tools.spec.spec import MOST_ITEMS
