@@ -48,8 +48,8 @@ class Answer:
             for part in line.split(", "):
                 what, *numbers = part.split()
                 if what in ("jump", "store"):
-                    found = self.lists if what == "jump" else self.listed
-                    found.setdefault(int(numbers[0], 16), set()).update(int(it, 16) for it in numbers[1:])
+                    lists = self.lists if what == "jump" else self.listed
+                    lists.setdefault(int(numbers[0], 16), set()).update(int(it, 16) for it in numbers[1:])
 
     def may_write_core(self, word: int) -> List[int]:
         """The registers of the core that the certificate lets a store through a pointer write, but for one that each node knows."""
@@ -96,7 +96,7 @@ def of_stores(answer: Answer, seen: Seen) -> Iterator[str]:
         if word not in answer.nodes.at:
             yield f"store at {where}: the certificate does not reach it"
         elif source(answer.elf, word, told, seen) == "numbers" and (may := answer.may_write_core(word)):
-            yield (f"store at {where}: {stores.count} times through a number, {stores.least:04X} to {stores.most:04X}, and may write "
+            yield (f"store at {where}: {stores.number} times through a number, {stores.least:04X} to {stores.most:04X}, and may write "
                    f"{' '.join(f'{it:04X}' for it in may)}")
         elif hit and not answer.nodes.fixed(word):
             yield f"store at {where}: by a pointer of {told} it wrote {' '.join(f'{it:04X}' for it in sorted(hit))}"
@@ -111,14 +111,15 @@ def of_certificate(answer: Answer, seen: Seen) -> Iterator[str]:
                 yield f"store at {name(answer.elf, word)}: it wrote {address:04X}, which the certificate excludes"
 
 
-def of_transfers(answer: Answer, seen: Seen) -> Iterator[str]:
-    """Yields the calls and jumps that went to what neither their list nor the certificate has, and aren't ordinary."""
+def of_transfers(answer: Answer, seen: Seen, with_kept: bool = False) -> Iterator[str]:
+    """Yields the calls and jumps that went to what neither their list nor the certificate has, and aren't ordinary; those through kept
+    pointers only if they are asked for."""
     for (word, told), targets in sorted(seen.targets.items()):
         if word in answer.ordinary:
             continue
         known = answer.lists.get(word)
         missing = {it for it in targets if (it not in known if known is not None else it not in answer.nodes.at)}
-        if missing and source(answer.elf, word, told, seen) != "kept":
+        if missing and (with_kept or source(answer.elf, word, told, seen) != "kept"):
             yield (f"transfer at {name(answer.elf, word)}: from {told} to {', '.join(name(answer.elf, it) for it in sorted(missing))}, "
                    f"which {'its list' if known is not None else 'the certificate'} lacks")
 

@@ -42,7 +42,7 @@ def build(folder: str) -> str:
 class Stores(NamedTuple):
     """Stores of one word through pointers of one source: how many, and the least and the greatest address."""
 
-    count: int
+    number: int
     least: int
     most: int
 
@@ -63,7 +63,9 @@ class Seen:
     def read(self, text: str) -> None:
         """Joins what one run printed."""
         for line in text.splitlines():
-            what, *words = line.split()
+            what, *words = line.split() or [""]
+            if what not in ("run", "stood", "home", "store", "core", "call"):  # simavr prints some things itself
+                continue
             if what == "run":
                 self.depth, self.steps = max(self.depth, int(words[1])), self.steps + int(words[3])
                 self.stops.add(" ".join(words[5:]))
@@ -78,7 +80,7 @@ class Seen:
             if what == "store":
                 before = self.stores.get(key, Stores(0, 0xFFFF, 0))
                 least, most = min(before.least, int(words[3], 16)), max(before.most, int(words[4], 16))
-                self.stores[key] = Stores(before.count + int(words[2]), least, most)
+                self.stores[key] = Stores(before.number + int(words[2]), least, most)
             else:
                 (self.core if what == "core" else self.targets).setdefault(key, set()).add(int(words[2], 16))
 
