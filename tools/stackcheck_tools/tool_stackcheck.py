@@ -12,7 +12,7 @@ from stackcheck_tools.analysis import cures
 from stackcheck_tools.analysis.outcome import Outcome, Refused, judge
 from stackcheck_tools.habits import FAULTS, Words, in_words
 from stackcheck_tools.report import reports, verdict
-from stackcheck_tools.spec.spec import SpecFault
+from stackcheck_tools.firmware.names import SpecFault
 
 DOCUMENT = ""  # the text of the tool, which its script gives
 
