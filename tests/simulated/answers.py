@@ -12,6 +12,7 @@ from simulated import TOP, Seen
 from stackcheck_tools.analysis.node_values import Nodes, pointer, stored
 from stackcheck_tools.firmware.elf import CODE_END, Elf
 
+TOOL = os.environ.get("STACKCHECK", os.path.join(TOP, "tools", "stackcheck"))
 FLASH = 0x1000000  # is added to homes in flash
 HEAP = ("malloc", "_Znwj")  # functions by which memory without a name is given
 
@@ -20,10 +21,9 @@ class Answer:
     """An answer of `stackcheck`: its status, its bound (None if there is none), the words of places and of ordinary ones, the lists of
     calls and jumps, and the nodes of its certificate."""
 
-    def __init__(self, elf: Elf, folder: str, words: List[str]) -> None:
+    def __init__(self, elf: Elf, folder: str, words: List[str], tool: str = TOOL) -> None:
         self.elf = elf
         report, certificate = os.path.join(folder, "report"), os.path.join(folder, "certificate")
-        tool = os.environ.get("STACKCHECK", os.path.join(TOP, "tools", "stackcheck"))
         said = subprocess.run([sys.executable, "-B", tool, elf.path, "--no-attain", "--json", report, "--cert", certificate, *words],
                               stdin=subprocess.DEVNULL, stdout=subprocess.PIPE, stderr=subprocess.STDOUT, check=False)
         self.status, self.text, self.bound = said.returncode, said.stdout.decode("utf8", "replace"), None

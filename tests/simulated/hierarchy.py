@@ -52,7 +52,7 @@ class Program:
         self.classes: List[Class] = []
         for _ in range(self.random.randint(1, 3)):
             self.add([])
-        for _ in range(self.random.randint(3, 8)):
+        for _ in range(self.random.randint(2, 5)):
             self.add(self.bases())
         for root in self.roots():  # each hierarchy has an object
             if not self.objects(root):
@@ -116,7 +116,7 @@ class Program:
 
     def statements(self, it: Class, number: int, const: str) -> Iterator[str]:
         """Yields what the function of a number does in a class."""
-        for _ in range(self.random.randint(1, 3)):
+        for _ in range(self.random.randint(1, 2)):
             way = self.random.randrange(8)
             own = [other for other in sorted(it.functions) if other < number and (not const or KINDS[self.kinds[other]][2])]
             root = self.random.choice(self.roots())
