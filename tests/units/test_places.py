@@ -4,20 +4,21 @@ import os
 import tempfile
 import unittest
 
-import stored  # noqa: F401  (the tools on the path)
+from stored import path
 from stackcheck_tools.analysis import places
 
 
 class SourceLines(unittest.TestCase):
     def line(self, text: str) -> object:
         with tempfile.TemporaryDirectory() as folder:
-            path = os.path.join(folder, "main.c")
-            with open(path, "w", encoding="utf8") as file:
+            name = os.path.join(folder, "main.c")
+            with open(name, "w", encoding="utf8") as file:
                 file.write("first\n" + text)
-            return places.line_of(path, 2)
+            return places.line_of(name, 2)
 
     def test_a_line_loses_its_indentation(self) -> None:
         self.assertEqual(self.line("\t    x = 1;\n"), "x = 1;")
+        self.assertEqual(places.line_of(path("late.c"), 13), "sei();")
 
     def test_a_line_of_100_letters_is_whole_and_a_longer_one_is_cut_there(self) -> None:
         self.assertEqual(self.line("  " + "x" * 100), "x" * 100)
