@@ -1,11 +1,12 @@
 """Random programs of C++: class hierarchies whose virtual functions call each other, functions in tables, pointers to members.
 
-A function calls functions of lower numbers alone, so that none recurs. What a call enters depends on inputs."""
+A function calls functions at lower places of their tables alone, so that none recurs, nor do the lists of calls by place. What a call enters
+depends on inputs."""
 
 from __future__ import annotations
 
 import random
-from typing import Dict, Iterator, List, Set, Tuple
+from typing import Dict, Iterable, Iterator, List, Set, Tuple
 
 HEAD = """\
 #include <avr/io.h>
@@ -24,7 +25,9 @@ KINDS = (("void", "uint8_t x", "", "x", ""), ("uint8_t", "", "", "", "return x;"
          ("void", "uint8_t x", " const", "x", ""), ("Result", "const Result &r", "", "result(x)", "return r;"),
          ("uint8_t", "uint8_t x, const uint8_t *p", "", "x, &x", "return *p;"))
 FREE = 4  # functions that tables name
-LEAST_WITH_OBJECTS = 4  # the least number of a function that makes objects: their constructors call lower ones
+LEAST_WITH_OBJECTS = 2  # the least place of a function that makes objects: their constructors call what is at place 0
+OPERATIONS = (("ops->run(x);", 1), ("sink += ops->get();", 2), ("((void (*)(uint8_t))pgm_read_word(&flash_table[any() % 2]))(x);", 0))
+DESTRUCTOR = 2  # places that a virtual one takes, behind the functions of its root
 
 
 class Class:
@@ -49,6 +52,7 @@ class Program:
     def __init__(self, number: int) -> None:
         self.random = random.Random(number)
         self.kinds: List[int] = []
+        self.places: List[int] = []  # of each function in the table of the class that declares it first
         self.classes: List[Class] = []
         for _ in range(self.random.randint(1, 3)):
             self.add([])
@@ -80,6 +84,8 @@ class Program:
     def add(self, bases: List[Tuple[Class, bool]]) -> Class:
         made = Class(len(self.classes), bases)
         for _ in range(self.random.randint(2, 4) if not bases else self.random.random() < 0.3):
+            held = [self.places[it] for it in made.functions]
+            self.places.append(max(held, default=-1) + (1 if not bases or made.own else 1 + DESTRUCTOR))
             made.functions.add(len(self.kinds))
             made.own.add(len(self.kinds))
             self.kinds.append(self.random.randrange(len(KINDS)))
@@ -87,7 +93,7 @@ class Program:
             made.pure = {it for it in made.own if self.random.random() < 0.3}
         made.calls_in_constructor = self.random.random() < 0.4
         is_diamond = len(bases) == 2 and bool(bases[0][0].roots & bases[1][0].roots)
-        self.define(made, 1.0 if is_diamond else 0.4)
+        self.define(made, 1.0 if is_diamond or any(is_virtual for _, is_virtual in bases) else 0.4)  # virtual bases: a table of its own
         self.classes.append(made)
         return made
 
@@ -104,36 +110,40 @@ class Program:
         text = f"{what}f{number}({arguments})"
         return f"{text};" if result == "void" else f"sink += {text}{'.bytes[0]' if result == 'Result' else ''};"
 
-    def member(self, root: Class, number: int) -> str:
-        """A call through a pointer to a member, one of two that an input chooses, or a constant one."""
+    def member(self, root: Class, number: int, is_chosen: bool) -> str:
+        """A call through a pointer to a member: a constant one, or one of two that an input chooses."""
         result, parameters, const, arguments, _ = KINDS[self.kinds[number]]
-        alike = [it for it in sorted(root.own) if self.kinds[it] == self.kinds[number] and it <= number]
-        one, two = self.random.choice(alike), number
-        chosen = f"any() & 1 ? &{root.name}::f{one} : &{root.name}::f{two}" if self.random.random() < 0.7 else f"&{root.name}::f{two}"
+        other = self.random.choice([it for it in sorted(root.own) if self.kinds[it] == self.kinds[number]])
+        chosen = f"any() & 1 ? &{root.name}::f{other} : &{root.name}::f{number}" if is_chosen else f"&{root.name}::f{number}"
         used = "" if result == "void" else "sink += "
         return (f"{{ {result} ({root.name}::*m)({parameters}){const} = {chosen}; {used}(of_{root.name}(any())->*m)({arguments})"
                 f"{'.bytes[0]' if result == 'Result' else ''}; }}")
 
+    def lower(self, numbers: Iterable[int], place: int) -> List[int]:
+        """The functions at lower places."""
+        return [it for it in sorted(numbers) if self.places[it] < place]
+
     def statements(self, it: Class, number: int, const: str) -> Iterator[str]:
         """Yields what the function of a number does in a class."""
+        place = self.places[number]
         for _ in range(self.random.randint(1, 2)):
             way = self.random.randrange(8)
-            own = [other for other in sorted(it.functions) if other < number and (not const or KINDS[self.kinds[other]][2])]
+            own = [other for other in self.lower(it.functions, place) if not const or KINDS[self.kinds[other]][2]]
             root = self.random.choice(self.roots())
-            theirs = [other for other in sorted(root.own) if other < number]
-            concrete = [other for other in self.classes if other.is_concrete() and other.functions and min(other.functions) < number]
+            theirs = self.lower(root.own, place)
+            concrete = [other for other in self.classes if other.is_concrete()]
+            operations = [text for text, least in OPERATIONS if least <= place]
             if way == 0 and own:
                 yield self.call("this->", self.random.choice(own))
             elif way in (1, 2) and theirs:
                 yield self.call(f"of_{root.name}(any())->", self.random.choice(theirs))
             elif way == 3 and theirs:
-                yield self.member(root, self.random.choice(theirs))
+                yield self.member(root, self.random.choice(theirs), False)
             elif way == 4:
-                yield self.random.choice(("ops->run(x);", "sink += ops->get();", "((void (*)(uint8_t))pgm_read_word(&flash_table[any() % 2]))(x);"))
-            elif way == 5 and concrete and number >= LEAST_WITH_OBJECTS:
+                yield self.random.choice(operations)
+            elif way == 5 and concrete and place >= LEAST_WITH_OBJECTS:
                 other = self.random.choice(concrete)
-                least = min(other.functions)
-                yield f"{{ {other.name} local; keep(&local); {self.call('local.', least)} }}"
+                yield f"{{ {other.name} local; keep(&local); {self.call('local.', self.random.choice(self.lower(other.functions, 1)))} }}"
             elif way == 6 and theirs:
                 yield f"help_{root.name}_{self.random.choice(theirs)}(*of_{root.name}(any()), x);"
             else:
@@ -147,15 +157,15 @@ class Program:
     def declaration(self, it: Class) -> str:
         bases = ", ".join(f"public {'virtual ' * is_virtual}{base.name}" for base, is_virtual in it.bases)
         parts = [f"struct {it.name}{' : ' if bases else ''}{bases} {{ uint8_t own_{it.name}; {it.name}();"]
-        parts += ["virtual ~" + it.name + "() { sink += 1; }"] if not it.bases and self.random.random() < 0.3 else []
         for number in sorted(it.own):
             result, parameters, const, _, _ = KINDS[self.kinds[number]]
             parts.append(f"virtual {result} f{number}({parameters}){const}{' = 0' if number in it.pure else ''};")
+        parts += ["virtual ~" + it.name + "() { sink += 1; }"] if not it.bases and self.random.random() < 0.3 else []
         return " ".join([*parts, "};"])
 
     def constructor(self, it: Class) -> str:
-        first = min(it.functions, default=None)
-        virtual = f"uint8_t x = any(); {self.call('this->', first)}" if it.calls_in_constructor and first in (0, 1) and not it.pure else ""
+        first = self.lower(it.functions, 1)
+        virtual = f"uint8_t x = any(); {self.call('this->', first[0])}" if it.calls_in_constructor and not it.pure else ""
         return f"{it.name}::{it.name}() : own_{it.name}(any()) {{ {virtual} }}"
 
     def text(self) -> str:
@@ -194,5 +204,5 @@ class Program:
         yield "int main() { for (;;) { uint8_t x = any(); switch (any()) {"
         for number, (root, function) in enumerate((root, it) for root in self.roots() for it in sorted(root.own)):
             yield f"case {2 * number}: {self.call(f'of_{root.name}(x)->', function)} break;"
-            yield f"case {2 * number + 1}: {self.member(root, function)} break;"
+            yield f"case {2 * number + 1}: {self.member(root, function, self.random.random() < 0.5)} break;"
         yield "default: ops = &table[x & 1]; ops->run(x); } } }"
