@@ -67,7 +67,8 @@ static struct origin sum(struct origin a, struct origin b, int sign) {
 	made.constant = constant_of(a, b);
 	made.objects = limited(a.objects + sign * b.objects);
 	made.home = a.is_kept || !b.is_kept ? a.home : b.home;
-	made.is_kept = a.is_kept || (sign > 0 && b.is_kept);
+	int is_cancelled = !made.objects && (a.objects || b.objects);
+	made.is_kept = !is_cancelled && (a.is_kept || (sign > 0 && b.is_kept));
 	return made;
 }
 

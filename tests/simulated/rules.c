@@ -1,5 +1,5 @@
-/* A store or a call for each rule by which a pointer is made of a number, beside a deep handler-like function that such a store may start:
- * each is an ordinary place. tests/simulated/faults breaks the rules one at a time. */
+/* A store or a call for each rule by which a pointer is made of a number: each is an ordinary place. tests/simulated/faults breaks the rules
+ * one at a time. */
 #include <avr/eeprom.h>
 #include <avr/io.h>
 #include <avr/pgmspace.h>
@@ -23,13 +23,21 @@ SITE two_inputs(void) { uint8_t low = in(); *(volatile uint8_t *)(low | in() << 
 
 SITE single_bytes(void) { take(); *(volatile uint8_t *)(request.low | request.high << 8) = 2; }
 
+SITE swapped_bytes(void) {
+	volatile uint8_t *from = places[in() & 3]; /* memory that holds pointers */
+	uint8_t high = from[0], low = from[1];
+	sink = 3;
+	*(volatile uint8_t *)(low | high << 8) = 30;
+}
+
 SITE widened(void) { *(volatile uint8_t *)(uint16_t)in() = 3; }
 
 SITE constant_and_index(void) { ((volatile uint8_t *)0x20)[in()] = 4; }
 
 SITE between_objects(void) { volatile uint8_t *far = bytes + in(), *near = (uint8_t *)words + in(); *(volatile uint8_t *)(far - near) = 5; }
 
-SITE less_object(void) { uint16_t it = 0x20 - (uint16_t)bytes; uint8_t *end = bytes + in(); *(volatile uint8_t *)(it + (uint16_t)end) = 6; }
+static uint8_t *volatile begin = bytes;
+SITE less_object(void) { uint16_t it = 0x20 - (uint16_t)begin; sink = 4; *(volatile uint8_t *)(it + (uint16_t)begin + in()) = 6; }
 
 SITE two_objects_mixed(void) { *(volatile uint8_t *)((uint16_t)(bytes + in()) ^ (uint16_t)(words + in())) = 7; }
 
@@ -60,11 +68,13 @@ MADE void given(uint16_t it) { *(volatile uint8_t *)it = 14; }
 SITE argument(void) { uint8_t low = in(); given(low | in() << 8); }
 
 MADE uint16_t number(void) { uint8_t low = in(); return low | in() << 8; }
+MADE uint16_t number_beside(uint8_t *it) { uint8_t low = in(); sink = *it; return low | in() << 8; }
+SITE result_beside(void) { *(volatile uint8_t *)number_beside(bytes + (in() & 7)) = 31; }
 SITE result(void) { *(volatile uint8_t *)number() = 15; }
 
 SITE chosen(void) { volatile uint8_t *it = in() & 1 ? bytes : (uint8_t *)(uint16_t)(in() | in() << 8); *it = 16; }
 
-SITE chosen_null(void) { uint8_t low = in(); uint8_t *it = in() & 1 ? bytes : (uint8_t *)(uint16_t)low; ((volatile uint8_t *)it)[1] = 17; }
+SITE chosen_null(void) { uint8_t low = in(); uint8_t *it = in() & 1 ? bytes : (uint8_t *)(uint16_t)low; it += in() & 3; *(volatile uint8_t *)it = 17; }
 
 SITE stepped(void) { volatile uint8_t *it = (uint8_t *)0x20; for (uint8_t n = in(); n; n--) *it++ = 18; }
 
@@ -80,7 +90,11 @@ SITE product(void) { *(volatile uint8_t *)((uint16_t)in() * in()) = 23; }
 
 SITE inverted(void) { uint16_t it = in() | in() << 8; *(volatile uint8_t *)~it = 24; }
 
-SITE masked(void) { *(volatile uint8_t *)((uint16_t)(bytes + in()) & 0x7F) = 25; }
+SITE masked(void) {
+	uint16_t it = (uint16_t)(bytes + in());
+	__asm__ volatile("andi %B0, 0" : "+d"(it));
+	*(volatile uint8_t *)it = 25;
+}
 
 SITE from_flash(void) { static const uint8_t table[] PROGMEM = { 0x25, 0x28, 0x2B, 0x5F }; *(volatile uint8_t *)(uint16_t)pgm_read_byte(&table[in() & 3]) = 26; }
 
@@ -91,9 +105,12 @@ SITE kept_whole(void) { places[in() & 3] = bytes + (in() & 7); places[in() & 3][
 static void one(void) { sink = 1; }
 static void two(void) { sink = 2; }
 
-SITE called_number(void) { uint16_t it = in() | in() << 8; if (it == (uint16_t)one) ((void (*)(void))it)(); }
+/* two instructions at a fixed address */
+__attribute__((naked, used, section(".landing"))) void landing(void) { __asm__ volatile("ret\n\tret"); }
 
-SITE called_sum(void) { uint16_t it = (uint16_t)one + (in() & 1); if (it == (uint16_t)one) ((void (*)(void))it)(); }
+SITE called_number(void) { ((void (*)(void))(0x800 + (in() & 1)))(); }
+
+SITE called_sum(void) { ((void (*)(void))((uint16_t)one + (in() & 1)))(); }
 
 int main(void) {
 	for (;;)
@@ -128,6 +145,7 @@ int main(void) {
 		case 27: kept_whole(); break;
 		case 28: called_number(); break;
 		case 29: called_sum(); break;
-		default: last = first; two();
+		case 30: swapped_bytes(); break;
+		default: result_beside(); last = first; two();
 		}
 }

@@ -14,7 +14,7 @@ TOP = os.path.dirname(os.path.dirname(HERE))
 sys.path.insert(0, os.path.join(TOP, "tools"))
 
 from stackcheck_tools.firmware.devices import Device  # noqa: E402
-from stackcheck_tools.firmware.elf import ALLOCATED, CODE_END, EXECUTED, Elf  # noqa: E402
+from stackcheck_tools.firmware.elf import ALLOCATED, CODE_END, EXECUTED, Elf as Elf  # noqa: E402
 
 SOURCES = ("machine.c", "origins.c")
 HEADER = "/usr/include/simavr/sim_avr.h"
