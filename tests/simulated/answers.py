@@ -57,8 +57,9 @@ class Answer:
         if word not in nodes.at or nodes.fixed(word):
             return []
         found = {address for name, address in device.core.items() if not name.startswith("r")}
-        if device.moving and any(it[stored(self.elf.word(word))].may_have(device.moving.mask.bit_length() - 1) for it in nodes.values_at(word)):
-            found.add(device.moving.address)
+        byte, moving = stored(self.elf.word(word)), device.moving
+        if moving and any(it[byte].may_have(moving.mask.bit_length() - 1) for it in nodes.values_at(word)):
+            found.add(moving.address)
         return [it for it in sorted(found - self.listed.get(word, set())) if nodes.may_write(word, it)]
 
 

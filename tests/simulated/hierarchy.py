@@ -1,7 +1,7 @@
 """Random programs of C++: class hierarchies whose virtual functions call each other, functions in tables, pointers to members.
 
-A function calls functions at lower places of their tables alone, so that none recurs, nor do the lists of calls by place. What a call enters
-depends on inputs."""
+A function calls functions at lower places of their tables alone, so that none recurs, nor do the lists of calls by place. What a call
+enters depends on inputs."""
 
 from __future__ import annotations
 
@@ -74,7 +74,7 @@ class Program:
         first = self.random.choice(self.classes)
         found = [(first, not first.bases and self.random.random() < 0.5)]
         others = [it for it in self.classes if not it.roots & first.roots]
-        twins = [it for it in self.classes if it is not first and it.bases == first.bases and [is_virtual for _, is_virtual in it.bases] == [True]]
+        twins = [it for it in self.classes if it is not first and it.bases == first.bases and len(it.bases) == 1 and it.bases[0][1]]
         if twins and self.random.random() < 0.7:
             found.append((self.random.choice(twins), False))
         elif others and self.random.random() < 0.4:

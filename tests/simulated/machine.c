@@ -2,10 +2,10 @@
  *
  * usage: machine DEVICE IMAGE MARKS SEED STEPS CORE HELD BYTES PHRASES
  *
- * IMAGE is what flash holds. MARKS: see origins.h. CORE has the registers of the core and HELD those that enable interrupts or move the
- * vectors, as `ADDRESS.MASK,..`. A read of an input gives any byte, but for what HELD masks; more often than others one of BYTES, which the
- * firmware may wait for; and now and then the bytes of a line of the file PHRASES (`-` for none), in hexadecimal digits, one after the other
- * from one input. Before an instruction any interrupt may come that is enabled.
+ * IMAGE is what flash holds. MARKS: see origins.h. CORE has the registers of the core and HELD those that enable interrupts or move
+ * the vectors, as `ADDRESS.MASK,..`. A read of an input gives any byte, but for what HELD masks; more often one of BYTES, which the
+ * firmware may wait for; and now and then the bytes of a line of the file PHRASES (`-` for none), in hexadecimal digits, one after the
+ * other from one input. Before an instruction any interrupt may come that is enabled.
  *
  * It prints lines
  *   run depth N steps N stop WHY          the deepest stack, and why the run ended

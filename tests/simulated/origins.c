@@ -204,7 +204,9 @@ static int follow_one(uint16_t opcode) {
 	switch (opcode & 15) {
 	case 0: case 1: of[d] = sum(constant, of[d], -1); return 1; /* com, neg */
 	case 3: case 10: of[d] = sum(of[d], constant, 1); return 1; /* inc, dec */
-	case 6: case 7: of[d] = (struct origin){ .code = of[d].code, .home = NOWHERE }; return 1; /* lsr, ror: of a function's byte address, its word */
+	case 6: case 7: /* lsr, ror: of a function's byte address, its word */
+		of[d] = (struct origin){ .code = of[d].code, .home = NOWHERE };
+		return 1;
 	case 2: case 5: of[d] = number; return 1; /* swap, asr */
 	}
 	return 0;
@@ -255,6 +257,7 @@ enum source source_of_transfer(int low) { return source_of(low); }
 
 /* A byte beside a 0 that is no half of an address is a number that was widened, unless the stack pointer has no high half. */
 enum source source_of_store(avr_t *avr, int low) {
-	int is_widened = is_plain(of[low + 1]) && avr->data[low + 1] == 0 && !of[low + 1].is_kept && has_high_half;
-	return is_widened && !(of[low].constant && of[low + 1].constant) ? NUMBERS : source_of(low);
+	struct origin high = of[low + 1];
+	int is_widened = is_plain(high) && avr->data[low + 1] == 0 && !high.is_kept && has_high_half;
+	return is_widened && !(of[low].constant && high.constant) ? NUMBERS : source_of(low);
 }

@@ -1,5 +1,5 @@
-/* A store or a call for each rule by which a pointer is made of a number: each is an ordinary place. tests/simulated/faults breaks the rules
- * one at a time. */
+/* A store or a call for each rule by which a pointer is made of a number: each is an ordinary place. tests/simulated/faults breaks the
+ * rules one at a time. */
 #include <avr/eeprom.h>
 #include <avr/io.h>
 #include <avr/pgmspace.h>
@@ -37,7 +37,11 @@ SITE constant_and_index(void) { ((volatile uint8_t *)0x20)[in()] = 4; }
 SITE between_objects(void) { volatile uint8_t *far = bytes + in(), *near = (uint8_t *)words + in(); *(volatile uint8_t *)(far - near) = 5; }
 
 static uint8_t *volatile begin = bytes;
-SITE less_object(void) { uint16_t it = 0x20 - (uint16_t)begin; sink = 4; *(volatile uint8_t *)(it + (uint16_t)begin + in()) = 6; }
+SITE less_object(void) {
+	uint16_t it = 0x20 - (uint16_t)begin;
+	sink = 4;
+	*(volatile uint8_t *)(it + (uint16_t)begin + in()) = 6;
+}
 
 SITE two_objects_mixed(void) { *(volatile uint8_t *)((uint16_t)(bytes + in()) ^ (uint16_t)(words + in())) = 7; }
 
@@ -74,7 +78,12 @@ SITE result(void) { *(volatile uint8_t *)number() = 15; }
 
 SITE chosen(void) { volatile uint8_t *it = in() & 1 ? bytes : (uint8_t *)(uint16_t)(in() | in() << 8); *it = 16; }
 
-SITE chosen_null(void) { uint8_t low = in(); uint8_t *it = in() & 1 ? bytes : (uint8_t *)(uint16_t)low; it += in() & 3; *(volatile uint8_t *)it = 17; }
+SITE chosen_null(void) {
+	uint8_t low = in();
+	uint8_t *it = in() & 1 ? bytes : (uint8_t *)(uint16_t)low;
+	it += in() & 3;
+	*(volatile uint8_t *)it = 17;
+}
 
 SITE stepped(void) { volatile uint8_t *it = (uint8_t *)0x20; for (uint8_t n = in(); n; n--) *it++ = 18; }
 
@@ -96,7 +105,10 @@ SITE masked(void) {
 	*(volatile uint8_t *)it = 25;
 }
 
-SITE from_flash(void) { static const uint8_t table[] PROGMEM = { 0x25, 0x28, 0x2B, 0x5F }; *(volatile uint8_t *)(uint16_t)pgm_read_byte(&table[in() & 3]) = 26; }
+SITE from_flash(void) {
+	static const uint8_t table[] PROGMEM = { 0x25, 0x28, 0x2B, 0x5F };
+	*(volatile uint8_t *)(uint16_t)pgm_read_byte(&table[in() & 3]) = 26;
+}
 
 SITE tested(void) { uint16_t it = in() | in() << 8; if (it >> 8) *(volatile uint8_t *)it = 27; }
 

@@ -214,8 +214,9 @@ class Simulation:
         device, seen = self.elf.chip, Seen()
         name = self.elf.device() or device.name
         for seed in range(seeds):
-            said = subprocess.run([self.machine, name, self.image, self.marks, str(seed), str(steps), masks(core_of(device)),
-                                   masks(held_of(device)), tried(self.elf), phrases], stdin=subprocess.DEVNULL, stdout=subprocess.PIPE, check=False)
+            words = [self.machine, name, self.image, self.marks, str(seed), str(steps), masks(core_of(device)), masks(held_of(device)),
+                     tried(self.elf), phrases]
+            said = subprocess.run(words, stdin=subprocess.DEVNULL, stdout=subprocess.PIPE, check=False)
             if said.returncode == UNKNOWN_DEVICE:
                 raise Missing(f"simavr has no {name}")
             said.check_returncode()
