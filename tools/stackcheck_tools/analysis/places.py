@@ -33,6 +33,7 @@ if TYPE_CHECKING:
 
 Key = Union[str, Tuple[str, int, str]]  # path, line and function; or what an entry is called
 MOST_WORDS = 4  # word addresses that one entry prints
+MOST_LETTERS = 100  # of a source line
 START = ("__do_clear_bss", "__do_copy_data")
 Z = 30  # the pair of a call
 WHY = "say here why it keeps the bound"
@@ -87,13 +88,13 @@ def readable(path: str) -> str:
 
 
 def line_of(path: str, number: int) -> Optional[str]:
-    """The text of a source line without its indentation; None where the file isn't there or has no such line."""
+    """The text of a source line without its indentation, cut where it is long; None where the file isn't there or has no such line."""
     try:
         with open(path, encoding="utf8", errors="replace") as file:
             text = next((it for at, it in enumerate(file, start=1) if at == number), "").strip()
     except OSError:
         return None
-    return text or None
+    return text if 0 < len(text) <= MOST_LETTERS else f"{text[:MOST_LETTERS - 3]} .." if text else None
 
 
 def section_at(elf: Elf, address: int) -> str:
