@@ -108,8 +108,8 @@ def narrower(firmware: Firmware, lists: Lists, lines: Lines) -> Iterator[str]:
 
 def text_of_stop(firmware: Firmware, stop: Stop) -> str:
     """A flagged step: its kind, the word, the address or target, and the place."""
-    text = "{:04X}".format if stop.kind in ("live", "protected") else firmware.device.word
-    other = f" {text(stop.other)}" if stop.has_other() else ""
+    is_data = stop.kind in ("live", "protected")
+    other = (f" {stop.other:04X}" if is_data else f" {firmware.device.word(stop.other)}") if stop.has_other() else ""
     register = firmware.device.register_name(stop.other) if stop.kind == "protected" else ""
     name = f" ({register})" if register else f" ({firmware.place(stop.other)})" if stop.kind == "transfer" else ""
     return f"{stop.kind} {firmware.device.word(stop.word)}{other}{name} at {firmware.place(stop.word)}"

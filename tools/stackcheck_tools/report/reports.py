@@ -5,7 +5,7 @@ from __future__ import annotations
 
 import sys
 from argparse import Namespace
-from typing import Callable, Iterator, Optional
+from typing import Callable, Dict, Iterator, Optional
 
 from stackcheck_tools.analysis import idle_lines, places
 from stackcheck_tools.analysis.outcome import Accepted, Outcome, Refused
@@ -15,9 +15,9 @@ from stackcheck_tools.report import call_graph, dot, github, interrupts, machine
 from stackcheck_tools.report.page import html
 from stackcheck_tools.spec.spec import Spec
 
-FILES = {"json": lambda outcome: machine_report.text(outcome),
+FILES: Dict[str, Callable[[Outcome], Optional[str]]] = {"json": lambda outcome: machine_report.text(outcome),
          "csv": lambda outcome: None if isinstance(outcome, Refused) else needs.as_csv(outcome.table),
-         "dot": lambda outcome: None if isinstance(outcome, Refused) else dot.text(outcome.graph, outcome.table),
+         "dot": lambda outcome: None if isinstance(outcome, Refused) or outcome.graph is None else dot.text(outcome.graph, outcome.table),
          "page": lambda outcome: html(outcome)}
 
 
