@@ -87,7 +87,7 @@ def keep(words: Namespace, outcome: Outcome) -> None:
     for path, text in ((words.cert, certificate), (words.schedule, schedule),
                        (words.write_spec, "".join(f"{line}\n" for line in spec_of(outcome)))):
         if path and text is not None:
-            with open(path, "w", encoding="utf8") as file:
+            with open(path, "w", encoding="utf8", newline="\n") as file:
                 file.write(text)
 
 

@@ -171,7 +171,7 @@ def tell_premises(found: Accepted, program: Program, certificate: str) -> None:
 
 def accept(found: Accepted, program: Program, certificate: str, text: str) -> str:
     """Writes a certificate and has it judged: only what is accepted is told."""
-    with open(certificate, "w", encoding="ascii") as file:
+    with open(certificate, "w", encoding="ascii", newline="\n") as file:
         file.write(text)
     status, said = program.call("check", certificate)
     if status != OK or not said.startswith("accepted bound "):
