@@ -76,6 +76,8 @@ def spec_of(outcome: Outcome) -> Iterator[str]:
     """The given spec, and behind it the lines that this tool wrote, with their places."""
     yield from outcome.spec.splitlines()
     yield from (f"{it.spec or '# no name: ' + it.words}  # {it.place}" for it in outcome.written)
+    if not isinstance(outcome, Refused):
+        yield from (f"# {it.line()}" for it in outcome.recursions if it.is_by_runs())
 
 
 def keep(words: Namespace, outcome: Outcome) -> None:
