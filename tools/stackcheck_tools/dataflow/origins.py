@@ -82,7 +82,9 @@ class Run:
         self.returned: Dict[Key, Set[int]] = {}
         self.now: Optional[Key] = None  # the word that is followed
         self.readers: Dict[int, Set[Key]] = {}  # by what they read
-        self.left: List[Key] = []
+        self.left: List[Tuple[int, int]] = []  # ranks of functions, and words; what is called is followed before its caller goes on
+        self.entries: List[int] = []
+        self.ranks: Dict[int, int] = {}
         self.near: Dict[int, Optional[loaded.State]] = {}
         self.run()
 
@@ -96,18 +98,26 @@ class Run:
                 self.enter((word, word), NOTHING)
         for _ in range(MOST_ROUNDS):
             while self.left:
-                key = heapq.heappop(self.left)
-                if not self.left or self.left[0] != key:
-                    self.now = key
-                    self.step(key)
+                rank, word = heapq.heappop(self.left)
+                if not self.left or self.left[0] != (rank, word):
+                    self.now = self.entries[-rank], word
+                    self.step(self.now)
             self.now = None
             if self.memory.changed:
                 again = set().union(*(self.readers.get(it, ()) for it in self.memory.changed))
                 self.memory.changed.clear()
                 for key in again:
-                    heapq.heappush(self.left, key)
+                    self.push(key)
             elif not self.enter_missed():
                 break
+
+    def push(self, key: Key) -> None:
+        """Lets a word be followed."""
+        entry, word = key
+        if entry not in self.ranks:
+            self.ranks[entry] = -len(self.entries)
+            self.entries.append(entry)
+        heapq.heappush(self.left, (self.ranks[entry], word))
 
     def enter_missed(self) -> bool:
         """Enters words of the certificate to which no way is known yet: begins of functions, which are entered by a list of constructors,
@@ -137,7 +147,7 @@ class Run:
             if key in self.hints:
                 state = State(joined(state.registers, self.hints[key]), state.slots)
             self.before[key] = state
-            heapq.heappush(self.left, key)
+            self.push(key)
             return
         slots = held.slots
         if slots != state.slots:
@@ -145,7 +155,7 @@ class Run:
         registers = joined(held.registers, state.registers)
         if registers != held.registers or slots != held.slots:
             self.before[key] = State(registers, slots)
-            heapq.heappush(self.left, key)
+            self.push(key)
 
     def leave(self, entry: int, registers: Registers) -> None:
         """Returns from a function."""
@@ -156,7 +166,7 @@ class Run:
         if met != held:
             self.exits[entry] = met
             for it in self.callers.get(entry, ()):
-                heapq.heappush(self.left, it)
+                self.push(it)
 
     def call(self, key: Key, to: int, after: Optional[int]) -> None:
         """Enters a function, behind which a run goes on at a word, or returns itself."""
