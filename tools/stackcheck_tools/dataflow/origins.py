@@ -1,7 +1,8 @@
 """Where the pointers of stores and calls come from: from the address of an object or function, from memory that holds pointers, or from a
 number. One worklist over the words that a certificate reaches: functions are followed by what they are given and give back, registers and
-slots of frames along all ways, other memory by all that is written there. It is run twice: what is a pointer isn't known before all that is
-written was seen, so the first run takes all objects to hold pointers, and the second begins with the pointers that the first one found. """
+slots of frames along all ways, other memory by all that is written there. It is run several times: what is a pointer isn't known before all
+that is written was seen, so the first run takes all objects to hold pointers, and each other one begins with the pointers that the one
+before found. """
 
 from __future__ import annotations
 
@@ -25,6 +26,7 @@ NO_ARGUMENTS = (*range(2, 8), 28, 29)  # registers in which no caller leaves any
 # the lowest register in which avr-libc's functions get an argument that keep in lower ones what they haven't set on each way
 LOWEST = {"malloc": 24, "free": 24, "realloc": 22, "calloc": 22}
 MOST_ROUNDS = 40
+MORE_RUNS = 2  # behind the second one, while each finds that more memory holds nothing but numbers
 SMALL = 32  # addresses below are of registers
 
 
@@ -597,6 +599,10 @@ class Origins:
         self.elf, self.told = elf, Addresses(elf)
         firmware = Firmware(elf, device, reached, targets, self.told)
         self.run = Run(firmware, Run(firmware))
+        for _ in range(MORE_RUNS):
+            if not self.run.memory.has_purer():
+                break
+            self.run = Run(firmware, self.run)
         self.by_word: Dict[int, List[Key]] = {}
         for key in self.run.before:
             self.by_word.setdefault(key[1], []).append(key)
