@@ -3,6 +3,7 @@
 from __future__ import annotations
 
 import argparse
+import io
 import os
 import sys
 import traceback
@@ -81,6 +82,8 @@ def of_itself(fault: BaseException) -> str:
 def run(main: Callable[[], int]) -> None:
     """Calls a tool's `main` and ends with its status; a closed pipe, an interrupt from the keyboard and a fault end without a trace of the
     calls."""
+    if sys.platform == "win32" and isinstance(sys.stdout, io.TextIOWrapper):  # files of the program have line feeds alone
+        sys.stdout.reconfigure(encoding="utf8", newline="\n")
     try:
         status: Union[int, str, None]
         try:

@@ -76,6 +76,8 @@ def spec_of(outcome: Outcome) -> Iterator[str]:
     """The given spec, and behind it the lines that this tool wrote, with their places."""
     yield from outcome.spec.splitlines()
     yield from (f"{it.spec or '# no name: ' + it.words}  # {it.place}" for it in outcome.written)
+    if not isinstance(outcome, Refused):
+        yield from (f"# {it.line()}" for it in outcome.recursions if it.is_by_runs())
 
 
 def keep(words: Namespace, outcome: Outcome) -> None:
@@ -85,7 +87,7 @@ def keep(words: Namespace, outcome: Outcome) -> None:
     for path, text in ((words.cert, certificate), (words.schedule, schedule),
                        (words.write_spec, "".join(f"{line}\n" for line in spec_of(outcome)))):
         if path and text is not None:
-            with open(path, "w", encoding="utf8") as file:
+            with open(path, "w", encoding="utf8", newline="\n") as file:
                 file.write(text)
 
 

@@ -9,7 +9,7 @@ use Rattle.indexmap.proofs.CallerLemmas.{Contains-list_any}
 use Rattle.node_keys.specs.declared.keys.InstKey.{InstKey}
 use Rattle.node_keys.specs.declared.keys.NodeKey.{NodeKey}
 use Rattle.node_keys.specs.declared.keys.SpForm.TheVariants.{Closed}
-use Rattle.node_keys.specs.Keys.{root_inst, offset_of}
+use Rattle.node_keys.specs.Keys.{root_inst}
 use Rattle.node_keys.specs.Order.{same_inst}
 use Rattle.node_keys.proofs.AllLaws.{keys_are_ordered}
 use Rattle.round_nesting.specs.Nestings.{Spot, Entrance, Noted, AreOnce, IsNodeNoted, HasEntrance, AreAlike}

@@ -15,10 +15,10 @@ Granted = List (InstKey × Allowance)
 abbrev pub allowed : Granted → InstKey → Option Allowance
 allowed gs inst = lookup (same_inst inst) gs
 
--- the allowances cover that the first instance enters the second at this offset, if a return address takes at most three bytes
-pub record Allows (from into : Allowance) (offset : ℕ) : Type 0 where
+-- the allowances cover that the first instance enters the second at this offset, if a return address takes `back` bytes
+pub record Allows (back : ℕ) (from into : Allowance) (offset : ℕ) : Type 0 where
   pub rank : into.rank < from.rank
-  pub need : offset + 3 + into.need ≤ from.need
+  pub need : offset + back + into.need ≤ from.need
 
 -- the root's need is at most this many bytes
 pub record AllowsRoot (gs : Granted) (size : ℕ) : Type 0 where
@@ -33,23 +33,23 @@ pub record AllowsSpot (gs : Granted) (s : Spot) : Type 0 where
   pub fits : s.offset ≤ most.need
 
 -- the allowances of both instances cover the entrance
-pub record AllowsEntrance (gs : Granted) (x : Entrance) : Type 0 where
+pub record AllowsEntrance (back : ℕ) (gs : Granted) (x : Entrance) : Type 0 where
   pub from : Allowance
   pub into : Allowance
   pub is_from : allowed gs x.from ≡ Some from
   pub is_into : allowed gs x.into ≡ Some into
-  pub allows : Allows from into x.offset
+  pub allows : Allows back from into x.offset
 
 -- the allowances cover all spots and entrances
-pub record CoversNoted (gs : Granted) (spots : List Spot) (entrances : List Entrance) : Type 0 where
+pub record CoversNoted (back : ℕ) (gs : Granted) (spots : List Spot) (entrances : List Entrance) : Type 0 where
   pub each_spot : (s : Spot) → Contains spots s → AllowsSpot gs s
-  pub each_entrance : (x : Entrance) → Contains entrances x → AllowsEntrance gs x
+  pub each_entrance : (x : Entrance) → Contains entrances x → AllowsEntrance back gs x
 
 -- each allowance stays
 abbrev pub AreAllowancesKept : Granted → Granted → Type 0
 AreAllowancesKept gs new = (inst : InstKey) (most : Allowance) → allowed gs inst ≡ Some most → allowed new inst ≡ Some most
 
 -- the root is kept apart from the other instances, and if `covered`, the allowances cover all notes
-pub record IsCoverKept (covered : Bool) (gs : Granted) (others : List InstKey) (spots : List Spot) (entrances : List Entrance) : Type 0 where
+pub record IsCoverKept (covered : Bool) (back : ℕ) (gs : Granted) (others : List InstKey) (spots : List Spot) (entrances : List Entrance) : Type 0 where
   pub apart : AreOthersApart others
-  pub covers : covered ≡ true → CoversNoted gs spots entrances
+  pub covers : covered ≡ true → CoversNoted back gs spots entrances

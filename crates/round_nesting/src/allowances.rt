@@ -20,6 +20,8 @@ pub(crate) struct Allowance {
 // Allowances by instance.
 #[derive(Drop)]
 pub(crate) struct Allowances {
+    // The bytes of a return address that they allow for.
+    pub back: u8,
     pub map: IndexMap<InstKey, Allowance>,
 }
 
@@ -30,12 +32,9 @@ fn number_at(numbers: &[u32], i: usize) -> u64
     u64::from(numbers.get(i).copied().unwrap_or(0))
 }
 
-// The bytes of a return address on the devices where it has most.
-const BACK: u64 = 3;
-
-// How much smaller the allowance of an entered instance is, besides the offset, in bytes: those of the return address, and five so that it
-// may be entered again at a greater offset.
-const STEP: u64 = BACK + 5;
+// How much smaller the allowance of an entered instance is, besides the offset and the return address, in bytes: so it may be entered
+// again at a greater offset.
+const SLACK: u64 = 5;
 
 // The distance between the ranks of instances that had nodes when ranks were last computed.
 const APART: u64 = 65_536;
@@ -61,23 +60,27 @@ impl Room {
 }
 
 impl Allowance {
-    // The allowance that remains for an instance that is entered at this offset.
-    fn left(self, offset: u16) -> Allowance {
+    // The allowance that remains for an instance that is entered at this offset, if a return address takes `back` bytes.
+    fn left(self, offset: u16, back: u8) -> Allowance {
         Allowance {
             rank: self.rank.saturating_sub(1),
-            need: self.need.saturating_sub(u64::from(offset) + STEP),
+            need: self
+                .need
+                .saturating_sub(u64::from(offset) + u64::from(back) + SLACK),
         }
     }
 }
 
 impl Allowances {
-    ghost use Rattle.std.specs.Prelude.{◌≡◌, Contains, OnOk, IsTrue};
+    ghost use Rattle.std.specs.Prelude.{◌≡◌, ◌≤◌, Contains, OnOk, IsTrue};
+    ghost use Rattle.avr_model.specs.Devices.{size_of, back_of};
     ghost use Rattle.round_nesting.specs.Nestings as nestings;
     ghost use Rattle.round_nesting.specs.Covers.{allowed, AreAllowancesKept, AllowsRoot, AllowsSpot, AllowsEntrance, CoversNoted};
 
     /// No allowances.
     pub fn none(alloc: Global) -> Allowances {
         Allowances {
+            back: 0,
             map: IndexMap::new(alloc),
         }
     }
@@ -91,7 +94,10 @@ impl Allowances {
         entrances: &IndexSet<NotedEntrance>,
         device: Device,
     ) -> Result<Allowances, AllocError> {
-        let mut granted = Allowances::none(alloc);
+        let mut granted = Allowances {
+            back: device.back(),
+            map: IndexMap::new(alloc),
+        };
         granted
             .grant_all(composed, others, entrances, device.size())
             .and(Ok(granted))
@@ -136,7 +142,7 @@ impl Allowances {
         let Some(from) = self.of(entrance.from()) else {
             return Ok(());
         };
-        let left = from.left(entrance.offset());
+        let left = from.left(entrance.offset(), self.back);
         let key = *entrance.into();
         let most = match self.of(&key) {
             Some(most) => Allowance {
@@ -151,12 +157,14 @@ impl Allowances {
 
     /// Sets the allowance of an entered instance that has none.
     pub fn leave(&mut self, entrance: &NotedEntrance) -> Result<(), AllocError>
-        ensures { OnOk result (AreAllowancesKept self.old.map.entries self.new.map.entries) }
+        ensures kept { OnOk result (AreAllowancesKept self.old.map.entries self.new.map.entries) }
+        ensures back { self.new.back ≡ self.old.back }
     {
         let key = *entrance.into();
         match (self.of(entrance.from()), self.of(&key)) {
             (Some(from), None) => {
-                self.map.insert(key, from.left(entrance.offset()))?;
+                let left = from.left(entrance.offset(), self.back);
+                self.map.insert(key, left)?;
                 Ok(())
             }
             _ => Ok(()),
@@ -170,14 +178,22 @@ impl Allowances {
         self.map.get(inst).copied()
     }
 
-    /// Whether the root's need is at most this many bytes.
-    pub fn allow_root(&self, size: u16) -> bool
+    // Whether the root's need is at most this many bytes.
+    fn allow_root(&self, size: u16) -> bool
         ensures { IsTrue result → AllowsRoot self.now.map.entries size }
     {
         match self.of(&InstKey::root()) {
             Some(most) => most.need <= u64::from(size),
             None => false,
         }
+    }
+
+    /// Whether the allowances are for this device: its return addresses take no more bytes, and the root's need fits its SRAM.
+    pub fn serve(&self, device: Device) -> bool
+        ensures back { IsTrue result → back_of device ≤ self.now.back }
+        ensures root { IsTrue result → AllowsRoot self.now.map.entries (size_of device) }
+    {
+        device.back() <= self.back && self.allow_root(device.size())
     }
 
     /// Whether the allowances cover the spot.
@@ -192,13 +208,13 @@ impl Allowances {
 
     /// Whether the allowances cover the entrance.
     pub fn allow_entrance(&self, entrance: &NotedEntrance) -> bool
-        ensures { IsTrue result → AllowsEntrance self.now.map.entries entrance.now }
+        ensures { IsTrue result → AllowsEntrance self.now.back self.now.map.entries entrance.now }
     {
         match (self.of(entrance.from()), self.of(entrance.into())) {
             (Some(from), Some(into)) => {
                 into.rank < from.rank
                     && into.need <= from.need
-                    && u64::from(entrance.offset()) + BACK <= from.need - into.need
+                    && u64::from(entrance.offset()) + u64::from(self.back) <= from.need - into.need
             }
             _ => false,
         }
@@ -218,7 +234,7 @@ impl Allowances {
 
     // Whether the allowances cover all entrances.
     fn allow_entrances(&self, entrances: &[NotedEntrance]) -> bool
-        ensures { IsTrue result → (x : _) → Contains entrances.now x → AllowsEntrance self.now.map.entries x }
+        ensures { IsTrue result → (x : _) → Contains entrances.now x → AllowsEntrance self.now.back self.now.map.entries x }
     {
         for entrance in entrances {
             if !self.allow_entrance(entrance) {
@@ -230,7 +246,7 @@ impl Allowances {
 
     /// Whether the allowances cover all spots and entrances.
     pub fn cover(&self, spots: &IndexSet<NotedSpot>, entrances: &IndexSet<NotedEntrance>) -> bool
-        ensures { IsTrue result → CoversNoted self.now.map.entries spots.now.keys entrances.now.keys }
+        ensures { IsTrue result → CoversNoted self.now.back self.now.map.entries spots.now.keys entrances.now.keys }
     {
         self.allow_spots(spots.as_slice()) && self.allow_entrances(entrances.as_slice())
     }

@@ -37,7 +37,7 @@ impl Model for Nesting {
 
     ghost view = { λ n. record { insts = insts_of n.has_root n.others.keys; spots = n.spots.keys; entrances = n.entrances.keys } };
 
-    ghost invariant = { λ n. IsCoverKept n.covered n.allowances.map.entries n.others.keys n.spots.keys n.entrances.keys };
+    ghost invariant = { λ n. IsCoverKept n.covered n.allowances.back n.allowances.map.entries n.others.keys n.spots.keys n.entrances.keys };
 }
 
 // Notes an instance, if it is new.
@@ -135,7 +135,7 @@ impl Nesting {
         ensures same { AreAlike self.old self.new }
         ensures once { AreOnce self.new.insts }
     {
-        if self.covered && self.allowances.allow_root(device.size()) {
+        if self.covered && self.allowances.serve(device) {
             return Ok(NestingVerdict::Nests);
         }
         if !self.has_root {

@@ -5,7 +5,7 @@ from __future__ import annotations
 from typing import TYPE_CHECKING, Dict, Iterable
 
 from stackcheck_tools.firmware.fuses import FUSES
-from stackcheck_tools.spec.recursion import PLACE
+from stackcheck_tools.spec.recursion import BY_RUNS, PLACE
 
 if TYPE_CHECKING:
     from stackcheck_tools.analysis.outcome import Accepted
@@ -13,12 +13,13 @@ if TYPE_CHECKING:
 # a correct program may be flagged there
 CALLS, STORES, VECTORS, CORES, MOVES, UNSET = "calls", "stores", "vectors", "cores", "moves", "unset"
 SAFETY, WHOLE = "memory safety", "whole lists"  # only a program without a meaning in its language is
+UNUSED = "unused units"  # a vector of a unit of which the firmware writes no register
 GIVEN = "given"  # the spec says itself what happens there
-ORDINARY = (CALLS, STORES, VECTORS, CORES, MOVES, UNSET, FUSES)
+ORDINARY = (CALLS, STORES, VECTORS, CORES, MOVES, UNSET, FUSES, BY_RUNS)
 WORDS = {CALLS: "call{s}", STORES: "store{s}", VECTORS: "vector{s}", CORES: "store{s} near the core", MOVES: "write{s} of {moving}",
          UNSET: "use{s} of the stack before SPL is written", FUSES: "fuse{s}", SAFETY: "of memory safety",
-         WHOLE: "call{s} with a complete list", GIVEN: "given line{s}",
-         PLACE: "limited call{s}"}
+         WHOLE: "call{s} with a complete list", UNUSED: "vector{s} of unused units", GIVEN: "given line{s}",
+         PLACE: "limited call{s}", BY_RUNS: "call{s} as deep as the runs"}
 
 
 def counts(outcome: Accepted) -> Dict[str, int]:

@@ -26,8 +26,6 @@ if TYPE_CHECKING:
     from stackcheck_tools.report.interrupts import Cost
     from stackcheck_tools.report.needs import Difference
 
-NOT_MOVED = "IVSEL is not checked without the line `masks`: the bound takes the interrupt vectors to be at 0"
-
 
 class Part:
     """A number of bytes and what it is of."""
@@ -64,7 +62,8 @@ class Accepted:
     certificate: str
     own: Lines  # the lines under which it was accepted
     lists: Lists  # of calls through pointers
-    recursions: List[recursion.Recursion] = field(default_factory=list)  # of the spec, with the depths that they came to
+    recursions: List[recursion.Recursion] = field(default_factory=list)  # of the spec or by runs, with the depths that they came to
+    cure: Optional[str] = None  # of a recursion that is as deep as the runs
     seen: Optional[int] = None
     told_of_masks: Optional[str] = None  # what the line `masks` costs, or why it was left out
     flagged: Optional[str] = None
@@ -107,7 +106,7 @@ def refuse(firmware: Firmware, spec: str, given: str, work: Mending) -> Refused:
     found.places += others(firmware, work, name, word)
     found.reasons = refusals.reasons(firmware, work, refusal) or list(refusals.of_cause(firmware, name))
     found.cause, found.cure = refusals.overriding(name, found.reasons) or (found.cause, found.cure)
-    found.cure_lines = lines_for(firmware, work, name) or list(cycles.lines(firmware, work))
+    found.cure_lines = lines_for(firmware, work, name) or list(cycles.lines(work))
     return found
 
 
@@ -158,14 +157,13 @@ def tell_premises(found: Accepted, program: Program, certificate: str) -> None:
         kind, *words = line.split()
         if kind not in UNASSUMED:
             found.rests_on.append(f"assumed: {line}, at {found.firmware.place_of_line(kind, int(words[0], 16))}")
-    found.rests_on += [it.told() for it in found.recursions]
+    found.rests_on += [line for it in found.recursions for line in it.told()]
+    found.rests_on += [f"cure: {found.cure}"] if found.cure else []
     if found.written:
         found.rests_on.append(f"lines of its own (--plain leaves them out, --write-spec FILE keeps them): {len(found.written)}")
         found.rests_on += [f"assumed: {it}" for it in found.written]
     if found.told_of_masks:
         found.rests_on.append(found.told_of_masks)
-    elif found.firmware.device.moving and found.firmware.device.is_first() and not found.own.has_masks():
-        found.rests_on.append(NOT_MOVED)
     found.rests_on += narrower(found.firmware, found.lists, found.own)
     if lines is None:
         found.rests_on.append("This stackbound does not list the places where a step may be flagged; the tool `flagged` finds some.")
@@ -173,7 +171,7 @@ def tell_premises(found: Accepted, program: Program, certificate: str) -> None:
 
 def accept(found: Accepted, program: Program, certificate: str, text: str) -> str:
     """Writes a certificate and has it judged: only what is accepted is told."""
-    with open(certificate, "w", encoding="ascii") as file:
+    with open(certificate, "w", encoding="ascii", newline="\n") as file:
         file.write(text)
     status, said = program.call("check", certificate)
     if status != OK or not said.startswith("accepted bound "):
@@ -195,7 +193,7 @@ def take(firmware: Firmware, spec: str, given: str, work: Mending, words: Namesp
     """Judges the certificate that was found, and gathers what is told of it."""
     made = work.certificate or ""
     found = Accepted(firmware, spec, given, list(written(firmware, work.lines)), made, work.lines, work.lists, work.recursions,
-                     work.deepest, work.told_of_masks)
+                     work.cure_of_recursion(), work.deepest, work.told_of_masks)
     if work.stop:
         found.flagged, found.stop = flagged(firmware, work, work.stop), work.stop
     program, certificate = work.program(), os.path.join(folder, "certificate")

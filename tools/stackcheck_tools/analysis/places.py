@@ -9,10 +9,11 @@ from __future__ import annotations
 import os
 from typing import TYPE_CHECKING, Dict, Iterator, List, Optional, Set, Tuple, Union
 
-from stackcheck_tools.analysis import core_registers
+from stackcheck_tools.analysis import core_registers, units
 from stackcheck_tools.analysis.causes import Cause
-from stackcheck_tools.analysis.kinds import CALLS, CORES, GIVEN, MOVES, ORDINARY, SAFETY, STORES, VECTORS, WHOLE, counted
+from stackcheck_tools.analysis.kinds import CALLS, CORES, GIVEN, MOVES, ORDINARY, SAFETY, STORES, UNUSED, VECTORS, WHOLE, counted
 from stackcheck_tools.analysis.node_values import Nodes, pointer
+from stackcheck_tools.analysis.warnings_of_words import MOVED
 from stackcheck_tools.analysis.widening import RECORDS
 from stackcheck_tools.dataflow.made_of import Search
 from stackcheck_tools.dataflow.numbers import MADE, Pointers
@@ -33,10 +34,10 @@ if TYPE_CHECKING:
 
 Key = Union[str, Tuple[str, int, str]]  # path, line and function; or what an entry is called
 MOST_WORDS = 4  # word addresses that one entry prints
+MOST_LETTERS = 100  # of a source line
 START = ("__do_clear_bss", "__do_copy_data")
 Z = 30  # the pair of a call
 WHY = "say here why it keeps the bound"
-MOVED = "may move the interrupt vectors (IVSEL); the bound takes them to be at 0"
 
 
 class Place:
@@ -88,13 +89,13 @@ def readable(path: str) -> str:
 
 
 def line_of(path: str, number: int) -> Optional[str]:
-    """The text of a source line without its indentation; None where the file isn't there or has no such line."""
+    """The text of a source line without its indentation, cut where it is long; None where the file isn't there or has no such line."""
     try:
         with open(path, encoding="utf8", errors="replace") as file:
             text = next((it for at, it in enumerate(file, start=1) if at == number), "").strip()
     except OSError:
         return None
-    return text or None
+    return text if 0 < len(text) <= MOST_LETTERS else f"{text[:MOST_LETTERS - 3]} .." if text else None
 
 
 def section_at(elf: Elf, address: int) -> str:
@@ -147,6 +148,10 @@ class Look:
         """The numbers that the pointer of a call is known to be and that its list doesn't have."""
         return sorted(self.nodes.known(word, Z) - self.lines.of(word, "jump"))
 
+    def limit(self, word: int) -> Optional[recursion.Recursion]:
+        """The line `recursion` that speaks of a call."""
+        return recursion.of_call(self.elf, self.lines, self.outcome.recursions, word)
+
     def is_by_name(self, word: int) -> bool:
         """Whether an instruction writes one address that is known."""
         return not opcodes.is_pointer_store(self.elf.word(word)) or self.nodes.fixed(word)
@@ -155,13 +160,16 @@ class Look:
         """What kind of place a word is, by what may happen there and by whose line speaks of it."""
         cause, lines = self.outcome.causes.get(word, Cause()), self.lines
         is_transfer = cause.transfer and not cause.addresses and not cause.live and not lines.has(word, "jump")
-        if is_transfer and recursion.of_call(self.elf, lines, self.outcome.recursions, word):
-            return recursion.PLACE
+        limit = self.limit(word)
+        if is_transfer and limit:
+            return recursion.BY_RUNS if limit.is_by_runs() else recursion.PLACE
         if cause.transfer or not cause and word not in self.cores:
             if lines.is_given(word, "jump") and not self.unlisted(word):
-                return GIVEN
+                return recursion.BY_RUNS if limit and limit.is_by_runs() else GIVEN
             is_whole = word in self.outcome.lists.whole and not self.unlisted(word)
-            return WHOLE if is_whole and not self.pointers.why_called(word, lines.of(word, "jump")) else CALLS
+            if not is_whole or self.pointers.why_called(word, lines.of(word, "jump")):
+                return CALLS
+            return recursion.BY_RUNS if limit and limit.is_by_runs() else WHOLE
         if cause.moves and self.is_by_name(word):
             return MOVES
         if word in self.cores:
@@ -191,6 +199,8 @@ class Look:
             for why in dict.fromkeys(self.cores[word].values()):
                 names = " ".join(it for it, its in self.cores[word].items() if its == why)
                 yield f"may write {names}: its pointer {self.of_number(word, why)}"
+        if kind == recursion.BY_RUNS and (limit := self.limit(word)):
+            yield limit.by_runs()
         if kind in (CALLS, WHOLE):
             text = self.outcome.firmware.device.word
             yield from (f"its pointer is {text(it)} here, which its list does not have" for it in self.unlisted(word))
@@ -211,21 +221,24 @@ def put(look: Look, entry: Place, word: int) -> None:
     entry.words.append(word)
     entry.kinds[word] = kind
     entry.may_enable = entry.may_enable or kind == SAFETY and bool(outcome.own.sites("never")) and may_enable(look.nodes, word, cause)
-    entry.cause.join(cause)
+    if kind != recursion.BY_RUNS:
+        entry.cause.join(cause)
     entry.warned += [it for it in look.texts(word, kind) if it not in entry.warned]
     if word in outcome.closers:
         entry.closers.append(outcome.closers[word])
 
 
-def entry_of_vector(outcome: Told, word: int) -> Place:
+def entry_of_vector(outcome: Told, nodes: Nodes, word: int) -> Place:
     """The entry of a vector that a `never` line names."""
     number = outcome.firmware.device.vector_of(word)
     vector = outcome.firmware.handler(number)
     is_given, device = outcome.own.is_given(word, "never"), outcome.firmware.device
-    why = "no header names its enable bit" if device.is_open(number) else "may be enabled"
+    is_unused = device.is_open(number) and not units.uses_nameless(outcome.firmware.elf, nodes)
+    why = "may be enabled" if not device.is_open(number) else \
+        "its unit is not used: no register is written that the header does not name" if is_unused else "no header names its enable bit"
     told = "a `never` line says that it is not entered" if is_given else f"it has no handler, and {why}"
     entry = Place(device, vector, f"{vector}: {told}")
-    entry.kinds[word] = GIVEN if is_given else VECTORS
+    entry.kinds[word] = GIVEN if is_given else UNUSED if is_unused else VECTORS
     return entry
 
 
@@ -246,7 +259,7 @@ def entries(outcome: Told) -> List[Place]:
     for line in outcome.premises or ():
         kind, at = line.split()[:2]
         if kind == "never":
-            found[line] = entry_of_vector(outcome, int(at, 16))
+            found[line] = entry_of_vector(outcome, look.nodes, int(at, 16))
         elif kind == "at":
             put(look, entry_of(outcome, int(at, 16), found), int(at, 16))
         else:
@@ -263,7 +276,10 @@ def entries(outcome: Told) -> List[Place]:
         entry.kinds[warned.word] = warned.kind
         entry.warned.append(warned.text)
     for entry in found.values():
-        if entry.is_ordinary():
+        if by_runs := [word for word, kind in entry.kinds.items() if kind == recursion.BY_RUNS]:
+            limit = look.limit(int(by_runs[0]))
+            entry.keep = limit.line() if limit else None
+        elif entry.is_ordinary():
             entry.keep = keep_line(outcome, entry)
     return [*found.values(), *entry_of_fuses(outcome)]
 
@@ -305,7 +321,7 @@ def judge(outcome: Accepted, keeps: List[Keep]) -> List[Keep]:
     """Notes at each entry the line that judges it, and returns the lines that judge none."""
     idle = []
     for keep in keeps:
-        judged = [it for it in outcome.entries if is_of(outcome.firmware.elf, keep, it)]
+        judged = [it for it in outcome.entries if recursion.BY_RUNS not in it.kinds.values() and is_of(outcome.firmware.elf, keep, it)]
         for it in judged:
             it.judged = it.judged or keep
         if not judged:

@@ -7,13 +7,16 @@ from dataclasses import dataclass, field
 from typing import TYPE_CHECKING, Dict, FrozenSet, List, Optional, Set
 
 from stackcheck_tools.dataflow import calls
-from stackcheck_tools.firmware import candidates, switches
+from stackcheck_tools.firmware import candidates, debug_lines, switches
+from stackcheck_tools.firmware.elf import Elf
 from stackcheck_tools.spec.lines import Lines
 from stackcheck_tools.spec.spec import MOST_ITEMS
 
 if TYPE_CHECKING:
     from stackcheck_tools.analysis.mending import Mending
 
+# avr-libc's functions that call what they are given: a stream's functions, a comparison
+GIVEN_ONE = ("fputc", "fgetc", "fputs", "fputs_P", "puts", "puts_P", "fwrite", "fread", "fgets", "gets", "ungetc", "bsearch", "qsort")
 MOST_TRIED = 8  # lists that are tried one by one where they aren't accepted together
 ROUNDS = 4  # in which functions that are reached only then bring further lists
 RECORDED, SEARCHED = "by the linker's records", "as far as a search of this file finds"
@@ -28,6 +31,9 @@ NONE = "with every function whose address may be taken there is no bound"
 UNNAMED = "the file has no names, so no search finds every function whose address is taken"
 UNTRIED = "a bound with every function whose address may be taken was not tried"
 UNKNOWN_TABLE = "one of the tables of `switch` through which it jumps was not found"
+REFUTED = "a simulated run went to {}, which no search and no record names as a function whose address is taken: the list may lack others"
+EMPTY = ("the file takes the address of no function, and this call is none of avr-libc's own: its pointer is made in a way that no list "
+         "knows")
 TOO_MANY = "{} functions have their address taken, and a list has at most {}"
 RECORDS = "link with -Wl,--emit-relocs: then the linker's records name every function whose address is taken"
 
@@ -56,6 +62,13 @@ def nodes_of(certificate: Optional[str]) -> FrozenSet[int]:
     return frozenset(int(line.split(" ", 3)[2], 16) for line in (certificate or "").splitlines() if line.startswith("node "))
 
 
+def is_of_streams(elf: Elf, site: int) -> bool:
+    """Whether a call is one of avr-libc's functions, whose pointer is one that the program gives it: with no function to give, nothing is
+    called."""
+    symbol = elf.symbol_at(2 * site)
+    return symbol is not None and symbol.name in GIVEN_ONE and not debug_lines.of(elf).source(2 * site)
+
+
 class Widening:
     """The lists of a firmware that has a bound."""
 
@@ -79,8 +92,14 @@ class Widening:
             lists.why[site] = UNKNOWN_TABLE if site in switches.of_helper_itself(self.elf) else UNNAMED
             return
         self.found[site] = found
-        now = self.work.lines.of(site, "jump")
-        words = set(found.words) | {word for at, word in self.work.pinned if at == site} or set(now)
+        now, seen = self.work.lines.of(site, "jump"), {word for at, word in self.work.pinned if at == site}
+        if refuting := seen - set(found.words):
+            lists.why[site] = REFUTED.format(" ".join(map(self.work.firmware.function, sorted(refuting))))
+            return
+        if not found.words and not is_of_streams(self.elf, site):
+            lists.why[site] = EMPTY
+            return
+        words = set(found.words) or set(now)
         if words == now:
             self.take(site)
         elif len(words) > MOST_ITEMS:

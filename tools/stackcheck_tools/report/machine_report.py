@@ -54,7 +54,7 @@ def accepted(outcome: Accepted) -> Dict[str, object]:
         "places": None if outcome.premises is None else [place(it) for it in outcome.entries],
         "kinds": None if outcome.premises is None else kinds.counts(outcome)}
     if outcome.recursions:
-        found["recursions"] = [{"function": it.name, "activations": it.count, "depth": max(it.depths.values()),
+        found["recursions"] = [{"function": it.name, "activations": it.count, "depth": max(it.depths.values()), "by_runs": it.is_by_runs(),
                                 "words": [*map(outcome.firmware.device.word, it.entries)]}
                                for it in outcome.recursions]
     if outcome.costs is not None:

@@ -102,7 +102,7 @@ def write(outcome: Outcome, words: Namespace) -> Optional[str]:
         if path == "-":
             printed = text or ""
         elif text is not None:
-            with open(path, "w", encoding="utf8") as file:
+            with open(path, "w", encoding="utf8", newline="\n") as file:
                 file.write(text)
     return printed
 

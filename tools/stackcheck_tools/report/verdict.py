@@ -62,7 +62,8 @@ def holds(outcome: Accepted) -> str:
     if outcome.premises is None:
         return "for every run up to its first flagged step; this stackbound does not list where that may be"
     conditions = [*recursion.conditions(outcome.recursions),
-                  *(condition(outcome, kind, count) for kind in ORDINARY if (count := count_of(outcome, (kind,))))]
+                  *(condition(outcome, kind, count) for kind in ORDINARY if kind in CONDITIONS and (count := count_of(outcome, (kind,)))),
+                  *recursion.conditions_by_runs(outcome.recursions)]
     language = of_language(outcome)
     given = " that keeps to the lines of the spec" if count_of(outcome, (GIVEN,)) else ""
     if conditions:
@@ -95,4 +96,5 @@ def status(outcome: Outcome, words: Namespace) -> int:
         return FLAGGED
     if not outcome.keeps or outcome.grows_too_much:
         return PASSED
-    return UNJUDGED if left(outcome, words) or outcome.premises is None and not words.accept_places else KEPT
+    is_guess = outcome.premises is None or any(it.is_by_runs() for it in outcome.recursions)
+    return UNJUDGED if left(outcome, words) or is_guess and not words.accept_places else KEPT

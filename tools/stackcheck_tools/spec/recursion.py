@@ -16,9 +16,10 @@ if TYPE_CHECKING:
     from stackcheck_tools.firmware.firmware import Firmware
     from stackcheck_tools.spec.lines import Lines
 
-RETURN = 2  # bytes of a return address
 KIND = "recur"
-PLACE = "recursion"  # a kind of places: calls of which such a line speaks
+KIND_OF_SPEC = "recursion"
+PLACE = "recursion"  # a kind of places: calls of which such a line of the spec speaks
+BY_RUNS = "recursion by runs"  # those of which a line speaks that simulated runs made
 MOST_STATES = 2_000_000  # tuples of counts with an instance each
 LEAST_GREATEST = 2048  # the greatest K on a device with less SRAM
 
@@ -26,9 +27,10 @@ Counts = Tuple[int, ...]
 
 
 class Recursion:
-    """A line of a spec: its number and text, the words of the function, the most activations at a time, why, and the depth of each word."""
+    """A line of a spec: its number and text, the words of the function, the most activations at a time, why, and the depth of each word. One
+    without a number in the spec has as many activations as simulated runs reached."""
 
-    def __init__(self, number: int, name: str, entries: List[int], count: int, why: str) -> None:
+    def __init__(self, number: Optional[int], name: str, entries: List[int], count: int, why: str) -> None:
         self.number, self.name, self.entries, self.count = number, name, entries, count
         self.why = why or f"`recursion {name} {count}`"
         self.depths: Dict[int, int] = {}
@@ -37,12 +39,27 @@ class Recursion:
     def end(self) -> str:
         return ""
 
-    def told(self) -> str:
-        """What the line came to: the deepest call, and what each further activation takes."""
+    def is_by_runs(self) -> bool:
+        return self.number is None
+
+    def line(self) -> str:
+        """The line as it is to be copied: with the number only if runs have shown one."""
+        seen = f"simulated runs reached {self.count}" if self.count > 1 else "no simulated run called it again"
+        count = str(self.count) if self.count > 1 else "N"
+        return f"{KIND_OF_SPEC} {self.name} {count}  # {seen}: write the greatest number possible, and why"
+
+    def by_runs(self) -> str:
+        """What is told of a call of such a function."""
+        return f"calls {self.name}, of which the simulated runs had at most {self.count} on the stack"
+
+    def told(self) -> Iterator[str]:
+        """Yields what the line came to: the deepest call, and what each further activation takes; and the line to copy, if the spec has none."""
         entry = max(self.entries, key=lambda it: self.depths.get(it, 0))
         step = self.steps.get(entry)
         more = f" ({step} for each further activation)" if step else ""
-        return f"recursion {self.name} {self.count}: calls up to {self.depths.get(entry, 0)} bytes deep{more}"
+        seen = ", as deep as the simulated runs" if self.is_by_runs() else ""
+        yield f"{KIND_OF_SPEC} {self.name} {self.count}{seen}: calls up to {self.depths.get(entry, 0)} bytes deep{more}"
+        yield from [f"spec: {self.line()}"] * self.is_by_runs()
 
 
 def read(elf: Elf, number: int, words: List[str], why: str) -> Recursion:
@@ -149,8 +166,8 @@ class Nest:
                     continue
                 found[edge.cut][counts[edge.cut]] = max(found[edge.cut][counts[edge.cut]], depth)
                 to = counts[:edge.cut] + (counts[edge.cut] + 1,) + counts[edge.cut + 1:]
-            if base.get((to, edge.to), -1) < depth + RETURN:
-                base[to, edge.to] = depth + RETURN
+            if base.get((to, edge.to), -1) < depth + self.device.back:
+                base[to, edge.to] = depth + self.device.back
 
 
 def numbered(recursions: List[Recursion]) -> List[Tuple[int, Recursion]]:
@@ -189,7 +206,13 @@ def line_at(recursions: List[Recursion], word: Optional[int]) -> Optional[Recurs
 
 def conditions(recursions: List[Recursion]) -> Iterator[str]:
     """Yields what the first line says of them."""
-    yield from (f"{it.name} nests at most {it.count} deep" for it in recursions)
+    yield from (f"{it.name} nests at most {it.count} deep" for it in recursions if not it.is_by_runs())
+
+
+def conditions_by_runs(recursions: List[Recursion]) -> Iterator[str]:
+    """Yields the same of those without a line in the spec."""
+    if by_runs := [f"{it.name} nests at most {it.count} deep" for it in recursions if it.is_by_runs()]:
+        yield " and ".join(by_runs) + ", as deep as the runs of this call"
 
 
 def of_call(elf: Elf, lines: Lines, recursions: List[Recursion], word: int) -> Optional[Recursion]:

@@ -14,12 +14,12 @@ invariant_of-self-in-Closed c =
     let gs = c.self.inside.allowances.map.entries in
     let held : c.if-covered.covered ≡ true → (c.self.inside.covered ≡ true) × AllowsSpot gs s =
     elim c.if-covered.branch [ then-covered w ↦ λ t. (w.if-covered.true, w.allow_spot-covered.ensures (sym w.covered-is ∙ t)) | else-covered w ↦ λ t. absurd (let e = w.covered-is in cc) ] in
-    kept_spot c.self.inside.covered gs c.self.inside.others.keys c.self.inside.spots.keys c.self.inside.entrances.keys c.self.invariant c.if-covered.covered s
+    kept_spot c.self.inside.covered c.self.inside.allowances.back gs c.self.inside.others.keys c.self.inside.spots.keys c.self.inside.entrances.keys c.self.invariant c.if-covered.covered s
     c.keep_inst.new.others.keys c.insert.new.self.keys c.keep_inst.ensures.apart (inserted same_spot spot_is c.self.inside.spots.keys c.insert.new.self.keys c.new-spot.result c.in_ok-insert-in-Closed.ensures.keys) held
 
 pub invariant_of-self-in-Open : goal.invariant_of-self-in-Open
 invariant_of-self-in-Open c =
-    kept_inst c.self.inside.covered c.self.inside.allowances.map.entries c.self.inside.others.keys c.keep_inst.new.others.keys c.self.inside.spots.keys
+    kept_inst c.self.inside.covered c.self.inside.allowances.back c.self.inside.allowances.map.entries c.self.inside.others.keys c.keep_inst.new.others.keys c.self.inside.spots.keys
     c.self.inside.entrances.keys c.self.invariant c.keep_inst.ensures.apart
 
 pub returns-in_ok-insert-in-Closed-clause-node : goal.returns-in_ok-insert-in-Closed-clause-node
