@@ -159,7 +159,7 @@ def numbered(recursions: List[Recursion]) -> List[Tuple[int, Recursion]]:
     for it in recursions:
         for entry in it.entries:
             if entry in found:
-                raise SpecFault(f"line {it.number}: {it.name} has a line `recursion` already")
+                raise SpecFault(f"{it.name} has a line `recursion` already", it.number)
             found[entry] = it
     return sorted(found.items(), key=lambda it: it[0])
 
@@ -172,8 +172,8 @@ def settle(firmware: Firmware, certificate: str, recursions: List[Recursion]) ->
     for _, it in words:
         states *= it.count + 1
     if states > MOST_STATES:
-        raise SpecFault(f"line {words[-1][1].number}: the numbers of these lines are too great together: fewer functions of a cycle, or "
-                        f"smaller ones")
+        raise SpecFault("the numbers of these lines are too great together: fewer functions of a cycle, or smaller ones",
+                        words[-1][1].number, "SB008")
     found: Dict[int, int] = {}
     for (entry, it), depths in zip(words, nest.depths(tuple(it.count for _, it in words))):
         known = [depth for depth in depths if depth >= 0]

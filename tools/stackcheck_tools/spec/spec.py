@@ -59,7 +59,7 @@ def register(device: Device, word: str) -> int:
     except ValueError:
         address = -1
     if address not in device.registers.values():
-        raise SpecFault(f"{word} is no protected register")
+        raise SpecFault(f"{word} is not a protected register")
     return address
 
 
@@ -85,7 +85,7 @@ def vectors(elf: Elf, device: Optional[Device], name: str) -> Set[int]:
     else:
         vector = device.vector_named(name)
         if vector is None:
-            raise SpecFault(f"{name} is no vector")
+            raise SpecFault(f"{name} is not a vector")
         found = {vector}
     return {device.vector_word(it) for it in found}
 
@@ -121,7 +121,7 @@ def read_line(elf: Elf, device: Optional[Device], words: List[str]) -> Tuple[str
     """The kind, the sites and the items of one line."""
     kind, rest = words[0], words[1:]
     if kind not in FORMS:
-        raise SpecFault(f"{kind} is none of {', '.join(NAMED)}, recursion and keeps")
+        raise SpecFault(f"{kind} must be one of {', '.join(NAMED)}, recursion, keeps")
     if not is_of_form(kind, rest):
         raise SpecFault(f"expected `{kind} {FORMS[kind]}".rstrip() + "`")
     if kind in (PAIRS, MASKS):
@@ -180,7 +180,7 @@ class Spec:
                     self.lines.append(Line(number, " ".join(words), *read_line(elf, device, words)))
             except SpecFault as fault:
                 if not (is_optional and isinstance(fault, Missing)):
-                    raise SpecFault(f"line {number}: {fault}") from None
+                    raise SpecFault(str(fault), number) from None
             above = comment if not words else ""
         recursion.numbered(self.recursions)
 
@@ -194,10 +194,10 @@ class Spec:
                 held = lines.setdefault((place, KINDS.index(line.kind)), set())
                 held |= line.items
                 if len(held) > MOST_ITEMS:
-                    raise SpecFault(f"line {number}: a line of an assumption file has at most {MOST_ITEMS} words, and these are "
-                                    f"{len(held)}")
+                    raise SpecFault(f"a line of an assumption file has at most {MOST_ITEMS} words, and these are {len(held)}", number,
+                                    "SB008")
         if len(lines) > MOST_LINES:
-            raise SpecFault(f"line {number}: an assumption file has at most {MOST_LINES} lines, and these are {len(lines)}")
+            raise SpecFault(f"an assumption file has at most {MOST_LINES} lines, and these are {len(lines)}", number, "SB008")
         return "".join(assumption_line(self.device, KINDS[kind], place, items) + "\n" for (place, kind), items in sorted(lines.items()))
 
 
@@ -205,5 +205,5 @@ def assumptions(elf: Elf, text: str, device: Optional[Device] = None) -> str:
     """The text of the assumption file that a spec makes of this firmware; of lines `recursion` alone the analysis makes lines."""
     spec = Spec(elf, text, device)
     for it in spec.recursions:
-        raise SpecFault(f"line {it.number}: a line `recursion` needs an analysis for its depth, which stackcheck makes")
+        raise SpecFault("a line `recursion` needs an analysis for its depth, which stackcheck makes", it.number)
     return spec.text()
