@@ -4,7 +4,16 @@ import os
 import sys
 
 TOP = os.path.dirname(os.path.dirname(os.path.dirname(os.path.realpath(__file__))))
-sys.path.insert(0, os.path.join(TOP, "tools"))
+
+
+def use_tools() -> None:
+    """Puts the tools on the path."""
+    tools = os.path.join(TOP, "tools")
+    if tools not in sys.path:
+        sys.path.insert(0, tools)
+
+
+use_tools()
 
 
 def path(name: str) -> str:

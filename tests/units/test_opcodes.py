@@ -4,8 +4,10 @@ import unittest
 from types import SimpleNamespace
 from typing import Dict
 
-from stored import TOP  # noqa: F401  (the tools on the path)
-from stackcheck_tools.firmware import opcodes
+import stored
+
+stored.use_tools()
+from stackcheck_tools.firmware import opcodes  # noqa: E402
 
 
 class Flash:

@@ -2,6 +2,9 @@
 
 import sys
 
-if sys.version_info < (3, 9):
-    sys.stderr.write("stackbound: the tools need Python 3.9 or later, and this is Python " + sys.version.split()[0] + "\n")
-    sys.exit(3)
+
+def check() -> None:
+    """Ends the tool if this Python is too old for it."""
+    if sys.version_info < (3, 9):
+        sys.stderr.write("stackbound: the tools need Python 3.9 or later, and this is Python " + sys.version.split()[0] + "\n")
+        sys.exit(3)

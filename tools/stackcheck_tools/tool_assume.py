@@ -7,7 +7,8 @@ import sys
 from stackcheck_tools.firmware.devices import Misuse, device_of, named
 from stackcheck_tools.firmware.elf import Elf, NoElf
 from stackcheck_tools.habits import Words, in_words
-from stackcheck_tools.spec.spec import SpecFault, assumptions
+from stackcheck_tools.spec.spec import assumptions
+from stackcheck_tools.firmware.names import SpecFault
 
 DOCUMENT = ""  # the text of the tool, which its script gives
 

@@ -12,7 +12,8 @@ from stackcheck_tools.analysis.trials import Stop, Trials, handled
 from stackcheck_tools.firmware.firmware import Firmware
 from stackcheck_tools.habits import FAULTS, Words, in_words
 from stackcheck_tools.spec.lines import Lines
-from stackcheck_tools.spec.spec import SpecFault, assumptions
+from stackcheck_tools.spec.spec import assumptions
+from stackcheck_tools.firmware.names import SpecFault
 
 DOCUMENT = ""  # the text of the tool, which its script gives
 

@@ -22,7 +22,8 @@ from stackcheck_tools.spec import recursion, scratch
 from stackcheck_tools.spec.lines import Lines
 from stackcheck_tools.spec.recursion import Recursion
 from stackcheck_tools.spec.sites import frames_of
-from stackcheck_tools.spec.spec import MASKS, NOWHERE, SpecFault, is_unhandled
+from stackcheck_tools.spec.spec import MASKS, NOWHERE, is_unhandled
+from stackcheck_tools.firmware.names import SpecFault
 
 ROUNDS = 64
 MOST_TRIED = 8  # lines that are tried one by one where they aren't accepted together

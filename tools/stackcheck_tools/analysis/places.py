@@ -15,6 +15,7 @@ from stackcheck_tools.analysis.kinds import CALLS, CORES, GIVEN, MOVES, ORDINARY
 from stackcheck_tools.analysis.node_values import Nodes
 from stackcheck_tools.analysis.widening import RECORDS
 from stackcheck_tools.firmware import debug_lines, fuses, opcodes, start_up
+from stackcheck_tools.firmware.devices import Device
 from stackcheck_tools.firmware.elf import CODE_END, Elf
 from stackcheck_tools.firmware.names import SpecFault, shown
 from stackcheck_tools.firmware.paths import line_of, readable

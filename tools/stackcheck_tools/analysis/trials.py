@@ -10,7 +10,7 @@ from stackcheck_tools import progress
 from stackcheck_tools.analysis import core_registers
 from stackcheck_tools.analysis.program import OK, SCHEDULE, USAGE, Program
 from stackcheck_tools.firmware import opcodes
-from stackcheck_tools.firmware.candidates import code, start
+from stackcheck_tools.firmware.candidates import start
 from stackcheck_tools.firmware.devices import Device
 from stackcheck_tools.firmware.elf import Elf
 

@@ -22,7 +22,7 @@ class Reader:
         self.data, self.at = data, at
 
     def take(self, form: str) -> int:
-        value = struct.unpack_from("<" + form, self.data, self.at)[0]
+        value = int(struct.unpack_from("<" + form, self.data, self.at)[0])
         self.at += struct.calcsize(form)
         return value
 

@@ -5,7 +5,7 @@ from __future__ import annotations
 import difflib
 import functools
 import re
-from typing import TYPE_CHECKING, Dict, Iterator, List, NamedTuple, Optional, Tuple
+from typing import TYPE_CHECKING, Iterator, List, NamedTuple, Optional, Tuple
 
 from stackcheck_tools.finding import Fault
 from stackcheck_tools.firmware.device_table import CLASSES, LEFT_OUT, VECTORS

@@ -195,4 +195,4 @@ class Elf:
         return None
 
     def word(self, word: int) -> int:
-        return struct.unpack_from("<H", self.flash, 2 * (word % self.around))[0]
+        return int(struct.unpack_from("<H", self.flash, 2 * (word % self.around))[0])

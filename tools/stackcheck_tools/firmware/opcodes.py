@@ -147,12 +147,16 @@ def following(elf: Elf, word: int) -> List[int]:
     return [after, after + length(elf.word(after))] if is_skip(opcode) else [after]
 
 
+def immediate(opcode: int) -> int:
+    """The byte that an instruction with an eight-bit constant has."""
+    return opcode & 15 | opcode >> 4 & 0xF0
+
+
 def pair_loaded(elf: Elf, word: int) -> Optional[int]:
     """The number that `subi r30`, `sbci r31` at a word add to the pair r31:r30; None where these aren't there."""
     low, high = elf.word(word), elf.word(word + 1)
     if low & 0xF0F0 == 0x50E0 and high & 0xF0F0 == 0x40F0:
-        byte = lambda opcode: opcode & 15 | (opcode >> 4) & 0xF0  # noqa: E731
-        return -(byte(low) | byte(high) << 8) % 0x10000
+        return -(immediate(low) | immediate(high) << 8) % 0x10000
     return None
 
 
@@ -187,12 +191,11 @@ def table_added(elf: Elf, word: int) -> Optional[int]:
     """The number that a pair of `subi`, `sbci` (or `ldi`, `ldi`) at a word adds to a pair of registers, or loads; None where these aren't
     there."""
     low, high = elf.word(word), elf.word(word + 1)
-    byte = lambda opcode: opcode & 15 | opcode >> 4 & 0xF0  # noqa: E731
     if (low >> 4 & 15) + 1 != high >> 4 & 15 or low >> 4 & 1:
         return None
     if low & 0xF000 == 0x5000 and high & 0xF000 == 0x4000:
-        return -(byte(low) | byte(high) << 8) % 0x10000
-    return byte(low) | byte(high) << 8 if is_ldi(low) and is_ldi(high) else None
+        return -(immediate(low) | immediate(high) << 8) % 0x10000
+    return immediate(low) | immediate(high) << 8 if is_ldi(low) and is_ldi(high) else None
 
 
 def displacement(opcode: int, register: int) -> Optional[int]:

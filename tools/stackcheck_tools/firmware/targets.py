@@ -54,7 +54,7 @@ def virtual(elf: Elf, name: str, number: str) -> int:
     if not number.isdecimal() or int(number) < 1:
         raise SpecFault(f"{number} is no number of a virtual function: they count from 1")
     data = elf.at_data_address(at + 4 + 2 * (int(number) - 1))
-    word = struct.unpack("<H", data)[0] if data else 0
+    word = int(struct.unpack("<H", data)[0]) if data else 0
     if not word or not any(it.address == 2 * word for it in elf.code):
         raise SpecFault(f"class {name} has no virtual function number {number}")
     return word

@@ -28,7 +28,9 @@ START_UP = "@startup"
 
 def assumption_line(device: Device, kind: str, place: int, items: Set[int]) -> str:
     """The line of an assumption file of this kind, at this word, with these items: a depth, data addresses or words."""
-    item = str if kind == recursion.KIND else "{:04X}".format if kind == "store" else device.word
+    def item(number: int) -> str:
+        return str(number) if kind == recursion.KIND else f"{number:04X}" if kind == "store" else device.word(number)
+
     return " ".join([kind, *([] if place == NOWHERE else [device.word(place)]), *map(item, sorted(items))])
 
 
