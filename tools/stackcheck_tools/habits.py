@@ -3,6 +3,7 @@
 from __future__ import annotations
 
 import argparse
+import io
 import os
 import sys
 import traceback
@@ -120,7 +121,8 @@ def run(main: Callable[[], Optional[int]]) -> NoReturn:
     """Calls a tool's `main` and ends with its status; a closed pipe, an interrupt from the keyboard and a fault end without a trace of the
     calls."""
     for stream in (sys.stdout, sys.stderr):
-        stream.reconfigure(errors="backslashreplace")  # type: ignore[union-attr]  # an encoding that lacks a letter ends nothing
+        if isinstance(stream, io.TextIOWrapper):
+            stream.reconfigure(errors="backslashreplace")  # an encoding that lacks a letter ends nothing
     try:
         status: Union[int, str, None]
         try:

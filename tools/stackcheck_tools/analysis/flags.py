@@ -74,11 +74,12 @@ def finding(firmware: Firmware, work: Mending, stop: Stop) -> Finding:
     """The finding of a flagged step."""
     rule = rule_of(work, stop)
     admitting = line_that_admits(firmware, work, stop) if rule in ("SB202", "SB203", "SB204", "SB205") else None
+    help_ = BY_ID[rule].help
     related: Tuple[Related, ...] = ()
     if stop.kind == "transfer":
         related = (Related("target", "the step goes here", of_word(firmware, stop.other)),)
     return Finding(rule, ERROR, message(firmware, work, stop, rule), (of_word(firmware, stop.word),), related, (COVERS,),
-                   cure=BY_ID[rule].help, spec_lines=(admitting,) if admitting else ())
+                   cure=f"{help_[:1].lower()}{help_[1:].rstrip('.')}", spec_lines=(admitting,) if admitting else ())
 
 
 def reviewed(found: Finding, review: Review) -> Finding:

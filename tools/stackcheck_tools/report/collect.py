@@ -79,7 +79,7 @@ def result(outcome: Outcome, words: Namespace, command: Tuple[str, ...], folder:
     table = tuple(Need(it.name, it.own, it.calls, it.all, it.is_handler) for it in call_graph.needs(graph))
     since = needs.since(words.diff, table) if words.diff else None
     number, chain = bound(outcome), tuple(outcome.chain)
-    findings = (*flag(outcome), *limits.findings(number, words, since and since.bound, chain),
+    findings = (*flag(outcome), *limits.findings(number, words, since.bound if since else None, chain),
                 *place_findings.findings(outcome, to_review(outcome, words)), *remarks.findings(outcome, head.spec))
     return replace(
         head, findings=findings, certificate=outcome.certificate.split("\n", 1)[0], bound=number, chain=chain, needs=table,

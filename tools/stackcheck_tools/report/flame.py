@@ -134,8 +134,8 @@ def svg(root: Box) -> Iterator[str]:
     """The drawing of a painted tree."""
     most = max(root.reach(), 1)
     scale, height = (WIDTH - MARGIN) / most, TOP + root.rows() * ROW + 6
-    yield f'<svg viewBox="0 0 {WIDTH} {height}" xmlns="http://www.w3.org/2000/svg" role="img" '
-           'aria-label="Flame graph: the functions and interrupts to which the bytes of stack belong; the table of needs has the same numbers">'
+    yield (f'<svg viewBox="0 0 {WIDTH} {height}" xmlns="http://www.w3.org/2000/svg" role="img" aria-label="Flame graph: the functions and '
+           'interrupts to which the bytes of stack belong; the table of needs has the same numbers">')
     yield from axis(most, scale, height)
     for box, top in root.all():
         title = (f"{box.name}: begins at byte {box.begin} of the stack, has a frame of {bytes_of(box.end - box.begin)} of its own, and "

@@ -21,8 +21,10 @@ def finding(it: Finding, fingerprint: str) -> Dict[str, object]:
 
 
 def bound(it: Optional[Bound]) -> Optional[Dict[str, object]]:
-    return it and {"bytes": it.bytes, "holds": it.holds, "attained": it.attained, "seen": it.seen, "room": it.room, "margin": it.margin(),
-                   "sram": it.sram, "places": [asdict(one) for one in it.places]}
+    if it is None:
+        return None
+    return {"bytes": it.bytes, "holds": it.holds, "attained": it.attained, "seen": it.seen, "room": it.room, "margin": it.margin(),
+            "sram": it.sram, "places": [asdict(one) for one in it.places]}
 
 
 def value(it: Result) -> Dict[str, object]:

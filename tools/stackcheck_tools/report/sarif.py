@@ -36,6 +36,10 @@ def location(it: Location, firmware: str, message: Optional[str] = None) -> Dict
     return found
 
 
+def identified(number: int, it: Dict[str, object]) -> Dict[str, object]:
+    return {"id": number, **it}
+
+
 def flow(chain: Iterable[Link], firmware: str) -> List[Dict[str, object]]:
     """The deepest chain as steps."""
     return [{"threadFlows": [{"locations": [
@@ -62,7 +66,7 @@ def entry(it: Finding, fingerprint: str, whole: Result, index: Dict[str, int]) -
     related = [location(at, whole.firmware, "also here") for at in it.locations[1:MOST_OTHERS + 1]]
     related += [location(one.location, whole.firmware, one.message) for one in it.related if one.role != "chain"]
     if related:
-        found["relatedLocations"] = [{"id": number, **one} for number, one in enumerate(related)]
+        found["relatedLocations"] = [identified(number, one) for number, one in enumerate(related)]
     if whole.chain and any(one.role == "chain" for one in it.related):
         found["codeFlows"] = flow(whole.chain, whole.firmware)
     if it.cause:

@@ -70,9 +70,10 @@ def ordered(findings: Iterable[Finding]) -> List[Finding]:
     return sorted(findings, key=lambda it: GROUPS.index(it.rule[2]))
 
 
-def bounded(bound: Bound, paint: str) -> Iterator[str]:
+def bounded(bound: Bound, is_flagged: bool, paint: str) -> Iterator[str]:
     """Yields the bound and its room."""
-    yield f"{colour.painted(f'bound {bound.bytes}', paint)}, {bound.holds}"
+    covers = ": covers only what comes before the error above" if is_flagged else ""
+    yield f"{colour.painted(f'bound {bound.bytes}', paint)}, {bound.holds}{covers}"
     seen = "" if bound.seen is None else f" seen {bound.seen},"
     yield f"{'attained' if bound.attained else 'open'},{seen} room {bound.room}, margin {bound.margin()}"
 
@@ -197,7 +198,8 @@ def lines(result: Result, is_coloured: bool) -> Iterator[str]:
     if result.bound is None:
         yield from premises(result)
         return
-    yield from bounded(result.bound, colour.GREEN if is_coloured and result.status() == 0 else "")
+    is_flagged = any(it.rule[2] == "2" for it in result.of_level(ERROR))
+    yield from bounded(result.bound, is_flagged, colour.GREEN if is_coloured and result.status() == 0 else "")
     yield from findings(result, WARNING, is_coloured)
     yield device(result)
     yield from premises(result)
