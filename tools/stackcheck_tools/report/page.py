@@ -27,14 +27,16 @@ def with_code(text: str) -> str:
     return "".join(f"<code>{escape(part)}</code>" if n % 2 else escape(part) for n, part in enumerate(text.split("`")))
 
 
-def bar(parts: List[Tuple[int, str, str]]) -> Iterator[str]:
-    """A bar to scale with its key: parts are (bytes, colour, text)."""
+def bar(parts: List[Tuple[int, str, str]], ends: Tuple[str, ...] = ()) -> Iterator[str]:
+    """A bar to scale with its key, and what stands at its ends: parts are (bytes, colour, text)."""
     whole = sum(count for count, _, _ in parts) or 1
     told = ", ".join(f"{text}: {bytes_of(count)}" for count, _, text in parts if count)
     yield f'<div class="bar" role="img" aria-label="{escape(told)}">'
     yield from (f'<div style="width:{100 * count / whole:.3f}%;background:{colour}" title="{escape(text)}: {bytes_of(count)}"></div>'
                 for count, colour, text in parts if count)
     yield "</div>"
+    if ends:
+        yield f'<div class="ends">{"".join(f"<span>{escape(it)}</span>" for it in ends)}</div>'
     yield '<ul class="keys">'
     yield from (f'<li><i style="background:{colour}"></i>{escape(text)}: {bytes_of(count)}</li>' for count, colour, text in parts)
     yield "</ul>"
@@ -49,8 +51,7 @@ def memory(result: Result, bound: Bound) -> Iterator[str]:
         parts = [(static + free, STATIC, "static data alone"), (-free, BOTH, "static data and stack"),
                  (bound.room, STACK, "stack alone, worst case")]
     yield f"<h2>SRAM<small>{bytes_of(bound.sram)}, {first:04X} to {last:04X}</small></h2>"
-    yield from bar(parts)
-    yield f'<div class="ends"><span>{first:04X}</span><span>{last:04X}</span></div>'
+    yield from bar(parts, (f"{first:04X}", f"{last:04X}"))
 
 
 def chain_colours(result: Result, colours: Dict[str, str]) -> Iterator[str]:
@@ -111,7 +112,7 @@ def place_row(it: Finding) -> str:
     told = [f"reviewed: {it.reviewed.why}"] if it.reviewed else [it.message, *it.details, *texts.cured(it)]
     why = "".join(f'<div class="soft">{with_code(line)}</div>' for line in told)
     return (f'<tr class="place"><td class="state"><i class="mark" style="background:{colour}"></i>{words}</td><td class="name">{where}</td>'
-            f'<td>{code}{why}</td><td class="soft">{escape(texts.words(it.locations)) if at.word else ""}</td></tr>')
+            f'<td>{code}{why}</td><td class="soft">{escape(texts.words(it.locations) if it.subject else at.word or "")}</td></tr>')
 
 
 def places(result: Result) -> Iterator[str]:
@@ -157,7 +158,7 @@ def room(bound: Bound) -> str:
 def told_of(it: Finding, firmware: str) -> str:
     """A finding as a paragraph with what stands behind it."""
     more = "".join(f'<div class="soft">{with_code(line)}</div>' for line in texts.behind(it))
-    return f"<p><b>{escape(it.rule)}</b> {escape(texts.where(it, firmware))}: {with_code(it.message)}</p>{more}"
+    return f"<p><code>{escape(it.rule)}</code> {escape(texts.where(it, firmware))}: {with_code(it.message)}</p>{more}"
 
 
 def verdict(result: Result, bound: Bound) -> Iterator[str]:
