@@ -130,7 +130,7 @@ def unknown(words: Sequence[str]) -> Optional[str]:
     known = [it.name for it in OPTIONS]
     for word in words:
         name = word.partition("=")[0]
-        if name.startswith("-") and name not in ("-", "--", "-h") and name not in known:
+        if name.startswith("-") and not name[1:].isdecimal() and name not in ("-", "--", "-h", *known):
             near = difflib.get_close_matches(name, known, 1)
             return f"unknown option {name}" + (f": did you mean {near[0]}?" if near else "")
     return None

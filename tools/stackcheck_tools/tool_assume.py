@@ -35,6 +35,8 @@ A spec has these lines, and comments after `#`. N counts sites of a function fro
   scratch FUNCTION N ..         the bytes that these pushes of FUNCTION push are scratch space
   recursion FUNCTION N          at most N activations of FUNCTION are active at once: for `stackcheck` alone
   keeps FUNCTION:LINE # WHY     a place was reviewed: for `stackcheck`, and not for this file
+  limit N, margin N             as --limit N and --margin N of `stackcheck`, which go before them
+  device NAME                   as --device NAME of `stackcheck`
 
 A line that begins with `?` is dropped if its function is not in this build. FUNCTION * means all sites of the function, its clones and its
 inlined code; FUNCTION:LINE or FILE:LINE the sites of a source line. A name of C++ is written as in the source: Button::poll(), or poll if it

@@ -17,7 +17,7 @@ from stackcheck_tools.analysis.widening import Lists
 from stackcheck_tools.finding import Finding, Link
 from stackcheck_tools.firmware import intel_hex
 from stackcheck_tools.firmware.firmware import Firmware
-from stackcheck_tools.spec import recursion
+from stackcheck_tools.spec import recursion, settings
 from stackcheck_tools.spec.lines import Lines
 from stackcheck_tools.spec.spec import Keep, Spec
 
@@ -161,13 +161,15 @@ def take(firmware: Firmware, spec: str, given: str, work: Mending, words: Namesp
 
 def judge(words: Namespace, folder: str) -> Outcome:
     """Analyses and judges the firmware of the command's words; files are made in the folder."""
-    path, device = words.firmware, words.device
-    firmware = intel_hex.firmware(path, device, folder) if intel_hex.is_one(path) else Firmware(path, device)
-    firmware.check_start()
     spec, given, recursions = "", "", []
     if words.spec:
         with open(words.spec, encoding="utf8") as file:
             spec = file.read()
+    lines = settings.read(spec)
+    path, device = words.firmware, words.device or (lines.device.value if lines.device else None)
+    firmware = intel_hex.firmware(path, device, folder) if intel_hex.is_one(path) else Firmware(path, device)
+    firmware.check_start()
+    if words.spec:
         read = Spec(firmware.elf, spec, firmware.device)
         given, recursions = read.text(), read.recursions
     work = Mending(firmware, folder, given, words.trials, recursions)

@@ -15,6 +15,7 @@ from stackcheck_tools.firmware.paths import readable
 from stackcheck_tools.habits import version
 from stackcheck_tools.report import call_graph, frames, interrupts, needs, verdict
 from stackcheck_tools.report.call_graph import Graph
+from stackcheck_tools.spec import settings
 from stackcheck_tools.spec.recursion import Recursion
 from stackcheck_tools.spec.spec import Spec
 
@@ -79,7 +80,8 @@ def result(outcome: Outcome, words: Namespace, command: Tuple[str, ...], folder:
     table = tuple(Need(it.name, it.own, it.calls, it.all, it.is_handler) for it in call_graph.needs(graph))
     since = needs.since(words.diff, table) if words.diff else None
     number, chain = bound(outcome), tuple(outcome.chain)
-    findings = (*flag(outcome), *limits.findings(number, words, since.bound if since else None, chain),
+    findings = (*flag(outcome), *limits.findings(number, words, limits.asked(words, settings.read(outcome.spec)), head.spec,
+                                                   since.bound if since else None, chain),
                 *place_findings.findings(outcome, to_review(outcome, words)), *remarks.findings(outcome, head.spec))
     return replace(
         head, findings=findings, certificate=outcome.certificate.split("\n", 1)[0], bound=number, chain=chain, needs=table,

@@ -11,7 +11,7 @@ from stackcheck_tools.firmware.elf import Elf
 from stackcheck_tools.firmware.fuses import KEPT as FUSES_KEPT
 from stackcheck_tools.firmware.names import Missing, SpecFault
 from stackcheck_tools.firmware.targets import targets
-from stackcheck_tools.spec import recursion, scratch, sites
+from stackcheck_tools.spec import recursion, scratch, settings, sites
 from stackcheck_tools.spec.sites import AT_LINE
 
 MOST_ITEMS, MOST_LINES = 64, 4096
@@ -123,7 +123,7 @@ def read_line(elf: Elf, device: Optional[Device], words: List[str]) -> Tuple[str
     """The kind, the sites and the items of one line."""
     kind, rest = words[0], words[1:]
     if kind not in FORMS:
-        raise SpecFault(f"{kind} must be one of {', '.join(NAMED)}, recursion, keeps")
+        raise SpecFault(f"{kind} must be one of {', '.join((*NAMED, 'recursion', 'keeps', *settings.FORMS))}")
     if not is_of_form(kind, rest):
         raise SpecFault(f"expected `{kind} {FORMS[kind]}".rstrip() + "`")
     if kind in (PAIRS, MASKS):
@@ -178,7 +178,7 @@ class Spec:
                     self.keeps.append(read_keep(elf, number, words, comment or above))
                 elif words[:1] == ["recursion"]:
                     self.recursions.append(recursion.read(elf, number, words, comment or above))
-                elif words:
+                elif words and not settings.is_one(words[0]):
                     self.lines.append(Line(number, " ".join(words), *read_line(elf, device, words)))
             except SpecFault as fault:
                 if not (is_optional and isinstance(fault, Missing)):
