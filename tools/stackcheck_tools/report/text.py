@@ -5,6 +5,7 @@ from __future__ import annotations
 from typing import Dict, Iterable, Iterator, List, Tuple
 
 from stackcheck_tools import colour
+from stackcheck_tools.analysis import kinds
 from stackcheck_tools.analysis.kinds import GIVEN, SAFETY, WHOLE
 from stackcheck_tools.finding import ERROR, NOTE, ORDINARY, WARNING, Added, Bound, Finding, Location, Need, Nesting, Result, Since, Without
 from stackcheck_tools.report.needs import COLUMNS
@@ -127,7 +128,8 @@ def relied(bound: Bound) -> Iterator[str]:
 def counted(result: Result, bound: Bound, places: List[Finding]) -> str:
     """How many places there are, and on what they rely."""
     many = sum(it.count for it in bound.places)
-    left = sum(it.kind == ORDINARY and not it.reviewed for it in places)
+    done = sum(len(it.locations) or 1 for it in places if it.kind == ORDINARY and it.reviewed)
+    left = max(sum(it.count for it in bound.places if it.kind in kinds.ORDINARY) - done, 0)
     relies = ", ".join(relied(bound))
     return f"{many} place{'' if many == 1 else 's'}: " + (f"{relies}; " if relies else "") + f"{left or 'none'} to review"
 
