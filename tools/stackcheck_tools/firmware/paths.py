@@ -3,7 +3,23 @@
 from __future__ import annotations
 
 import os
-from typing import Optional
+from typing import Iterator, Optional
+
+
+def ends(path: str) -> Iterator[str]:
+    """Yields the ends of a path, the longest first."""
+    parts = path.strip(os.sep).split(os.sep)
+    yield from (os.path.join(*parts[at:]) for at in range(len(parts)))
+
+
+def found(folder: str, name: str) -> str:
+    """Where the source file of a name lies that a compiler was given in a folder: below the folder of the call, else its longest end that
+    is there (the build ran in a container, or on another machine), else the name as it stands."""
+    whole = os.path.normpath(os.path.join(folder, name))
+    below = os.path.relpath(whole)
+    if os.path.isabs(whole) and not below.startswith(os.pardir):
+        return below
+    return next((it for it in ends(whole) if os.path.isfile(it)), name)
 
 
 def readable(path: str) -> str:
