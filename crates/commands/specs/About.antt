@@ -23,7 +23,7 @@ help_lines =
     ∷ codes "  clear FW CERT              says whether there is no such place"
     ∷ codes "  attain FW CERT             looks for a run that is as deep as the bound"
     ∷ codes "  run FW SCHEDULE            replays a schedule"
-    ∷ codes "  simulate FW DEVICES        runs the firmware with timers and receivers"
+    ∷ codes "  simulate FW PERIPHERALS    runs the firmware with timers and receivers"
     ∷ codes "  demo N                     analyses a firmware made from a number"
     ∷ codes ""
     ∷ codes "FW is an ELF file or a raw image of a chip's flash. Options: --assume LIST, --device NAME; --steps N (analyse, simulate);"

@@ -19,7 +19,7 @@ static HELP: [&str; 16] = [
     "  clear FW CERT              says whether there is no such place",
     "  attain FW CERT             looks for a run that is as deep as the bound",
     "  run FW SCHEDULE            replays a schedule",
-    "  simulate FW DEVICES        runs the firmware with timers and receivers",
+    "  simulate FW PERIPHERALS    runs the firmware with timers and receivers",
     "  demo N                     analyses a firmware made from a number",
     "",
     "FW is an ELF file or a raw image of a chip's flash. Options: --assume LIST, --device NAME; --steps N (analyse, simulate);",

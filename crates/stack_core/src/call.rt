@@ -27,10 +27,10 @@ pub fn stackbound<F: Files, K: Sink>(
     // one: its links nest from the root on and add up to at most the bound, and to the bound itself if the rounds end with this
     // certificate. If `clear` answers 0, no run from reset is flagged, and each stays within the bound. A run from reset that ends
     // flagged ends at a word that `premises` lists, or takes a vector of a `never` line that it lists. With `--why` it ends at a listed
-    // word with the cause of its flag: this protected address, a pushed byte or an unlisted word; and each word has a cause. `attain`
-    // writes the accepted certificate but for its schedule. The text is valid, so `check` accepts it. It has a schedule exactly if the
-    // accepted one has, or some trial is as deep as the bound: its own, or that of the first such trial. The schedule's run is exactly as
-    // deep.
+    // word with the cause of its flag: this protected address, a pushed byte, a transfer outside its line or a write of 1 to IVSEL;
+    // and each word has a cause. `attain` writes the accepted certificate but for its schedule. The text is valid, so `check` accepts it.
+    // It has a schedule exactly if the accepted one has, or some trial is as deep as the bound: its own, or that of the first such trial.
+    // The schedule's run is exactly as deep.
     ensures headline { HeldHeadline (called words.now) (F.holds files.old) result (K.written out.old) (K.written out.new) }
     // If held bytes are well-formed, it accepts exactly the valid certificates, and `clear` those of them whose nodes are all clear. It
     // says that a node isn't clear exactly if one isn't, and rejects exactly if the certificate isn't valid.

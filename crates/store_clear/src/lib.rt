@@ -1,6 +1,6 @@
-//! Which nodes of a certificate may flag a step: the least of them, and all words at which one lies, with what may happen there. Where the
-//! store of one node goes and what it conditions of its slots comes first (`aims` to `writes`), then where slots spread (`reach`, `spreading`),
-//! then which nodes get what they ask (`discharging`, `listing`), and what is told of their words (`words` to `causes`). Source: own.
+//! Which nodes of a certificate may flag a step: the least of them, and the words of all, with the causes at each word. `aims` to `writes`
+//! have the addresses of one node's store, and the slots that it requires to hold no live byte. `reach` and `spreading` follow slots along
+//! edges. `discharging` and `listing` find the nodes whose requirements hold. `words` to `causes` collect words and causes. Source: own.
 #![tactic(auto)]
 
 mod aims;
