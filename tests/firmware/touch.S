@@ -39,6 +39,9 @@ start:
     out 0x3D, r28
     ldi r24, 1
     sts TIMSK0, r24
+#ifdef TOUCHED
+    sts 0xF0, r24           ; a register that no header names, as of the touch controller
+#endif
     sei
 1:  rjmp 1b
     .size start, . - start

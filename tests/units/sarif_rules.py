@@ -1,4 +1,4 @@
-"""The rules of SARIF 2.1.0 (OASIS, 2020; numbers of its paragraphs in brackets), and those of GitHub's code scanning, that an output may break."""
+"""The rules of SARIF 2.1.0 (OASIS, 2020; numbers of its paragraphs in brackets) and of GitHub's code scanning that an output may break."""
 
 import re
 from typing import Iterator
@@ -7,7 +7,8 @@ from urllib.parse import urlparse
 LEVELS = {"none", "note", "warning", "error"}
 RESULTS, LOCATIONS, STEPS, TAGS = 25_000, 1_000, 10_000, 20  # the most that code scanning takes
 RUN = {"tool", "invocations", "columnKind", "results", "properties"}
-RESULT = {"ruleId", "ruleIndex", "level", "message", "locations", "relatedLocations", "codeFlows", "partialFingerprints", "properties", "kind"}
+RESULT = {"ruleId", "ruleIndex", "level", "message", "locations", "relatedLocations", "codeFlows", "partialFingerprints", "properties",
+          "kind"}
 LOCATION = {"id", "physicalLocation", "logicalLocations", "message"}
 RULE = {"id", "name", "shortDescription", "fullDescription", "help", "helpUri", "defaultConfiguration", "properties"}
 VERSION = r"\d+\.\d+\.\d+(-[0-9A-Za-z.-]+)?(\+[0-9A-Za-z.-]+)?"

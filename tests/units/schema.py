@@ -9,8 +9,8 @@ import stored
 
 PATH = os.path.join(stored.TOP, "tools", "stackcheck_tools", "report", "stackcheck-1.schema.json")
 TYPES = {"object": dict, "array": list, "string": str, "null": type(None), "boolean": bool, "integer": int}
-KNOWN = {"$schema", "$id", "title", "description", "type", "properties", "required", "additionalProperties", "items", "enum", "const", "minimum",
-         "pattern", "anyOf", "allOf", "if", "then", "else", "contains", "$ref", "$defs"}
+KNOWN = {"$schema", "$id", "title", "description", "type", "properties", "required", "additionalProperties", "items", "enum", "const",
+         "minimum", "pattern", "anyOf", "allOf", "if", "then", "else", "contains", "$ref", "$defs"}
 
 
 def read():

@@ -110,7 +110,8 @@ class Sarif(unittest.TestCase):
         log = self.log()
         self.assertEqual(list(sarif_rules.faults(log)), [])
         self.assertEqual([it["ruleId"] for it in log["runs"][0]["results"]], ["SB201", "SB402", "SB301", "SB501"])
-        self.assertEqual(log["runs"][0]["invocations"], [{"commandLine": "stackcheck 'a b.elf'", "exitCode": 4, "executionSuccessful": True}])
+        self.assertEqual(log["runs"][0]["invocations"],
+                         [{"commandLine": "stackcheck 'a b.elf'", "exitCode": 4, "executionSuccessful": True}])
 
     def test_paths_are_relative_and_encoded(self) -> None:
         first, second, *_ = self.log()["runs"][0]["results"]
@@ -145,8 +146,8 @@ class Sarif(unittest.TestCase):
 class Annotations(unittest.TestCase):
     def test_properties_and_messages_are_escaped(self) -> None:
         first, *_, last = github.told(made.result(*EVERY))
-        self.assertEqual(first, "::error file=src/a b%25.c,line=7,title=SB201 unhandled-interrupt-fires::X_vect is enabled: 100%25,%0Ano handler; "
-                                "cure: write a handler")
+        self.assertEqual(first, "::error file=src/a b%25.c,line=7,title=SB201 unhandled-interrupt-fires::X_vect is enabled: 100%25,%0A"
+                                "no handler; cure: write a handler")
         self.assertTrue(last.startswith("::notice title=stack::bound 8, "))
 
     def test_a_colon_or_comma_ends_no_property(self) -> None:

@@ -71,7 +71,8 @@ class Contrast(unittest.TestCase):
 class Structure(unittest.TestCase):
     def test_landmarks_and_headers(self) -> None:
         text = page.html(made.result(made.PLACE, made.SAFE, made.HEAP))
-        for it in ("<main>", "</main>", "<footer>", 'role="status"', '<th scope="col">', 'tabindex="0"', "<code>stackcheck &#x27;a b.elf&#x27;</code>"):
+        for it in ("<main>", "</main>", "<footer>", 'role="status"', '<th scope="col">', 'tabindex="0"',
+                   "<code>stackcheck &#x27;a b.elf&#x27;</code>"):
             self.assertIn(it, text)
         self.assertNotIn("<th></th>", text)
 

@@ -31,8 +31,8 @@ class Location:
 
 @dataclass(frozen=True)
 class Related:
-    """A location that explains a finding. `role` is `reason` (leads to it), `target` (where a transfer goes), `chain` (a link of the deepest
-    chain) or `spec` (a line that speaks of it)."""
+    """A location that explains a finding. `role` is `reason` (leads to it), `target` (where a transfer goes), `chain` (a link of the
+    deepest chain) or `spec` (a line that speaks of it)."""
 
     role: str
     message: str
@@ -114,13 +114,14 @@ class Need:
 
 @dataclass(frozen=True)
 class Nesting:
-    """A line `recursion` of the spec: the depth at which its deepest activation begins, and what each further one takes (None if it is not
-    known)."""
+    """A line `recursion` of the spec, or one that has as many activations as simulated runs: the depth at which its deepest activation
+    begins, and what each further one takes (None if it is not known)."""
 
     function: str
     activations: int
     depth: int
     step: Optional[int]
+    by_runs: bool = False
 
 
 @dataclass(frozen=True)

@@ -61,8 +61,8 @@ OPTIONS = (
 OUTPUTS = tuple(it for it in OPTIONS if it.sort == WRITTEN)
 SUMMARY = "Bounds the stack usage of a firmware, as a build step."
 USAGE = "usage: stackcheck FIRMWARE [--spec FILE] [--margin N | --limit N] [OPTION ..]"
-ABOUT = ("Prints the bound of the stack, interrupts included, or why there is none and how to fix it. FIRMWARE is an ELF file, or one of Intel "
-         "HEX. The proved checker of stackbound accepted the certificate of every bound that is printed.")
+ABOUT = ("Prints the bound of the stack, interrupts included, or why there is none and how to fix it. FIRMWARE is an ELF file, or one of "
+         "Intel HEX. The proved checker of stackbound accepted the certificate of every bound that is printed.")
 STATUSES = (
     (0, "the bound is within the limit, and no place is left to review"),
     (1, "the bound exceeds the limit, does not fit, or has grown by more than --grow"),
@@ -72,14 +72,14 @@ STATUSES = (
     (5, "a place is left to review"),
 )
 MORE = (
-    "The first line is an error, or the bound with the runs for which it holds. A place is an instruction at which the analysis cannot rule "
-    "out a flagged step. At an ordinary place a correct program may be flagged: review it, and record that with a `keeps` line. At a "
-    "memory-safety place only a program with undefined behaviour is flagged: a store that leaves the object its pointer was made from, or a "
-    "call through a pointer that enters no function whose address is taken. This does not cover integers that are cast to pointers. With "
+    "The first line is an error, or the bound with the runs for which it holds. A place is an instruction at which the analysis cannot "
+    "rule out a flagged step. At an ordinary place a correct program may be flagged: review it, and record that with a `keeps` line. At a "
+    "memory-safety place only a program with undefined behaviour is flagged: a store that leaves the object its pointer was made from, or "
+    "a call through a pointer that enters no function whose address is taken. This does not cover integers that are cast to pointers. With "
     "the line `masks`, such a store may still enable an interrupt without a handler; the bound says so.",
-    "stackcheck adds the lines that the spec lacks, and prints each: as `assumed:` if the bound rests on it, else as `added:`. A call through "
-    "a pointer gets all functions whose address is taken, by the linker's records (-Wl,--emit-relocs) or by a search, which misses a handler "
-    "that is called through a pointer. If this gives no bound, the call gets fewer, and is an ordinary place.",
+    "stackcheck adds the lines that the spec lacks, and prints each: as `assumed:` if the bound rests on it, else as `added:`. A call "
+    "through a pointer gets all functions whose address is taken, by the linker's records (-Wl,--emit-relocs) or by a search, which misses "
+    "a handler that is called through a pointer. If this gives no bound, the call gets fewer, and is an ordinary place.",
     "`seen` is the depth of the deepest run known, `attained` says that it is the bound.",
 )
 SEE = "More: docs/BUILDS.md, docs/FINDINGS.md, docs/TROUBLESHOOTING.md"
@@ -101,7 +101,8 @@ def text() -> str:
     for group in GROUPS:
         lines += ["", f"{group}:"]
         lines += [line for it in OPTIONS if it.group == group for line in option_lines(it)]
-    lines += ["", "One FILE may be -, which is printed in place of the text.", "", "Exit status:", *(f"  {n}  {what}" for n, what in STATUSES)]
+    lines += ["", "One FILE may be -, which is printed in place of the text.", "", "Exit status:"]
+    lines += [f"  {number}  {what}" for number, what in STATUSES]
     for paragraph in MORE:
         lines += ["", *textwrap.wrap(paragraph, WIDTH, break_long_words=False, break_on_hyphens=False)]
     return "\n".join([*lines, "", SEE])

@@ -5,7 +5,7 @@ from __future__ import annotations
 from typing import TYPE_CHECKING, Dict, Iterable
 
 from stackcheck_tools.firmware.fuses import FUSES
-from stackcheck_tools.spec.recursion import PLACE
+from stackcheck_tools.spec.recursion import BY_RUNS, PLACE
 
 if TYPE_CHECKING:
     from stackcheck_tools.analysis.outcome import Accepted
@@ -13,9 +13,10 @@ if TYPE_CHECKING:
 # a correct program may be flagged there
 CALLS, STORES, VECTORS, CORES, MOVES, UNSET = "calls", "stores", "vectors", "cores", "moves", "unset"
 SAFETY, WHOLE = "memory safety", "whole lists"  # only a program with undefined behaviour is
+UNUSED = "unused units"  # a vector of a unit of which the firmware writes no register
 GIVEN = "given"  # the spec says itself what happens there
-ORDINARY = (CALLS, STORES, VECTORS, CORES, MOVES, UNSET, FUSES)
-ORDER = (*ORDINARY, SAFETY, WHOLE, GIVEN, PLACE)
+ORDINARY = (CALLS, STORES, VECTORS, CORES, MOVES, UNSET, FUSES, BY_RUNS)
+ORDER = (*ORDINARY, SAFETY, WHOLE, UNUSED, GIVEN, PLACE)
 
 
 def counts(outcome: Accepted) -> Dict[str, int]:

@@ -10,15 +10,15 @@ from __future__ import annotations
 import os
 from typing import Callable, Dict, Iterable, List, Optional, Set, Tuple
 
-from stackcheck_tools.analysis import causes, core_registers, mask_cost
-from stackcheck_tools.analysis.cures import REFUSAL, parts
+from stackcheck_tools.analysis import causes, core_registers, cycles, mask_cost
+from stackcheck_tools.analysis.cures import CURES, REFUSAL, cure, parts
 from stackcheck_tools.analysis.node_values import Nodes
 from stackcheck_tools.analysis.program import DEVICES, OK, REFUSED, USAGE, NoProgram, Program
 from stackcheck_tools.analysis.trials import DEVICE_LINES, Run, Scope, Stop, Trials, handled, scope
 from stackcheck_tools.analysis.widening import Lists, widen
 from stackcheck_tools.firmware import candidates, opcodes
 from stackcheck_tools.firmware.firmware import Firmware
-from stackcheck_tools.spec import recursion, scratch
+from stackcheck_tools.spec import parameters, recursion, scratch
 from stackcheck_tools.spec.lines import Lines
 from stackcheck_tools.spec.recursion import Recursion
 from stackcheck_tools.spec.sites import frames_of
@@ -30,6 +30,7 @@ MOST_TRIED = 8  # lines that are tried one by one where they aren't accepted tog
 TABLES = "__tablejump2__"
 R0 = 0  # a register that no compiled store means
 MOST_PUSHES = 16  # pushes that are tried one by one for a line `scratch`
+MOST_PARAMETERS = 2000  # pushes of parameters that get a line `scratch`
 
 
 class Analysis:
@@ -118,12 +119,13 @@ class Mending(Analysis):
         self.before_masks = self.lines
         self.told_of_masks: Optional[str] = None  # what the line costs, or why it was left out
         self.scratched: Dict[Tuple[str, int, int], Optional[int]] = {}
+        self.limits: Optional[cycles.Limits] = None  # lines `recursion` by simulated runs
 
     def copy(self) -> "Mending":
         """The same with lines of its own, for a look at what another step would do."""
         other = Mending(self.firmware, self.folder, "", self.count, self.recursions)
         other.lines, other.pinned, other.tried, other.seeks = self.lines.copy(), set(self.pinned), set(self.tried), self.seeks
-        other.refusal, other.certificate, other.lists = self.refusal, self.certificate, self.lists.copy()
+        other.refusal, other.certificate, other.lists, other.limits = self.refusal, self.certificate, self.lists.copy(), self.limits
         return other
 
     def run(self, is_plain: bool) -> None:
@@ -137,12 +139,11 @@ class Mending(Analysis):
             return
         self.lines.add_pairs()
         self.add_scratch()
-        if self.begin_with_masks():
-            self.mend()
-            if self.refusal:
-                self.without_masks()
-        else:
-            self.mend()
+        has_masks = self.begin_with_masks()
+        self.mend()
+        self.limit_recursion()
+        if self.refusal and has_masks:
+            self.without_masks()
         if self.certificate:
             widen(self)
         if self.certificate and self.reads_masks():
@@ -162,8 +163,8 @@ class Mending(Analysis):
         return status == DEVICES
 
     def add_scratch(self) -> None:
-        """Lines for the pushes of avr-libc's `exp`, whose bytes are written on purpose."""
-        found = scratch.of_exp(self.elf)
+        """Lines for the pushes of parameters, and for those of avr-libc's `exp`, whose bytes are written on purpose."""
+        found = scratch.of_exp(self.elf) + list(parameters.pushes(self.elf))[:MOST_PARAMETERS]
         if found and self.knows(scratch.KIND, found[0]):
             for word in found:
                 self.lines.add(word, scratch.KIND)
@@ -207,6 +208,20 @@ class Mending(Analysis):
             if not self.at_stop():
                 return
             self.certificate = None
+
+    def limit_recursion(self) -> None:
+        """Where a recursion is refused: goes on with as many activations as simulated runs reach, if they call such a function at all."""
+        self.limits = cycles.limits(self)
+        if self.limits and self.limits.is_called():
+            self.recursions += self.limits.lines
+            self.certificate = self.refusal = None
+            self.mend()
+
+    def cure_of_recursion(self) -> Optional[str]:
+        """What helps against a recursion that is taken to be as deep as the runs."""
+        if self.limits is None or not any(it.is_by_runs() for it in self.recursions):
+            return None
+        return CURES[cure(self.elf, self.device, self.limits.refusal, self.lines)[0]][2]
 
     def begin_with_masks(self) -> bool:
         """Writes `masks`, where the device doesn't make it needless, with `never` lines for the vectors that have no handler; whether that
@@ -395,6 +410,8 @@ class Mending(Analysis):
         `scratch` alone."""
         if stop.kind == "live":
             return self.scratch_for(stop) is not None
+        if self.limits and self.limits.is_passed(stop, self.lines):
+            return True
         if self.is_beyond_lines(stop):
             return False
         return stop.kind != "transfer" or candidates.may_be_entered(self.elf, stop.word, stop.other)
@@ -421,6 +438,8 @@ class Mending(Analysis):
         """Adds the line that admits the flagged step of a trial run; whether there is one."""
         if self.stop is None or not self.may_admit(self.stop):
             return False
+        if self.limits and self.limits.is_passed(self.stop, self.lines):
+            return self.limits.raised(self.stopped_at)
         if self.stop.kind == "live":
             push = self.scratch_for(self.stop)
             return push is not None and self.lines.add(push, scratch.KIND)

@@ -46,7 +46,8 @@ class Accepted:
     certificate: str
     own: Lines
     lists: Lists  # of calls through pointers
-    recursions: List[recursion.Recursion]  # of the spec, with the depths that they came to
+    recursions: List[recursion.Recursion]  # of the spec or by runs, with the depths that they came to
+    cure: Optional[str] = None  # of a recursion that is as deep as the runs
     told_of_masks: Optional[str] = None  # what the line `masks` costs, or why it was left out
     stop: Optional[Stop] = None  # the flagged step of a simulated run
     flag: Optional[Finding] = None  # the same as a finding
@@ -136,8 +137,8 @@ def attain(found: Accepted, program: Program, certificate: str, witness: str) ->
 def take(firmware: Firmware, spec: str, given: str, work: Mending, words: Namespace, folder: str) -> Accepted:
     """Judges the certificate that was found, and gathers what the program says of it."""
     made = work.certificate or ""
-    found = Accepted(firmware, spec, given, made, work.lines, work.lists, work.recursions, work.told_of_masks, work.stop,
-                     flags.finding(firmware, work, work.stop) if work.stop else None, seen=work.deepest)
+    found = Accepted(firmware, spec, given, made, work.lines, work.lists, work.recursions, work.cure_of_recursion(),
+                     work.told_of_masks, work.stop, flags.finding(firmware, work, work.stop) if work.stop else None, seen=work.deepest)
     program, certificate = work.program(), os.path.join(folder, "certificate")
     witness = accept(found, program, certificate, made)
     if witness == "open" and work.deepest is not None and work.deepest >= found.bound:

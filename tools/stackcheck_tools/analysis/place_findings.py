@@ -13,6 +13,7 @@ from stackcheck_tools.analysis.kinds import (
     SAFETY,
     STORES,
     UNSET,
+    UNUSED,
     VECTORS,
     WHOLE,
     moving,
@@ -27,10 +28,10 @@ if TYPE_CHECKING:
     from stackcheck_tools.analysis.places import Place
 
 MOST_ENABLERS = 8
+BY_RUNS, MAY_ENABLE = "SB308", "SB323"
 # the kinds of places in the order in which one names the rule of an entry that has several
 RULES = {CALLS: "SB301", STORES: "SB302", VECTORS: "SB303", CORES: "SB304", MOVES: "SB305", UNSET: "SB306", fuses.FUSES: "SB307",
-         SAFETY: "SB321", WHOLE: "SB322", GIVEN: "SB341", recursion.PLACE: "SB342"}
-MAY_ENABLE = "SB323"
+         recursion.BY_RUNS: BY_RUNS, SAFETY: "SB321", WHOLE: "SB322", UNUSED: "SB324", GIVEN: "SB341", recursion.PLACE: "SB342"}
 KINDS = {"SB30": ORDINARY, "SB32": MEMORY_SAFETY, "SB34": SPEC}
 MESSAGES = {
     "SB301": "a call or jump through a pointer {where} may leave its list",
@@ -39,6 +40,7 @@ MESSAGES = {
     "SB305": "a write {where} may set IVSEL, which moves the interrupt vectors",
     "SB306": "the stack is used {where} before SPL is written",
     "SB307": "the file programs fuses with which the chip starts elsewhere or as another chip",
+    "SB308": "the call {where} is a recursion, which is counted only as deep as the simulated runs went",
     "SB321": "the bound holds if the store {where} stays inside its object",
     "SB322": "the bound holds if the call {where} enters a function whose address is taken",
     "SB323": "the bound holds if the store {where} stays inside its object and enables no interrupt without a handler",
@@ -107,10 +109,24 @@ def finding(outcome: Accepted, it: Place, fails: bool) -> Finding:
     level = ERROR if fails else WARNING if it.is_ordinary() and not it.judged else NOTE
     related = tuple(one for word in vectors_of(it) for one in enablers(outcome, word)) if rule == "SB303" else ()
     review = Review(it.judged.number, it.judged.why) if it.judged else None
-    return Finding(rule, level, message(outcome, it, rule), locations(outcome, it), related, tuple(it.told()), subject(outcome, it), it.code,
-                   cure=it.cure, spec_lines=tuple(it.closers), record=it.keep, reviewed=review, kind=KINDS[rule[:4]])
+    cure = outcome.cure if rule == BY_RUNS else it.cure
+    return Finding(rule, level, message(outcome, it, rule), locations(outcome, it), related, tuple(it.told()), subject(outcome, it),
+                   it.code, cure=cure, spec_lines=tuple(it.closers), record=it.keep, reviewed=review, kind=KINDS[rule[:4]])
 
 
-def findings(outcome: Accepted, failing: List[Place]) -> Iterator[Finding]:
-    """Yields the finding of each entry; those of `failing` are errors."""
+def unplaced(outcome: Accepted, is_accepted: bool) -> Iterator[Finding]:
+    """Yields a recursion that is counted as deep as the runs, if no place is one of its calls."""
+    if any(recursion.BY_RUNS in it.kinds.values() for it in outcome.entries):
+        return
+    for it in outcome.recursions:
+        if it.is_by_runs():
+            yield Finding(BY_RUNS, WARNING if is_accepted else ERROR,
+                          f"{it.name} calls itself, and is counted only as deep as the simulated runs went",
+                          of_words(outcome.firmware, it.entries), details=(it.by_runs(),), cure=outcome.cure, record=it.line(),
+                          kind=ORDINARY)
+
+
+def findings(outcome: Accepted, failing: List[Place], is_accepted: bool) -> Iterator[Finding]:
+    """Yields the finding of each entry; those of `failing` are errors. `is_accepted` says that no place makes a status."""
     yield from (finding(outcome, it, it in failing) for it in outcome.entries if it.kinds)
+    yield from unplaced(outcome, is_accepted)

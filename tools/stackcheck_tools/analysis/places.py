@@ -9,10 +9,11 @@ from __future__ import annotations
 import os
 from typing import TYPE_CHECKING, Dict, Iterator, List, Optional, Set, Tuple, Union
 
-from stackcheck_tools.analysis import core_registers
+from stackcheck_tools.analysis import core_registers, units
 from stackcheck_tools.analysis.causes import Cause
-from stackcheck_tools.analysis.kinds import CALLS, CORES, GIVEN, MOVES, ORDINARY, SAFETY, STORES, VECTORS, WHOLE
+from stackcheck_tools.analysis.kinds import CALLS, CORES, GIVEN, MOVES, ORDINARY, SAFETY, STORES, UNUSED, VECTORS, WHOLE
 from stackcheck_tools.analysis.node_values import Nodes
+from stackcheck_tools.analysis.warnings_of_words import MOVED
 from stackcheck_tools.analysis.widening import RECORDS
 from stackcheck_tools.firmware import debug_lines, fuses, opcodes, start_up
 from stackcheck_tools.firmware.devices import Device
@@ -34,7 +35,6 @@ MOST_WORDS = 4  # word addresses that one entry prints
 START = ("__do_clear_bss", "__do_copy_data")
 Z = 30  # the pair of a call
 WHY = "say here why it keeps the bound"
-MOVED = "may move the interrupt vectors (IVSEL); the bound takes them to be at 0"
 
 
 class Place:
@@ -112,6 +112,10 @@ class Look:
         """The numbers that the pointer of a call is known to be and that its list doesn't have."""
         return sorted(self.nodes.known(word, Z) - self.lines.of(word, "jump"))
 
+    def limit(self, word: int) -> Optional[recursion.Recursion]:
+        """The line `recursion` that speaks of a call."""
+        return recursion.of_call(self.elf, self.lines, self.outcome.recursions, word)
+
     def is_by_name(self, word: int) -> bool:
         """Whether an instruction writes one address that is known."""
         return not opcodes.is_pointer_store(self.elf.word(word)) or self.nodes.fixed(word)
@@ -120,12 +124,14 @@ class Look:
         """What kind of place a word is, by what may happen there and by whose line speaks of it."""
         cause, lines = self.outcome.causes.get(word, Cause()), self.lines
         is_transfer = cause.transfer and not cause.addresses and not cause.live and not lines.has(word, "jump")
-        if is_transfer and recursion.of_call(self.elf, lines, self.outcome.recursions, word):
-            return recursion.PLACE
+        limit = self.limit(word)
+        if is_transfer and limit:
+            return recursion.BY_RUNS if limit.is_by_runs() else recursion.PLACE
         if cause.transfer or not cause and word not in self.cores:
-            if lines.is_given(word, "jump") and not self.unlisted(word):
-                return GIVEN
-            return WHOLE if word in self.outcome.lists.whole and not self.unlisted(word) else CALLS
+            is_known = lines.is_given(word, "jump") or word in self.outcome.lists.whole
+            if not is_known or self.unlisted(word):
+                return CALLS
+            return recursion.BY_RUNS if limit and limit.is_by_runs() else GIVEN if lines.is_given(word, "jump") else WHOLE
         if cause.moves and self.is_by_name(word):
             return MOVES
         if word in self.cores:
@@ -146,6 +152,8 @@ class Look:
         if kind == CORES:
             names = self.cores[word]
             yield f"may write {' '.join(names)}, whose {'address stands' if len(names) == 1 else 'addresses stand'} in this file"
+        if kind == recursion.BY_RUNS and (limit := self.limit(word)):
+            yield limit.by_runs()
         if kind in (CALLS, WHOLE):
             text = self.outcome.firmware.device.word
             yield from (f"its pointer is {text(it)} here, which its list does not have" for it in self.unlisted(word))
@@ -165,22 +173,25 @@ def put(look: Look, entry: Place, word: int) -> None:
     entry.words.append(word)
     entry.kinds[word] = kind
     entry.may_enable = entry.may_enable or kind == SAFETY and bool(outcome.own.sites("never")) and may_enable(look.nodes, word, cause)
-    entry.cause.join(cause)
+    if kind != recursion.BY_RUNS:
+        entry.cause.join(cause)
     entry.warned += [it for it in look.texts(word, kind) if it not in entry.warned]
     entry.cure = entry.cure or look.cure(word, kind)
     if word in outcome.closers:
         entry.closers.append(outcome.closers[word])
 
 
-def entry_of_vector(outcome: Told, word: int) -> Place:
+def entry_of_vector(outcome: Told, nodes: Nodes, word: int) -> Place:
     """The entry of a vector that a `never` line names."""
     number = outcome.firmware.device.vector_of(word)
     vector = outcome.firmware.handler(number)
     is_given, device = outcome.own.is_given(word, "never"), outcome.firmware.device
-    why = "no header names its enable bit" if device.is_open(number) else "may be enabled"
+    is_unused = device.is_open(number) and not units.uses_nameless(outcome.firmware.elf, nodes)
+    why = "may be enabled" if not device.is_open(number) else \
+        "its unit is not used: no register is written that the header does not name" if is_unused else "no header names its enable bit"
     entry = Place(device, vector, vector)
     entry.says = "is not entered, by a `never` line" if is_given else f"has no handler, and {why}"
-    entry.kinds[word] = GIVEN if is_given else VECTORS
+    entry.kinds[word] = GIVEN if is_given else UNUSED if is_unused else VECTORS
     return entry
 
 
@@ -201,7 +212,7 @@ def entries(outcome: Told) -> List[Place]:
     for line in outcome.premises or ():
         kind, at = line.split()[:2]
         if kind == "never":
-            found[line] = entry_of_vector(outcome, int(at, 16))
+            found[line] = entry_of_vector(outcome, look.nodes, int(at, 16))
         elif kind == "at":
             put(look, entry_of(outcome, int(at, 16), found), int(at, 16))
         else:
@@ -218,7 +229,10 @@ def entries(outcome: Told) -> List[Place]:
         entry.kinds[warned.word] = warned.kind
         entry.warned.append(warned.text)
     for entry in found.values():
-        if entry.is_ordinary():
+        if by_runs := [word for word, kind in entry.kinds.items() if kind == recursion.BY_RUNS]:
+            limit = look.limit(int(by_runs[0]))
+            entry.keep = limit.line() if limit else None
+        elif entry.is_ordinary():
             entry.keep = keep_line(outcome, entry)
     return [*found.values(), *entry_of_fuses(outcome)]
 
@@ -260,7 +274,7 @@ def judge(outcome: Accepted, keeps: List[Keep]) -> List[Keep]:
     """Notes at each entry the line that judges it, and returns the lines that judge none."""
     idle = []
     for keep in keeps:
-        judged = [it for it in outcome.entries if is_of(outcome.firmware.elf, keep, it)]
+        judged = [it for it in outcome.entries if recursion.BY_RUNS not in it.kinds.values() and is_of(outcome.firmware.elf, keep, it)]
         for it in judged:
             it.judged = it.judged or keep
         if not judged:

@@ -23,7 +23,8 @@ OUT_SREG, RETI, SBI = 0xBE0F, 0x9518, 0x9A00
 MOST_REASONS, NEAR, GUARD = 8, 5, 6
 # causes of which the places of this firmware tell more than a row of the table: name, cause and cure
 SET_AGAIN = ("set again", "its own enable bit is set again before it ends, while interrupts are enabled",
-             "set the bit again only after its `cli()`, or where it cannot run; no step may set it meanwhile, even on paths that cannot run")
+             "set the bit again only after its `cli()`, or where it cannot run; no step may set it meanwhile, even on paths that cannot "
+             "run")
 STAYS = ("stays enabled", "it enables interrupts while its own vector counts as enabled, which nothing in the handler changes",
          "do not enable interrupts while this handler runs")
 

@@ -98,4 +98,4 @@ def finding(firmware: Firmware, work: Mending) -> Finding:
         RULES[cures.parts(refusal)[0]], ERROR, message(firmware, refusal), locations(firmware, work, name, word),
         tuple(it for it in (*reasons, *notes) if it.location.is_known()),
         (refusal, *(it.message for it in reasons if not it.location.is_known())),
-        cause=cause, why=why, cure=cure, spec_lines=tuple(lines_for(firmware, work, name) or list(cycles.lines(firmware, work))))
+        cause=cause, why=why, cure=cure, spec_lines=tuple(lines_for(firmware, work, name) or list(cycles.lines(work))))

@@ -13,21 +13,11 @@ from stackcheck_tools.spec.spec import Keep
 if TYPE_CHECKING:
     from stackcheck_tools.analysis.outcome import Accepted
 
-NOT_MOVED = "writes of IVSEL are not checked without the line `masks`: the bound takes the interrupt vectors to be at 0"
-
-
 def heap(outcome: Accepted) -> Iterator[Finding]:
     name = warnings_of_words.heap(outcome.firmware.elf)
     if name:
         yield Finding("SB501", WARNING, f"{name} is linked: the heap takes from the same room and is not counted",
                       (Location(function=name),))
-
-
-def moved(outcome: Accepted) -> Iterator[Finding]:
-    """Yields that nothing tells whether the vectors are moved."""
-    device = outcome.firmware.device
-    if device.moving and device.is_first() and not outcome.own.has_masks() and not outcome.told_of_masks:
-        yield Finding("SB503", WARNING, NOT_MOVED)
 
 
 def idle(path: Optional[str], keeps: List[Keep]) -> Iterator[Finding]:
@@ -57,7 +47,6 @@ def findings(outcome: Accepted, path: Optional[str]) -> Iterator[Finding]:
     yield from heap(outcome)
     if outcome.firmware.lost:
         yield Finding("SB502", NOTE, outcome.firmware.lost)
-    yield from moved(outcome)
     yield from idle(path, outcome.idle_keeps)
     if outcome.told_of_masks:
         yield Finding("SB505", NOTE, outcome.told_of_masks)

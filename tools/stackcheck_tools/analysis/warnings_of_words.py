@@ -1,19 +1,25 @@
-"""What no flag tells of a firmware: a stack that is used before SP is set, and a heap that shares the room."""
+"""What no flag tells of a firmware: a stack that is used before SP is set, a heap that shares the room, and, where the line `masks` doesn't
+stand, writes of the bit that moves the vectors."""
 
 from __future__ import annotations
 
 from typing import Iterator, List, NamedTuple, Optional, Set
 
-from stackcheck_tools.analysis.kinds import UNSET
-from stackcheck_tools.analysis.node_values import Nodes
+from stackcheck_tools.analysis.kinds import MOVES, UNSET
+from stackcheck_tools.analysis.node_values import Nodes, stored
 from stackcheck_tools.firmware import opcodes
-from stackcheck_tools.firmware.devices import Device
+from stackcheck_tools.firmware.candidates import before
+from stackcheck_tools.firmware.devices import Device, Place
 from stackcheck_tools.firmware.elf import Elf
 from stackcheck_tools.firmware.firmware import Firmware
 
 ALLOCATORS = ("malloc", "calloc", "realloc", "_Znwj", "_Znaj")
-STS, OUT = 0x9200, 0xB800
+STS, OUT, LDS, IN = 0x9200, 0xB800, 0x9000, 0xB000
 SPL = 0x5D
+READ_BACK = 6  # instructions before a write in which its register is read
+
+
+MOVED = "may move the interrupt vectors (IVSEL); the bound takes them to be at 0"
 
 
 class Warned(NamedTuple):
@@ -29,12 +35,56 @@ def heap(elf: Elf) -> Optional[str]:
     return next((name for name in ALLOCATORS if name in elf.all), None)
 
 
-def writes_low_half(elf: Elf, nodes: Nodes, word: int) -> bool:
-    """Whether an instruction writes SPL, by name or through a pointer that is known."""
+def named_address(elf: Elf, word: int, near: int, far: int) -> Optional[int]:
+    """The data address that `out` or `in`, or `sts` or `lds`, names at a word; None of another instruction."""
     opcode = elf.word(word)
-    if opcodes.is_pointer_store(opcode):
-        return nodes.fixed(word) and nodes.may_write(word, SPL)
-    return opcode & 0xF800 == OUT and opcodes.io_address(opcode) == SPL or opcode & 0xFE0F == STS and elf.word(word + 1) == SPL
+    if opcode & 0xF800 == near:
+        return opcodes.io_address(opcode)
+    return elf.word(word + 1) if opcode & 0xFE0F == far else None
+
+
+def writes(elf: Elf, nodes: Nodes, word: int, address: int) -> bool:
+    """Whether an instruction writes an address, by name or through a pointer that is known."""
+    if opcodes.is_pointer_store(elf.word(word)):
+        return nodes.fixed(word) and nodes.may_write(word, address)
+    return named_address(elf, word, OUT, STS) == address
+
+
+def entered_aside(elf: Elf, word: int) -> Set[int]:
+    """The words of a function to which another one than that before leads."""
+    symbol = elf.symbol_at(2 * word)
+    code = list(opcodes.words_of(elf, symbol)) if symbol else []
+    return {to for at, opcode in code for to in opcodes.following(elf, at) if to != at + opcodes.length(opcode)}
+
+
+def gives_back(elf: Elf, word: int, place: Place) -> bool:
+    """Whether a write gives back what was read from its register just before, in which `ori` and `andi` have set none of these bits."""
+    register, aside, last = stored(elf.word(word)), entered_aside(elf, word), word
+    for at, opcode in before(elf, word, READ_BACK):
+        if last in aside:
+            return False
+        last = at
+        if named_address(elf, at, OUT, STS) is not None:
+            continue
+        if stored(opcode) == register and (address := named_address(elf, at, IN, LDS)) is not None:
+            return address == place.address
+        byte, is_same = opcode & 15 | opcode >> 4 & 0xF0, register == 16 + (opcode >> 4 & 15)
+        if not (is_same and (opcode & 0xF000 == 0x7000 or opcode & 0xF000 == 0x6000 and not byte & place.mask)):
+            return False
+    return False
+
+
+def moved_vectors(firmware: Firmware, certificate: str) -> Iterator[Warned]:
+    """Yields each write by name whose byte may have the bit that moves the vectors, where neither the line `masks` nor the device has it
+    followed; but for those that leave the bit as it was."""
+    device: Device = firmware.device
+    if device.moving is None or not device.is_first() or "\nmasks\n" in certificate:
+        return
+    nodes, bit = Nodes(firmware.elf, certificate), device.moving.mask.bit_length() - 1
+    for word in sorted(nodes.at):
+        if writes(firmware.elf, nodes, word, device.moving.address) and not gives_back(firmware.elf, word, device.moving):
+            if any(it[stored(firmware.elf.word(word))].may_have(bit) for it in nodes.values_at(word)):
+                yield Warned(word, MOVES, MOVED)
 
 
 def first_use(elf: Elf, nodes: Nodes) -> Optional[int]:
@@ -44,7 +94,7 @@ def first_use(elf: Elf, nodes: Nodes) -> Optional[int]:
     left = [0]
     while left:
         word = left.pop(0) % elf.chip.words
-        if word in seen or writes_low_half(elf, nodes, word):
+        if word in seen or writes(elf, nodes, word, SPL):
             continue
         if opcodes.uses_stack(elf.word(word)):
             return word
@@ -65,4 +115,4 @@ def unset_pointer(firmware: Firmware, certificate: str) -> Iterator[Warned]:
 
 
 def warnings(firmware: Firmware, certificate: str) -> List[Warned]:
-    return list(unset_pointer(firmware, certificate))
+    return [*moved_vectors(firmware, certificate), *unset_pointer(firmware, certificate)]

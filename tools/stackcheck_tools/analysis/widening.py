@@ -6,13 +6,16 @@ from __future__ import annotations
 from dataclasses import dataclass, field
 from typing import TYPE_CHECKING, Dict, FrozenSet, List, Optional, Set
 
-from stackcheck_tools.firmware import candidates, plain_calls, records, taken
+from stackcheck_tools.firmware import candidates, debug_lines, plain_calls, records, taken
+from stackcheck_tools.firmware.elf import Elf
 from stackcheck_tools.spec.lines import Lines
 from stackcheck_tools.spec.spec import MOST_ITEMS
 
 if TYPE_CHECKING:
     from stackcheck_tools.analysis.mending import Mending
 
+# avr-libc's functions that call what they are given: a stream's functions, a comparison
+GIVEN_ONE = ("fputc", "fgetc", "fputs", "fputs_P", "puts", "puts_P", "fwrite", "fread", "fgets", "gets", "ungetc", "bsearch", "qsort")
 MOST_TRIED = 8  # lists that are tried one by one where they aren't accepted together
 ROUNDS = 4  # in which functions that are reached only then bring further lists
 RECORDED = "its list has every function whose address is taken, by the linker's records"
@@ -21,6 +24,8 @@ NONE = "with every function whose address may be taken there is no bound"
 UNNAMED = "the file has no names, so no search finds every function whose address is taken"
 UNTRIED = "a bound with every function whose address may be taken was not tried"
 PLAIN = ", except those in tables of virtual functions alone, which it does not read"
+REFUTED = "a simulated run went to {}, which no search and no record names as a function whose address is taken: the list may lack others"
+EMPTY = "the file takes the address of no function, and this call is none of avr-libc's own: its pointer is made in a way that no list knows"
 TOO_MANY = "{} functions have their address taken, and a list has at most {}"
 RECORDS = "link with -Wl,--emit-relocs: then the linker's records name every function whose address is taken"
 
@@ -49,6 +54,13 @@ def nodes_of(certificate: Optional[str]) -> FrozenSet[int]:
     return frozenset(int(line.split(" ", 3)[2], 16) for line in (certificate or "").splitlines() if line.startswith("node "))
 
 
+def is_of_streams(elf: Elf, site: int) -> bool:
+    """Whether a call is one of avr-libc's functions, whose pointer is one that the program gives it: with no function to give, nothing is
+    called."""
+    symbol = elf.symbol_at(2 * site)
+    return symbol is not None and symbol.name in GIVEN_ONE and not debug_lines.of(elf).source(2 * site)
+
+
 class Widening:
     """The lists of a firmware that has a bound."""
 
@@ -70,8 +82,14 @@ class Widening:
         if found is None:
             lists.why[site] = UNNAMED
             return
-        now = self.work.lines.of(site, "jump")
-        words = set(found.words) | {word for at, word in self.work.pinned if at == site} or set(now)
+        now, seen = self.work.lines.of(site, "jump"), {word for at, word in self.work.pinned if at == site}
+        if refuting := seen - found.words:
+            lists.why[site] = REFUTED.format(" ".join(map(self.work.firmware.function, sorted(refuting))))
+            return
+        if not found.words and not is_of_streams(self.elf, site):
+            lists.why[site] = EMPTY
+            return
+        words = set(found.words) or set(now)
         if words == now:
             self.take(site)
         elif len(words) > MOST_ITEMS:

@@ -1,106 +1,106 @@
 """The table of devices, written by tests/devices/rows."""
 
 # A line for each class of equal devices: its name, the words of flash, the first and the last address of SRAM, the bytes of the stack
-# pointer, the words of a vector, the groups of instructions, the last vector, the watchdog's vector, the place with the bit that moves the
-# vectors, the number of its list of vectors, and its other names. `-` stands for none.
+# pointer and of a return address, the words of a vector, the groups of instructions, the last vector, the watchdog's vector, the place with
+# the bit that moves the vectors, the number of its list of vectors, and its other names. `-` stands for none.
 CLASSES = """\
-atmega48pa 2048 0100 02FF 2 1 mul,movw,lpmx,break 26 7 - 0 atmega48 atmega48a atmega48p
-atmega88pa 4096 0100 04FF 2 1 mul,movw,lpmx,break 26 7 MCUCR=0055.02 0 ata6612c atmega88 atmega88a atmega88p
-atmega168pa 8192 0100 04FF 2 2 jmp,mul,movw,lpmx,break 26 7 MCUCR=0055.02 0 ata6613c atmega168 atmega168a atmega168p
-atmega328p 16384 0100 08FF 2 2 jmp,mul,movw,lpmx,break 26 7 MCUCR=0055.02 0 ata6614q atmega328
-at90can128 65536 0100 10FF 2 2 jmp,mul,movw,lpmx,elpm,elpmx,break 37 - MCUCR=0055.02 1
-at90can32 16384 0100 08FF 2 2 jmp,mul,movw,lpmx,break 37 - MCUCR=0055.02 1
-at90can64 32768 0100 10FF 2 2 jmp,mul,movw,lpmx,break 37 - MCUCR=0055.02 1
-at90pwm1 4096 0100 02FF 2 1 mul,movw,lpmx,break 32 26 MCUCR=0055.02 2
-at90pwm161 8192 0100 04FF 2 2 jmp,mul,movw,lpmx,break 20 18 MCUCR=0055.02 3
-at90pwm2 4096 0100 02FF 2 1 mul,movw,lpmx,break 32 26 MCUCR=0055.02 4 at90pwm2b at90pwm3 at90pwm3b
-at90pwm216 8192 0100 04FF 2 2 jmp,mul,movw,lpmx,break 32 26 MCUCR=0055.02 5 at90pwm316
-at90pwm81 4096 0100 01FF 2 1 mul,movw,lpmx,break 20 18 MCUCR=0055.02 3
-at90usb1286 65536 0100 20FF 2 2 jmp,mul,movw,lpmx,elpm,elpmx,break 38 13 MCUCR=0055.02 6
-at90usb1287 65536 0100 20FF 2 2 jmp,mul,movw,lpmx,elpm,elpmx,break 38 13 MCUCR=0055.02 7
-at90usb162 8192 0100 02FF 2 2 jmp,movw,lpmx,break 29 - MCUCR=0055.02 8 atmega16u2
-at90usb646 32768 0100 10FF 2 2 jmp,mul,movw,lpmx,break 38 13 MCUCR=0055.02 6
-at90usb647 32768 0100 10FF 2 2 jmp,mul,movw,lpmx,break 38 13 MCUCR=0055.02 7
-at90usb82 4096 0100 02FF 2 2 jmp,movw,lpmx,break 29 - MCUCR=0055.02 8 atmega8u2
-atmega128 65536 0100 10FF 2 2 jmp,mul,movw,lpmx,elpm,elpmx,break 35 - MCUCR=0055.02 9 atmega128a
-atmega1280 65536 0200 21FF 2 2 jmp,mul,movw,lpmx,elpm,elpmx,break 57 13 MCUCR=0055.02 10
-atmega1281 65536 0200 21FF 2 2 jmp,mul,movw,lpmx,elpm,elpmx,break 51 13 MCUCR=0055.02 11
-atmega1284p 65536 0100 40FF 2 2 jmp,mul,movw,lpmx,elpm,elpmx,break 35 9 MCUCR=0055.02 12 atmega1284
-atmega16 8192 0060 045F 2 2 jmp,mul,movw,lpmx,break 21 - GICR=005B.02 13 atmega16a
-atmega161 8192 0060 045F 2 2 jmp,mul,movw,lpmx 21 - - 14
-atmega162 8192 0100 04FF 2 2 jmp,mul,movw,lpmx,break 28 - GICR=005B.02 15
-atmega163 8192 0060 045F 2 2 jmp,mul,movw,lpmx 18 - - 16
-atmega164p 8192 0100 04FF 2 2 jmp,mul,movw,lpmx,break 31 9 MCUCR=0055.02 17 atmega164a atmega164pa
-atmega165p 8192 0100 04FF 2 2 jmp,mul,movw,lpmx,break 22 - MCUCR=0055.02 18 atmega165 atmega165a atmega165pa
-atmega168pb 8192 0100 04FF 2 2 jmp,mul,movw,lpmx,break 27 7 MCUCR=0055.02 19
-atmega169p 8192 0100 04FF 2 2 jmp,mul,movw,lpmx,break 23 - MCUCR=0055.02 20 atmega169 atmega169a atmega169pa
-atmega16m1 8192 0100 04FF 2 2 jmp,mul,movw,lpmx,break 31 29 MCUCR=0055.02 21
-atmega16u4 8192 0100 05FF 2 2 jmp,mul,movw,lpmx,break 43 13 MCUCR=0055.02 22
-atmega32 16384 0060 085F 2 2 jmp,mul,movw,lpmx,break 21 - GICR=005B.02 23 atmega32a
-atmega324p 16384 0100 08FF 2 2 jmp,mul,movw,lpmx,break 31 9 MCUCR=0055.02 24 atmega324a atmega324pa
-atmega3250p 16384 0100 08FF 2 2 jmp,mul,movw,lpmx,break 25 - MCUCR=0055.02 25 atmega3250 atmega3250a atmega3250pa
-atmega325p 16384 0100 08FF 2 2 jmp,mul,movw,lpmx,break 23 - MCUCR=0055.02 26 atmega325 atmega325a
-atmega325pa 16384 0100 08FF 2 2 jmp,mul,movw,lpmx,break 22 - MCUCR=0055.02 26
-atmega3290p 16384 0100 08FF 2 2 jmp,mul,movw,lpmx,break 25 - MCUCR=0055.02 27 atmega3290 atmega3290a atmega3290pa
-atmega329p 16384 0100 08FF 2 2 jmp,mul,movw,lpmx,break 23 - MCUCR=0055.02 28 atmega329 atmega329a atmega329pa
-atmega32c1 16384 0100 08FF 2 2 jmp,mul,movw,lpmx,break 31 29 MCUCR=0055.02 21 atmega32m1
-atmega32u2 16384 0100 04FF 2 2 jmp,movw,lpmx,break 29 - MCUCR=0055.02 8
-atmega32u4 16384 0100 0AFF 2 2 jmp,mul,movw,lpmx,break 43 13 MCUCR=0055.02 22
-atmega32u6 16384 0100 0AFF 2 2 jmp,mul,movw,lpmx,break 38 13 MCUCR=0055.02 6
-atmega48pb 2048 0100 02FF 2 1 mul,movw,lpmx,break 27 7 - 19
-atmega64 32768 0100 10FF 2 2 jmp,mul,movw,lpmx,break 35 - MCUCR=0055.02 29 atmega64a
-atmega640 32768 0200 21FF 2 2 jmp,mul,movw,lpmx,break 57 13 MCUCR=0055.02 10
-atmega644 32768 0100 10FF 2 2 jmp,mul,movw,lpmx,break 28 9 MCUCR=0055.02 30
-atmega644p 32768 0100 10FF 2 2 jmp,mul,movw,lpmx,break 31 9 MCUCR=0055.02 31 atmega644a atmega644pa
-atmega6450p 32768 0100 10FF 2 2 jmp,mul,movw,lpmx,break 25 - MCUCR=0055.02 25 atmega6450 atmega6450a
-atmega645p 32768 0100 10FF 2 2 jmp,mul,movw,lpmx,break 23 - MCUCR=0055.02 26 atmega645 atmega645a
-atmega6490p 32768 0100 10FF 2 2 jmp,mul,movw,lpmx,break 25 - MCUCR=0055.02 27 atmega6490 atmega6490a
-atmega649p 32768 0100 10FF 2 2 jmp,mul,movw,lpmx,break 23 - MCUCR=0055.02 28 atmega649 atmega649a
-atmega64c1 32768 0100 10FF 2 2 jmp,mul,movw,lpmx,break 31 29 MCUCR=0055.02 21 atmega64m1
-atmega8 4096 0060 045F 2 1 mul,movw,lpmx 19 - GICR=005B.02 32 atmega8a
-atmega8515 4096 0060 025F 2 1 mul,movw,lpmx 17 - GICR=005B.02 33
-atmega8535 4096 0060 025F 2 1 mul,movw,lpmx 21 - GICR=005B.02 34
-atmega88pb 4096 0100 04FF 2 1 mul,movw,lpmx,break 27 7 MCUCR=0055.02 19
-attiny1634 8192 0100 04FF 2 2 jmp,movw,lpmx,break 28 6 - 35
-attiny167 8192 0100 02FF 2 2 jmp,movw,lpmx,break 20 6 - 36 ata5505 ata6617c ata664251
-attiny4313 2048 0060 015F 2 1 movw,lpmx,break 21 19 - 37
-attiny43u 2048 0060 015F 2 1 movw,lpmx,break 16 5 - 38
-attiny44 2048 0060 015F 2 1 movw,lpmx,break 17 5 - 39 attiny44a
-attiny441 2048 0100 01FF 2 1 movw,lpmx,break 30 5 - 40
-attiny45 2048 0060 015F 2 1 movw,lpmx,break 15 13 - 41
-attiny461 2048 0060 015F 2 1 movw,lpmx,break 19 13 - 42 attiny461a
-attiny48 2048 0100 01FF 2 1 movw,lpmx,break 20 8 - 43
-attiny828 4096 0100 02FF 2 1 movw,lpmx,break 26 8 MCUCR=0055.02 44
-attiny84 4096 0060 025F 2 1 movw,lpmx,break 17 5 - 39 attiny84a
-attiny841 4096 0100 02FF 2 1 movw,lpmx,break 30 5 - 40
-attiny85 4096 0060 025F 2 1 movw,lpmx,break 15 13 - 41
-attiny861 4096 0060 025F 2 1 movw,lpmx,break 19 13 - 42 attiny861a
-attiny87 4096 0100 02FF 2 1 movw,lpmx,break 20 6 - 36 ata6616c
-attiny88 4096 0100 02FF 2 1 movw,lpmx,break 20 8 - 43
-at90s2313 1024 0060 00DF 1 1 - 11 - - 45
-at90s2333 1024 0060 00DF 1 1 - 14 - - 46
-at90s4414 2048 0060 015F 2 1 - 13 - - 47
-at90s4433 2048 0060 00DF 1 1 - 14 - - 46
-at90s4434 2048 0060 015F 2 1 - 17 - - 48
-at90s8515 4096 0060 025F 2 1 - 13 - - 47
-at90s8535 4096 0060 025F 2 1 - 17 - - 48
-atmega324pb 16384 0100 08FF 2 2 jmp,mul,movw,lpmx,break 51 9 MCUCR=0055.02 49
-atmega328pb 16384 0100 08FF 2 2 jmp,mul,movw,lpmx,break 45 7 MCUCR=0055.02 50
-attiny13 512 0060 009F 1 1 movw,lpmx,break 10 9 - 51 attiny13a
-attiny22 1024 0060 00DF 1 1 - 3 - - 52 at90s2323 at90s2343
-attiny2313 1024 0060 00DF 1 1 movw,lpmx,break 19 19 - 53
-attiny2313a 1024 0060 00DF 1 1 movw,lpmx,break 21 19 - 37
-attiny24 1024 0060 00DF 1 1 movw,lpmx,break 17 5 - 39 attiny24a
-attiny25 1024 0060 00DF 1 1 movw,lpmx,break 15 13 - 41
-attiny26 1024 0060 00DF 1 1 - 12 - - 54
-attiny261 1024 0060 00DF 1 1 movw,lpmx,break 19 13 - 42 attiny261a
-atmega64rfr2 32768 0200 21FF 2 2 jmp,mul,movw,lpmx,break 77 13 MCUCR=0055.02 55 atmega644rfr2
-atmega103 65536 0060 0FFF 2 2 jmp,elpm 24 - - 56
-atmega128rfa1 65536 0200 41FF 2 2 jmp,mul,movw,lpmx,elpm,elpmx,break 72 13 MCUCR=0055.02 57
-atmega128rfr2 65536 0200 41FF 2 2 jmp,mul,movw,lpmx,elpm,elpmx,break 77 13 MCUCR=0055.02 55 atmega1284rfr2
-atmega2560 131072 0200 21FF 2 2 jmp,mul,movw,lpmx,elpm,elpmx,eijmp,break 57 13 MCUCR=0055.02 10
-atmega2561 131072 0200 21FF 2 2 jmp,mul,movw,lpmx,elpm,elpmx,eijmp,break 51 13 MCUCR=0055.02 11
-atmega256rfr2 131072 0200 81FF 2 2 jmp,mul,movw,lpmx,elpm,elpmx,eijmp,break 77 13 MCUCR=0055.02 55 atmega2564rfr2
+atmega48pa 2048 0100 02FF 2 2 1 mul,movw,lpmx,break 26 7 - 0 atmega48 atmega48a atmega48p
+atmega88pa 4096 0100 04FF 2 2 1 mul,movw,lpmx,break 26 7 MCUCR=0055.02 0 ata6612c atmega88 atmega88a atmega88p
+atmega168pa 8192 0100 04FF 2 2 2 jmp,mul,movw,lpmx,break 26 7 MCUCR=0055.02 0 ata6613c atmega168 atmega168a atmega168p
+atmega328p 16384 0100 08FF 2 2 2 jmp,mul,movw,lpmx,break 26 7 MCUCR=0055.02 0 ata6614q atmega328
+at90can128 65536 0100 10FF 2 2 2 jmp,mul,movw,lpmx,elpm,elpmx,break 37 - MCUCR=0055.02 1
+at90can32 16384 0100 08FF 2 2 2 jmp,mul,movw,lpmx,break 37 - MCUCR=0055.02 1
+at90can64 32768 0100 10FF 2 2 2 jmp,mul,movw,lpmx,break 37 - MCUCR=0055.02 1
+at90pwm1 4096 0100 02FF 2 2 1 mul,movw,lpmx,break 32 26 MCUCR=0055.02 2
+at90pwm161 8192 0100 04FF 2 2 2 jmp,mul,movw,lpmx,break 20 18 MCUCR=0055.02 3
+at90pwm2 4096 0100 02FF 2 2 1 mul,movw,lpmx,break 32 26 MCUCR=0055.02 4 at90pwm2b at90pwm3 at90pwm3b
+at90pwm216 8192 0100 04FF 2 2 2 jmp,mul,movw,lpmx,break 32 26 MCUCR=0055.02 5 at90pwm316
+at90pwm81 4096 0100 01FF 2 2 1 mul,movw,lpmx,break 20 18 MCUCR=0055.02 3
+at90usb1286 65536 0100 20FF 2 2 2 jmp,mul,movw,lpmx,elpm,elpmx,break 38 13 MCUCR=0055.02 6
+at90usb1287 65536 0100 20FF 2 2 2 jmp,mul,movw,lpmx,elpm,elpmx,break 38 13 MCUCR=0055.02 7
+at90usb162 8192 0100 02FF 2 2 2 jmp,movw,lpmx,break 29 - MCUCR=0055.02 8 atmega16u2
+at90usb646 32768 0100 10FF 2 2 2 jmp,mul,movw,lpmx,break 38 13 MCUCR=0055.02 6
+at90usb647 32768 0100 10FF 2 2 2 jmp,mul,movw,lpmx,break 38 13 MCUCR=0055.02 7
+at90usb82 4096 0100 02FF 2 2 2 jmp,movw,lpmx,break 29 - MCUCR=0055.02 8 atmega8u2
+atmega128 65536 0100 10FF 2 2 2 jmp,mul,movw,lpmx,elpm,elpmx,break 35 - MCUCR=0055.02 9 atmega128a
+atmega1280 65536 0200 21FF 2 2 2 jmp,mul,movw,lpmx,elpm,elpmx,break 57 13 MCUCR=0055.02 10
+atmega1281 65536 0200 21FF 2 2 2 jmp,mul,movw,lpmx,elpm,elpmx,break 51 13 MCUCR=0055.02 11
+atmega1284p 65536 0100 40FF 2 2 2 jmp,mul,movw,lpmx,elpm,elpmx,break 35 9 MCUCR=0055.02 12 atmega1284
+atmega16 8192 0060 045F 2 2 2 jmp,mul,movw,lpmx,break 21 - GICR=005B.02 13 atmega16a
+atmega161 8192 0060 045F 2 2 2 jmp,mul,movw,lpmx 21 - - 14
+atmega162 8192 0100 04FF 2 2 2 jmp,mul,movw,lpmx,break 28 - GICR=005B.02 15
+atmega163 8192 0060 045F 2 2 2 jmp,mul,movw,lpmx 18 - - 16
+atmega164p 8192 0100 04FF 2 2 2 jmp,mul,movw,lpmx,break 31 9 MCUCR=0055.02 17 atmega164a atmega164pa
+atmega165p 8192 0100 04FF 2 2 2 jmp,mul,movw,lpmx,break 22 - MCUCR=0055.02 18 atmega165 atmega165a atmega165pa
+atmega168pb 8192 0100 04FF 2 2 2 jmp,mul,movw,lpmx,break 27 7 MCUCR=0055.02 19
+atmega169p 8192 0100 04FF 2 2 2 jmp,mul,movw,lpmx,break 23 - MCUCR=0055.02 20 atmega169 atmega169a atmega169pa
+atmega16m1 8192 0100 04FF 2 2 2 jmp,mul,movw,lpmx,break 31 29 MCUCR=0055.02 21
+atmega16u4 8192 0100 05FF 2 2 2 jmp,mul,movw,lpmx,break 43 13 MCUCR=0055.02 22
+atmega32 16384 0060 085F 2 2 2 jmp,mul,movw,lpmx,break 21 - GICR=005B.02 23 atmega32a
+atmega324p 16384 0100 08FF 2 2 2 jmp,mul,movw,lpmx,break 31 9 MCUCR=0055.02 24 atmega324a atmega324pa
+atmega3250p 16384 0100 08FF 2 2 2 jmp,mul,movw,lpmx,break 25 - MCUCR=0055.02 25 atmega3250 atmega3250a atmega3250pa
+atmega325p 16384 0100 08FF 2 2 2 jmp,mul,movw,lpmx,break 23 - MCUCR=0055.02 26 atmega325 atmega325a
+atmega325pa 16384 0100 08FF 2 2 2 jmp,mul,movw,lpmx,break 22 - MCUCR=0055.02 26
+atmega3290p 16384 0100 08FF 2 2 2 jmp,mul,movw,lpmx,break 25 - MCUCR=0055.02 27 atmega3290 atmega3290a atmega3290pa
+atmega329p 16384 0100 08FF 2 2 2 jmp,mul,movw,lpmx,break 23 - MCUCR=0055.02 28 atmega329 atmega329a atmega329pa
+atmega32c1 16384 0100 08FF 2 2 2 jmp,mul,movw,lpmx,break 31 29 MCUCR=0055.02 21 atmega32m1
+atmega32u2 16384 0100 04FF 2 2 2 jmp,movw,lpmx,break 29 - MCUCR=0055.02 8
+atmega32u4 16384 0100 0AFF 2 2 2 jmp,mul,movw,lpmx,break 43 13 MCUCR=0055.02 22
+atmega32u6 16384 0100 0AFF 2 2 2 jmp,mul,movw,lpmx,break 38 13 MCUCR=0055.02 6
+atmega48pb 2048 0100 02FF 2 2 1 mul,movw,lpmx,break 27 7 - 19
+atmega64 32768 0100 10FF 2 2 2 jmp,mul,movw,lpmx,break 35 - MCUCR=0055.02 29 atmega64a
+atmega640 32768 0200 21FF 2 2 2 jmp,mul,movw,lpmx,break 57 13 MCUCR=0055.02 10
+atmega644 32768 0100 10FF 2 2 2 jmp,mul,movw,lpmx,break 28 9 MCUCR=0055.02 30
+atmega644p 32768 0100 10FF 2 2 2 jmp,mul,movw,lpmx,break 31 9 MCUCR=0055.02 31 atmega644a atmega644pa
+atmega6450p 32768 0100 10FF 2 2 2 jmp,mul,movw,lpmx,break 25 - MCUCR=0055.02 25 atmega6450 atmega6450a
+atmega645p 32768 0100 10FF 2 2 2 jmp,mul,movw,lpmx,break 23 - MCUCR=0055.02 26 atmega645 atmega645a
+atmega6490p 32768 0100 10FF 2 2 2 jmp,mul,movw,lpmx,break 25 - MCUCR=0055.02 27 atmega6490 atmega6490a
+atmega649p 32768 0100 10FF 2 2 2 jmp,mul,movw,lpmx,break 23 - MCUCR=0055.02 28 atmega649 atmega649a
+atmega64c1 32768 0100 10FF 2 2 2 jmp,mul,movw,lpmx,break 31 29 MCUCR=0055.02 21 atmega64m1
+atmega8 4096 0060 045F 2 2 1 mul,movw,lpmx 19 - GICR=005B.02 32 atmega8a
+atmega8515 4096 0060 025F 2 2 1 mul,movw,lpmx 17 - GICR=005B.02 33
+atmega8535 4096 0060 025F 2 2 1 mul,movw,lpmx 21 - GICR=005B.02 34
+atmega88pb 4096 0100 04FF 2 2 1 mul,movw,lpmx,break 27 7 MCUCR=0055.02 19
+attiny1634 8192 0100 04FF 2 2 2 jmp,movw,lpmx,break 28 6 - 35
+attiny167 8192 0100 02FF 2 2 2 jmp,movw,lpmx,break 20 6 - 36 ata5505 ata6617c ata664251
+attiny4313 2048 0060 015F 2 2 1 movw,lpmx,break 21 19 - 37
+attiny43u 2048 0060 015F 2 2 1 movw,lpmx,break 16 5 - 38
+attiny44 2048 0060 015F 2 2 1 movw,lpmx,break 17 5 - 39 attiny44a
+attiny441 2048 0100 01FF 2 2 1 movw,lpmx,break 30 5 - 40
+attiny45 2048 0060 015F 2 2 1 movw,lpmx,break 15 13 - 41
+attiny461 2048 0060 015F 2 2 1 movw,lpmx,break 19 13 - 42 attiny461a
+attiny48 2048 0100 01FF 2 2 1 movw,lpmx,break 20 8 - 43
+attiny828 4096 0100 02FF 2 2 1 movw,lpmx,break 26 8 MCUCR=0055.02 44
+attiny84 4096 0060 025F 2 2 1 movw,lpmx,break 17 5 - 39 attiny84a
+attiny841 4096 0100 02FF 2 2 1 movw,lpmx,break 30 5 - 40
+attiny85 4096 0060 025F 2 2 1 movw,lpmx,break 15 13 - 41
+attiny861 4096 0060 025F 2 2 1 movw,lpmx,break 19 13 - 42 attiny861a
+attiny87 4096 0100 02FF 2 2 1 movw,lpmx,break 20 6 - 36 ata6616c
+attiny88 4096 0100 02FF 2 2 1 movw,lpmx,break 20 8 - 43
+at90s2313 1024 0060 00DF 1 2 1 - 11 - - 45
+at90s2333 1024 0060 00DF 1 2 1 - 14 - - 46
+at90s4414 2048 0060 015F 2 2 1 - 13 - - 47
+at90s4433 2048 0060 00DF 1 2 1 - 14 - - 46
+at90s4434 2048 0060 015F 2 2 1 - 17 - - 48
+at90s8515 4096 0060 025F 2 2 1 - 13 - - 47
+at90s8535 4096 0060 025F 2 2 1 - 17 - - 48
+atmega324pb 16384 0100 08FF 2 2 2 jmp,mul,movw,lpmx,break 51 9 MCUCR=0055.02 49
+atmega328pb 16384 0100 08FF 2 2 2 jmp,mul,movw,lpmx,break 45 7 MCUCR=0055.02 50
+attiny13 512 0060 009F 1 2 1 movw,lpmx,break 10 9 - 51 attiny13a
+attiny22 1024 0060 00DF 1 2 1 - 3 - - 52 at90s2323 at90s2343
+attiny2313 1024 0060 00DF 1 2 1 movw,lpmx,break 19 19 - 53
+attiny2313a 1024 0060 00DF 1 2 1 movw,lpmx,break 21 19 - 37
+attiny24 1024 0060 00DF 1 2 1 movw,lpmx,break 17 5 - 39 attiny24a
+attiny25 1024 0060 00DF 1 2 1 movw,lpmx,break 15 13 - 41
+attiny26 1024 0060 00DF 1 2 1 - 12 - - 54
+attiny261 1024 0060 00DF 1 2 1 movw,lpmx,break 19 13 - 42 attiny261a
+atmega64rfr2 32768 0200 21FF 2 2 2 jmp,mul,movw,lpmx,break 77 13 MCUCR=0055.02 55 atmega644rfr2
+atmega103 65536 0060 0FFF 2 2 2 jmp,elpm 24 - - 56
+atmega128rfa1 65536 0200 41FF 2 2 2 jmp,mul,movw,lpmx,elpm,elpmx,break 72 13 MCUCR=0055.02 57
+atmega128rfr2 65536 0200 41FF 2 2 2 jmp,mul,movw,lpmx,elpm,elpmx,break 77 13 MCUCR=0055.02 55 atmega1284rfr2
+atmega2560 131072 0200 21FF 2 3 2 jmp,mul,movw,lpmx,elpm,elpmx,eijmp,break 57 13 MCUCR=0055.02 10
+atmega2561 131072 0200 21FF 2 3 2 jmp,mul,movw,lpmx,elpm,elpmx,eijmp,break 51 13 MCUCR=0055.02 11
+atmega256rfr2 131072 0200 81FF 2 3 2 jmp,mul,movw,lpmx,elpm,elpmx,eijmp,break 77 13 MCUCR=0055.02 55 atmega2564rfr2
 """
 
 # The names that the compiler takes and that are left out, each with the reason.
@@ -140,6 +140,14 @@ atmega64hve battery manager: 6 to 9 vectors without a known bit
 atmega64hve2 battery manager: 6 to 9 vectors without a known bit
 atmega8hva battery manager: 6 to 9 vectors without a known bit
 m3000 the header names no vectors
+"""
+
+# The data addresses of the registers that headers name, of devices with a vector whose enable bit none has.
+NAMED = """\
+attiny1634 0020-004D 004F-0050 0052-0057 0059-007F
+attiny828 0020-002F 0034-0036 003B-0041 0043-0048 004A-0050 0053-0057 005D-0061 0064 0066-0069 006B-006F 0073 0078-0082 0084-008B 00B8-00BD 00C0-00C6 00DE-00DF 00E2 00E8-00E9 00F0-00F1
+atmega324pb 0020-002E 0035-0039 003B-0048 004A-0050 0053-0055 0057 005D-0061 0064-0066 0068-0069 006B-0073 0078-007C 007E-0082 0084-008B 0090-0092 0094-009B 00AC-00AE 00B0-00B4 00B6 00B8-00BD 00C0-00C2 00C4-00C6 00C8-00CA 00CC-00CE 00D8-00DD
+atmega328pb 0023-002E 0035-0039 003B-0048 004A-0050 0053-0055 0057 005D-0061 0064-0066 0068-0069 006B-0073 0078-007C 007E-0082 0084-008B 0090-0092 0094-009B 00AC-00AE 00B0-00B4 00B6 00B8-00BD 00C0-00C2 00C4-00C6 00C8-00CA 00CC-00CE 00D8-00DD
 """
 
 # The lists of vectors. A line for each: its number; the places of its enable bit (names of the register, data address, mask), behind `~` if

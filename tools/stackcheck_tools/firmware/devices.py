@@ -8,7 +8,7 @@ import re
 from typing import TYPE_CHECKING, Iterator, List, NamedTuple, Optional, Tuple
 
 from stackcheck_tools.finding import Fault
-from stackcheck_tools.firmware.device_table import CLASSES, LEFT_OUT, VECTORS
+from stackcheck_tools.firmware.device_table import CLASSES, LEFT_OUT, NAMED, VECTORS
 
 if TYPE_CHECKING:
     from stackcheck_tools.firmware.elf import Elf
@@ -16,6 +16,7 @@ if TYPE_CHECKING:
 FIRST = ("atmega48pa", "atmega88pa", "atmega168pa", "atmega328p")  # those of certificates without a device's name
 DEFAULT = "atmega328p"  # the one that stackbound takes without --device
 MOST_NEAR, ALIKE = 4, 0.85
+R0_TO_R31 = 32  # data addresses of the working registers
 # protected registers with their data addresses; some devices lack SPH, RAMPZ or EIND
 CORE = {**{f"r{n}": n for n in range(32)}, "RAMPZ": 0x5B, "EIND": 0x5C, "SPL": 0x5D, "SPH": 0x5E, "SREG": 0x5F}
 OTHER_CORES = (  # names of chips that no row of the table can describe, and why
@@ -57,23 +58,23 @@ class Vector:
 
 
 class Device:
-    """A class of equal devices, by a line of the table: `words` of flash, the `first` and the `last` byte of SRAM, how many words a vector
-    has, the `last_vector`, and the vector of the `watchdog`. `vectors` has the name of each vector that may come, by number; `registers`
+    """A class of equal devices, by a line of the table: `words` of flash, the `first` and the `last` byte of SRAM, the bytes of a return
+    address (`back`), how many words a vector has, the `last_vector`, and the vector of the `watchdog`. `vectors` has the name of each vector that may come, by number; `registers`
     the protected addresses by name; `enabling` those of registers that enable interrupts; `handlers` the functions of handlers by their
     vectors' names; `moving` the bit that moves the vectors; `core` the registers of the core, with SPH where it `has_sph`; `banks` which of
     RAMPZ and EIND it has."""
 
     def __init__(self, row: List[str]) -> None:
-        self.name, self.words, self.vector_words, self.last_vector = row[0], int(row[1]), int(row[5]), int(row[7])
+        self.name, self.words, self.back, self.vector_words, self.last_vector = row[0], int(row[1]), *map(int, (row[5], row[6], row[8]))
         self.first, self.last = int(row[2], 16), int(row[3], 16)
         self.has_sph = row[4] == "2"
-        self.groups = frozenset(row[6].split(","))
+        self.groups = frozenset(row[7].split(","))
         self.banks = [name for name, group in (("RAMPZ", "elpm"), ("EIND", "eijmp")) if group in self.groups]
         lacking = {*(() if self.has_sph else ("SPH",)), *({"RAMPZ", "EIND"} - set(self.banks))}
         self.core = {name: it for name, it in CORE.items() if name not in lacking}
-        self.watchdog = None if row[8] == "-" else int(row[8])
-        self.moving = None if row[9] == "-" else place(row[9])
-        self.rows = {int(number): Vector(how, names) for number, how, *names in map(str.split, VECTORS[int(row[10])].splitlines())}
+        self.watchdog = None if row[9] == "-" else int(row[9])
+        self.moving = None if row[10] == "-" else place(row[10])
+        self.rows = {int(number): Vector(how, names) for number, how, *names in map(str.split, VECTORS[int(row[11])].splitlines())}
         self.vectors = {number: it.names[0] for number, it in self.rows.items()}
         self.handlers = {name: f"__vector_{number - 1}" for number, it in self.rows.items() for name in it.names}
         places = [it for row in self.rows.values() for it in row.places]
@@ -121,16 +122,29 @@ class Device:
         """Whether no known bit enables a vector, which then counts as enabled."""
         return not self.rows[vector].places
 
+    def is_nameless(self, address: int) -> bool:
+        """Whether no header names the register at a data address, on a device with a vector whose enable bit none names: it may have the
+        bit."""
+        return R0_TO_R31 <= address < self.first and not any(begin <= address <= end for begin, end in spans_of(self.name))
+
     def enables_text(self, enables: int) -> str:
         """Enable bits as a certificate writes them, whose lowest is that of vector 2."""
         return f"{enables:0{(self.last_vector + 2) // 4}X}"
+
+
+@functools.lru_cache(maxsize=None)
+def spans_of(name: str) -> Tuple[Tuple[int, int], ...]:
+    """The spans of data addresses of the registers that headers name, of a device with a vector whose enable bit none has."""
+    spans: List[str] = next((line.split()[1:] for line in NAMED.splitlines() if line.split()[0] == name), [])
+    parts = ((first, last or first) for first, _, last in (it.partition("-") for it in spans))
+    return tuple((int(first, 16), int(last, 16)) for first, last in parts)
 
 
 def table() -> Iterator[Tuple[str, List[str]]]:
     """Yields each name that the compiler takes, with the words of its line of the table."""
     for line in CLASSES.splitlines():
         row = line.split()
-        yield from ((name, row) for name in (row[0], *row[11:]))
+        yield from ((name, row) for name in (row[0], *row[12:]))
 
 
 NAMES = dict(table())

@@ -8,8 +8,6 @@ from stackcheck_tools.analysis.outcome import Accepted
 from stackcheck_tools.firmware import opcodes
 from stackcheck_tools.firmware.elf import Elf
 
-RETURN = 2  # bytes of a return address
-
 
 class Entry:
     """Where an instance enters another: the number of the other, and the greatest depth below its own entry at which it begins."""
@@ -49,7 +47,7 @@ class Graph:
     """`instances` in the order of the certificate, the first of which is the start."""
 
     def __init__(self, outcome: Accepted) -> None:
-        self.outcome = outcome
+        self.outcome, self.back = outcome, outcome.firmware.device.back
         self.instances: List[Instance] = []
         self.by_key: Dict[Tuple[str, int, str, str], int] = {}
         self.lines: Dict[int, Set[int]] = {}
@@ -81,7 +79,7 @@ class Graph:
         """What the spec's recursions enter counts as entered by the start, at their depths."""
         for number, it in enumerate(self.instances):
             if it.kind == "call" and it.entry in self.depths:
-                self.instances[0].enter(number, self.depths[it.entry] + RETURN, False)
+                self.instances[0].enter(number, self.depths[it.entry] + self.back, False)
 
     def node(self, words: List[str]) -> None:
         """What a node adds to its instance: its offset, and what may be entered there."""
@@ -101,7 +99,7 @@ class Graph:
         for target in targets:
             other = self.by_key.get(("call", target, enables, flag))
             if other is not None and self.fits(instance, other, offset):
-                instance.enter(other, offset + RETURN, False)
+                instance.enter(other, offset + self.back, False)
 
     def interrupts(self, instance: Instance, enables: int, offset: int) -> None:
         device = self.outcome.firmware.device
@@ -110,7 +108,7 @@ class Graph:
                 entry = device.vector_word(vector)
                 for number in self.handlers(vector, entry, enables):
                     if self.fits(instance, number, offset):
-                        instance.enter(number, offset + RETURN, True)
+                        instance.enter(number, offset + self.back, True)
 
     def handlers(self, vector: int, entry: int, enables: int) -> Iterator[int]:
         """The instances of a handler that may be entered under these enables: WDT clears its own bit, as it may have been set to."""
@@ -121,7 +119,7 @@ class Graph:
                 yield number
 
     def fits(self, instance: Instance, other: int, offset: int) -> bool:
-        return self.instances[other].rank < instance.rank and offset + RETURN + self.instances[other].need <= instance.need
+        return self.instances[other].rank < instance.rank and offset + self.back + self.instances[other].need <= instance.need
 
     def settle(self, instance: Instance) -> None:
         """The bytes of an instance with its calls and without interrupts; all that it enters by calls is settled before."""

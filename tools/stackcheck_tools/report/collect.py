@@ -44,7 +44,7 @@ def to_review(outcome: Accepted, words: Namespace) -> List[places.Place]:
 def nesting(it: Recursion) -> Nesting:
     """A line `recursion` with its deepest entry."""
     entry = max(it.entries, key=lambda word: it.depths.get(word, 0))
-    return Nesting(it.name, it.count, it.depths.get(entry, 0), it.steps.get(entry) or None)
+    return Nesting(it.name, it.count, it.depths.get(entry, 0), it.steps.get(entry) or None, it.is_by_runs())
 
 
 def edges(graph: Graph) -> Tuple[Edge, ...]:
@@ -82,7 +82,7 @@ def result(outcome: Outcome, words: Namespace, command: Tuple[str, ...], folder:
     number, chain = bound(outcome), tuple(outcome.chain)
     findings = (*flag(outcome), *limits.findings(number, words, limits.asked(words, settings.read(outcome.spec)), head.spec,
                                                    since.bound if since else None, chain),
-                *place_findings.findings(outcome, to_review(outcome, words)), *remarks.findings(outcome, head.spec))
+                *place_findings.findings(outcome, to_review(outcome, words), words.accept_places), *remarks.findings(outcome, head.spec))
     return replace(
         head, findings=findings, certificate=outcome.certificate.split("\n", 1)[0], bound=number, chain=chain, needs=table,
         recursions=tuple(map(nesting, outcome.recursions)),

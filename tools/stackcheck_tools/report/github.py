@@ -21,7 +21,8 @@ def line(it: Finding) -> str:
     """`::error file=..,line=..,title=..::..`, at the first place that has a source line."""
     at = it.at_line()
     where = f"file={value(at.file or '')},line={at.line}," if at else ""
-    more = [f"cause: {it.why}"] * bool(it.why) + [f"cure: {it.cure}"] * bool(it.cure) + [f"to record a review: {it.record}"] * bool(it.record)
+    told = (("cause", it.why), ("cure", it.cure), ("to record a review", it.record))
+    more = [f"{what}: {text}" for what, text in told if text]
     return f"::{it.level} {where}title={value(f'{it.rule} {BY_ID[it.rule].name}')}::{escaped('; '.join([it.message, *more]))}"
 
 

@@ -31,7 +31,10 @@ def schedule(outcome: Accepted) -> Optional[str]:
 def spec_of(outcome: Outcome, result: Result) -> Iterator[str]:
     """The given spec, and behind it the lines that this tool added, with their places."""
     yield from outcome.spec.splitlines()
-    yield from (f"{it.spec or '# no name: ' + it.assumption}  # {it.note or 'not an assumption'}" for it in result.lines if it.origin == "tool")
+    if not isinstance(outcome, Refused):
+        yield from (f"# {it.line()}" for it in outcome.recursions if it.is_by_runs())
+    own = [it for it in result.lines if it.origin == "tool"]
+    yield from (f"{it.spec or '# no name: ' + it.assumption}  # {it.note or 'not an assumption'}" for it in own)
 
 
 def of_analysis(outcome: Outcome, result: Result) -> Dict[str, Optional[str]]:
@@ -44,7 +47,9 @@ def of_analysis(outcome: Outcome, result: Result) -> Dict[str, Optional[str]]:
 
 def same(one: str, other: str) -> bool:
     """Whether two paths are those of one file."""
-    return os.path.realpath(one) == os.path.realpath(other) or os.path.exists(one) and os.path.exists(other) and os.path.samefile(one, other)
+    if os.path.exists(one) and os.path.exists(other):
+        return os.path.samefile(one, other)
+    return os.path.realpath(one) == os.path.realpath(other)
 
 
 def paths(words: Namespace) -> Iterator[Tuple[str, str]]:
@@ -82,7 +87,7 @@ def fault(words: Namespace) -> Optional[str]:
         elif why := fault_of(name, path, words):
             return why
         key = path if path == "-" else os.path.realpath(path)
-        if key in seen and os.path.isfile(path) | (not os.path.exists(path)):
+        if key in seen and (os.path.isfile(path) or not os.path.exists(path)):
             return f"{name}: {seen[key]} has this file already"
         seen[key] = name
     return None

@@ -18,8 +18,8 @@ OWN, WITH_CALLS, WITH_INTERRUPTS = "#3f6fb5", "#6a92d0", "#cf7a2a"
 KEYS = (("own", OWN), ("calls", WITH_CALLS), ("interrupts", WITH_INTERRUPTS))
 GREEN, AMBER, GREY = "var(--green)", "var(--amber)", "var(--edge)"
 MOST_LETTERS = 120  # of a source line
-TERMS = ("a <em>place</em> is an instruction at which the analysis cannot rule out a flagged step; <em>attained</em>: a run as deep as the bound "
-         "is known (docs/BUILDS.md)")
+TERMS = ("a <em>place</em> is an instruction at which the analysis cannot rule out a flagged step; <em>attained</em>: a run as deep as the "
+         "bound is known (docs/BUILDS.md)")
 
 
 def with_code(text: str) -> str:
@@ -81,7 +81,8 @@ def needs_table(result: Result) -> Iterator[str]:
     most = max((it.interrupts for it in result.needs), default=0) or 1
     key = " ".join(f'<i style="background:{colour}"></i>{name}' for name, colour in KEYS)
     yield '<h2>What each function needs</h2><table><tr><th scope="col">function</th>'
-    yield "".join(f'<th class="count" scope="col">{name}</th>' for name in COLUMNS.split(", ")) + f'<th class="key" scope="col">{key}</th></tr>'
+    yield "".join(f'<th class="count" scope="col">{name}</th>' for name in COLUMNS.split(", "))
+    yield f'<th class="key" scope="col">{key}</th></tr>'
     for it in result.needs:
         lengths = "".join(f'<i style="width:{100 * count / most:.1f}%;background:{colour}"></i>' for count, colour in (
             (it.own, OWN), (it.calls - it.own, WITH_CALLS), (it.interrupts - it.calls, WITH_INTERRUPTS)) if count)
@@ -225,14 +226,14 @@ def refused(result: Result) -> Iterator[str]:
 def footer(result: Result) -> str:
     """Who wrote the page, by which command."""
     spec = f" · spec {escape(result.spec)}" if result.spec else ""
-    return (f"<footer>stackcheck {escape(result.version)} · <code>{escape(shlex.join(result.command))}</code> · {escape(result.device)}{spec} · "
-            f"{TERMS}</footer>")
+    call = f"<code>{escape(shlex.join(result.command))}</code>"
+    return f"<footer>stackcheck {escape(result.version)} · {call} · {escape(result.device)}{spec} · {TERMS}</footer>"
 
 
 def html(result: Result) -> str:
     name = escape(os.path.basename(result.firmware))
     return "\n".join([
-        '<!DOCTYPE html>', '<html lang="en"><head><meta charset="utf-8"><meta name="viewport" content="width=device-width, initial-scale=1">'
-                           f"<title>Stack of {name}</title>", f"<style>{STYLE}</style></head><body><main>",
+        "<!DOCTYPE html>", '<html lang="en"><head><meta charset="utf-8">'
+                           '<meta name="viewport" content="width=device-width, initial-scale=1">' f"<title>Stack of {name}</title>", f"<style>{STYLE}</style></head><body><main>",
         f"<h1>Stack of {name}</h1>", f'<p class="what">{escape(texts.device(result).partition(" ")[2])}</p>',
         *(refused(result) if result.bound is None else accepted(result, result.bound)), "</main>", footer(result), "</body></html>", ""])

@@ -6,7 +6,7 @@ from typing import Dict, Iterable, Iterator, List, Tuple
 
 from stackcheck_tools import colour
 from stackcheck_tools.analysis import kinds
-from stackcheck_tools.analysis.kinds import GIVEN, SAFETY, WHOLE
+from stackcheck_tools.analysis.kinds import GIVEN, SAFETY, UNUSED, WHOLE
 from stackcheck_tools.finding import ERROR, NOTE, ORDINARY, WARNING, Added, Bound, Finding, Location, Need, Nesting, Result, Since, Without
 from stackcheck_tools.report.needs import COLUMNS
 from stackcheck_tools.spec.recursion import PLACE
@@ -14,7 +14,8 @@ from stackcheck_tools.spec.recursion import PLACE
 MOST_WORDS = 4  # word addresses that one place prints
 GROUPS = "21435"  # of rules, the worst first
 COLOURS = {ERROR: colour.RED, WARNING: colour.YELLOW}
-RELIES = {SAFETY: "rel{y} on memory safety", WHOLE: "on complete call targets", GIVEN: "stated by the spec", PLACE: "limited by a recursion line"}
+RELIES = {SAFETY: "rel{y} on memory safety", WHOLE: "on complete call targets", UNUSED: "on unused units", GIVEN: "stated by the spec",
+          PLACE: "limited by a recursion line"}
 
 
 def where(it: Finding, firmware: str) -> str:
@@ -88,7 +89,8 @@ def line_of(it: Added) -> str:
 def nested(it: Nesting) -> str:
     """What a line `recursion` came to."""
     more = f" ({it.step} for each further activation)" if it.step else ""
-    return f"recursion {it.function} {it.activations}: calls up to {it.depth} bytes deep{more}"
+    seen = ", as deep as the simulated runs" if it.by_runs else ""
+    return f"recursion {it.function} {it.activations}{seen}: calls up to {it.depth} bytes deep{more}"
 
 
 def premises(result: Result) -> Iterator[str]:

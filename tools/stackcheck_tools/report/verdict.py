@@ -57,7 +57,8 @@ def of_language(outcome: Accepted) -> Optional[str]:
 def holds(outcome: Accepted) -> str:
     """Of which runs the bound holds."""
     conditions = [*recursion.conditions(outcome.recursions),
-                  *(condition(outcome, kind, count) for kind in ORDINARY if (count := count_of(outcome, (kind,))))]
+                  *(condition(outcome, kind, count) for kind in ORDINARY if kind in CONDITIONS and (count := count_of(outcome, (kind,)))),
+                  *recursion.conditions_by_runs(outcome.recursions)]
     language = of_language(outcome)
     given = " that keeps to the lines of the spec" if count_of(outcome, (GIVEN,)) else ""
     if conditions:

@@ -12,13 +12,13 @@ from stackcheck_tools.firmware.elf import Elf
 from stackcheck_tools.firmware.names import SpecFault, functions, shown
 
 if TYPE_CHECKING:
-    from stackcheck_tools.analysis.trials import Stop
     from stackcheck_tools.firmware.firmware import Firmware
     from stackcheck_tools.spec.lines import Lines
 
-RETURN = 2  # bytes of a return address
 KIND = "recur"
-PLACE = "recursion"  # a kind of places: calls of which such a line speaks
+KIND_OF_SPEC = "recursion"
+PLACE = "recursion"  # a kind of places: calls of which such a line of the spec speaks
+BY_RUNS = "recursion by runs"  # those of which a line speaks that simulated runs made
 MOST_STATES = 2_000_000  # tuples of counts with an instance each
 LEAST_GREATEST = 2048  # the greatest K on a device with less SRAM
 
@@ -26,9 +26,10 @@ Counts = Tuple[int, ...]
 
 
 class Recursion:
-    """A line of a spec: its number and text, the words of the function, the most activations at a time, why, and the depth of each word."""
+    """A line of a spec: its number and text, the words of the function, the most activations at a time, why, and the depth of each word. One
+    without a number in the spec has as many activations as simulated runs reached."""
 
-    def __init__(self, number: int, name: str, entries: List[int], count: int, why: str) -> None:
+    def __init__(self, number: Optional[int], name: str, entries: List[int], count: int, why: str) -> None:
         self.number, self.name, self.entries, self.count = number, name, entries, count
         self.why = why or f"`recursion {name} {count}`"
         self.depths: Dict[int, int] = {}
@@ -37,12 +38,18 @@ class Recursion:
     def end(self) -> str:
         return ""
 
-    def told(self) -> str:
-        """What the line came to: the deepest call, and what each further activation takes."""
-        entry = max(self.entries, key=lambda it: self.depths.get(it, 0))
-        step = self.steps.get(entry)
-        more = f" ({step} for each further activation)" if step else ""
-        return f"recursion {self.name} {self.count}: calls up to {self.depths.get(entry, 0)} bytes deep{more}"
+    def is_by_runs(self) -> bool:
+        return self.number is None
+
+    def line(self) -> str:
+        """The line as it is to be copied: with the number only if runs have shown one."""
+        seen = f"simulated runs reached {self.count}" if self.count > 1 else "no simulated run called it again"
+        count = str(self.count) if self.count > 1 else "N"
+        return f"{KIND_OF_SPEC} {self.name} {count}  # {seen}: write the greatest number possible, and why"
+
+    def by_runs(self) -> str:
+        """What is told of a call of such a function."""
+        return f"calls {self.name}, of which the simulated runs had at most {self.count} on the stack"
 
 
 def read(elf: Elf, number: int, words: List[str], why: str) -> Recursion:
@@ -149,8 +156,8 @@ class Nest:
                     continue
                 found[edge.cut][counts[edge.cut]] = max(found[edge.cut][counts[edge.cut]], depth)
                 to = counts[:edge.cut] + (counts[edge.cut] + 1,) + counts[edge.cut + 1:]
-            if base.get((to, edge.to), -1) < depth + RETURN:
-                base[to, edge.to] = depth + RETURN
+            if base.get((to, edge.to), -1) < depth + self.device.back:
+                base[to, edge.to] = depth + self.device.back
 
 
 def numbered(recursions: List[Recursion]) -> List[Tuple[int, Recursion]]:
@@ -189,7 +196,13 @@ def line_at(recursions: List[Recursion], word: Optional[int]) -> Optional[Recurs
 
 def conditions(recursions: List[Recursion]) -> Iterator[str]:
     """Yields what the first line says of them."""
-    yield from (f"{it.name} nests at most {it.count} deep" for it in recursions)
+    yield from (f"{it.name} nests at most {it.count} deep" for it in recursions if not it.is_by_runs())
+
+
+def conditions_by_runs(recursions: List[Recursion]) -> Iterator[str]:
+    """Yields the same of those without a line in the spec."""
+    if by_runs := [f"{it.name} nests at most {it.count} deep" for it in recursions if it.is_by_runs()]:
+        yield " and ".join(by_runs) + ", as deep as the runs of this call"
 
 
 def of_call(elf: Elf, lines: Lines, recursions: List[Recursion], word: int) -> Optional[Recursion]:
@@ -197,16 +210,6 @@ def of_call(elf: Elf, lines: Lines, recursions: List[Recursion], word: int) -> O
     target = opcodes.call_target(elf, word)
     targets = {target} if target is not None else lines.of(word, "jump") if opcodes.is_call(elf.word(word)) else set()
     return next((found for it in sorted(targets) if (found := line_at(recursions, it))), None)
-
-
-def text_of_stop(firmware: Firmware, recursions: List[Recursion], stop: Stop) -> Optional[str]:
-    """What a trial run says that passes a line; None of another stop."""
-    found = line_at(recursions, stop.other) if stop.kind == "transfer" else None
-    if found is None:
-        return None
-    at = f"{firmware.device.word(stop.word)} {firmware.place(stop.word)}"
-    return (f"FLAGGED: a simulated run calls {found.name} while {found.count} of it stand on the stack, at {at}: "
-            f"{found.count} is too small in `recursion {found.name} {found.count}`; the bound covers only what comes before")
 
 
 def name_of_entry(firmware: Firmware, entry: int) -> str:

@@ -106,7 +106,8 @@ def is_of_form(kind: str, rest: List[str]) -> bool:
     form = FORMS[kind].split()
     if kind in AT_SITES and rest and AT_LINE.match(rest[0]):
         form.pop(0)
-    return len(rest) >= len(form) if form[-1:] == [".."] else len(rest) == len(form)
+    least = len(form) - (kind == scratch.KIND)  # one number is enough there
+    return len(rest) >= least if form[-1:] == [".."] else len(rest) == len(form)
 
 
 def words_of(line: str) -> List[str]:
