@@ -4,7 +4,8 @@ import unittest
 from typing import FrozenSet, Set
 
 from stored import path
-from stackcheck_tools.firmware import candidates, opcodes, records, taken
+from stackcheck_tools.dataflow import calls
+from stackcheck_tools.firmware import opcodes, records
 from stackcheck_tools.firmware.devices import default, of_class
 from stackcheck_tools.firmware.elf import Elf
 from stackcheck_tools.spec.lines import Lines, spec_line
@@ -23,7 +24,7 @@ class Complete(unittest.TestCase):
         """The names of the complete list of the first call through a pointer in a function."""
         elf = Elf(path(name))
         site = opcodes.sites(elf, elf.named(function)[0], opcodes.is_indirect)[0]
-        found = taken.of_site(elf, elf.chip, site, NONE)
+        found = calls.of_site(elf, elf.chip, site, NONE)
         self.assertIsNotNone(found)
         return names(elf, set(found.words)) if found else set()
 
@@ -37,7 +38,7 @@ class Complete(unittest.TestCase):
         for name, wanted in (("chance.records.elf", {"near", "far"}), ("chance.elf", {"near", "far", "one", "two"})):
             elf = Elf(path(name))
             site = opcodes.sites(elf, elf.named("two")[0], opcodes.is_indirect)[0]
-            self.assertEqual(names(elf, candidates.targets(elf, elf.chip, site)), wanted)
+            self.assertEqual(names(elf, calls.first_targets(elf, elf.chip, site)), wanted)
 
     def test_a_file_without_records_has_none(self) -> None:
         self.assertIsNone(records.taken(Elf(path("chance.elf"))))

@@ -68,11 +68,6 @@ class Opcodes(unittest.TestCase):
         self.assertEqual(opcodes.table_added(flash, 2), 0x1208)
         self.assertIsNone(opcodes.pair_loaded(flash, 2))
 
-    def test_a_slot_of_a_table_of_virtual_functions(self) -> None:
-        load = [0x8002, 0x81F3, 0x2DE0]  # ldd r0, Z+2; ldd r31, Z+3; mov r30, r0
-        self.assertEqual(opcodes.slot_loaded(load[::-1]), 1)
-        self.assertIsNone(opcodes.slot_loaded(load[:2][::-1]))
-
     def test_groups_that_not_all_devices_have(self) -> None:
         self.assertEqual([opcodes.group(it) for it in (0x9C01, 0x0200, 0x95D8, 0x9598, 0x0C00)], ["mul", "mul", "elpm", "break", None])
 

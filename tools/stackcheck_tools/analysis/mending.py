@@ -16,6 +16,7 @@ from stackcheck_tools.analysis.node_values import Nodes
 from stackcheck_tools.analysis.program import DEVICES, OK, REFUSED, USAGE, NoProgram, Program
 from stackcheck_tools.analysis.trials import DEVICE_LINES, Run, Scope, Stop, Trials, handled, scope
 from stackcheck_tools.analysis.widening import Lists, widen
+from stackcheck_tools.dataflow import calls
 from stackcheck_tools.firmware import candidates, opcodes
 from stackcheck_tools.firmware.firmware import Firmware
 from stackcheck_tools.spec import parameters, recursion, scratch
@@ -482,7 +483,7 @@ class Mending(Analysis):
         """A `jump` line with all that is known for each of these sites that has none."""
         is_new = False
         for site in sites:
-            found = candidates.targets(self.elf, self.device, site)
+            found = calls.first_targets(self.elf, self.device, site)
             if not found or self.lines.has(site, "jump"):
                 continue
             if self.lines.may_add(site, "jump", found):

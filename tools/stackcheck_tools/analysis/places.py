@@ -15,6 +15,8 @@ from stackcheck_tools.analysis.kinds import CALLS, CORES, GIVEN, MOVES, ORDINARY
 from stackcheck_tools.analysis.node_values import Nodes
 from stackcheck_tools.analysis.warnings_of_words import MOVED
 from stackcheck_tools.analysis.widening import RECORDS
+from stackcheck_tools.dataflow.numbers import Pointers
+from stackcheck_tools.dataflow.origins import Origins
 from stackcheck_tools.firmware import debug_lines, fuses, opcodes, start_up
 from stackcheck_tools.firmware.devices import Device
 from stackcheck_tools.firmware.elf import CODE_END, Elf
@@ -106,7 +108,10 @@ class Look:
     def __init__(self, outcome: Told) -> None:
         self.outcome, self.elf, self.lines = outcome, outcome.firmware.elf, outcome.own
         self.nodes = Nodes(self.elf, outcome.certificate)
-        self.cores = core_registers.found(outcome.firmware.device, self.nodes, self.lines, outcome.causes)
+        device = outcome.firmware.device
+        self.pointers = Pointers(Origins(self.elf, device, self.nodes, self.lines))
+        self.known = core_registers.Look(self.nodes, self.pointers)
+        self.cores = core_registers.found(self.known, device, self.lines, outcome.causes)
 
     def unlisted(self, word: int) -> List[int]:
         """The numbers that the pointer of a call is known to be and that its list doesn't have."""
@@ -128,10 +133,12 @@ class Look:
         if is_transfer and limit:
             return recursion.BY_RUNS if limit.is_by_runs() else recursion.PLACE
         if cause.transfer or not cause and word not in self.cores:
-            is_known = lines.is_given(word, "jump") or word in self.outcome.lists.whole
-            if not is_known or self.unlisted(word):
+            if lines.is_given(word, "jump") and not self.unlisted(word):
+                return recursion.BY_RUNS if limit and limit.is_by_runs() else GIVEN
+            is_whole = word in self.outcome.lists.whole and not self.unlisted(word)
+            if not is_whole or self.pointers.why_called(word, lines.of(word, "jump")):
                 return CALLS
-            return recursion.BY_RUNS if limit and limit.is_by_runs() else GIVEN if lines.is_given(word, "jump") else WHOLE
+            return recursion.BY_RUNS if limit and limit.is_by_runs() else WHOLE
         if cause.moves and self.is_by_name(word):
             return MOVES
         if word in self.cores:
@@ -142,7 +149,7 @@ class Look:
             return GIVEN
         follows = lines.has_masks() or not self.outcome.firmware.device.is_first()
         is_followed = follows and not lines.has(word, "store")
-        return SAFETY if is_followed or not core_registers.is_enabling(self.nodes, lines, word, cause) else STORES
+        return SAFETY if is_followed or not core_registers.is_enabling(self.known, lines, word) else STORES
 
     def texts(self, word: int, kind: str) -> Iterator[str]:
         """Yields what is told of a word beside what the program says may happen there."""
@@ -150,20 +157,29 @@ class Look:
         if kind == MOVES or cause.moves and not str(cause):
             yield MOVED
         if kind == CORES:
-            names = self.cores[word]
-            yield f"may write {' '.join(names)}, whose {'address stands' if len(names) == 1 else 'addresses stand'} in this file"
+            for why in dict.fromkeys(self.cores[word].values()):
+                yield f"may write {' '.join(it for it, its in self.cores[word].items() if its == why)}: its pointer {why}"
         if kind == recursion.BY_RUNS and (limit := self.limit(word)):
             yield limit.by_runs()
         if kind in (CALLS, WHOLE):
             text = self.outcome.firmware.device.word
             yield from (f"its pointer is {text(it)} here, which its list does not have" for it in self.unlisted(word))
+            made = self.made(word, kind)
+            if made and not self.unlisted(word):
+                yield f"its pointer {made}"
             if word in self.outcome.lists.why and not self.unlisted(word):
                 yield self.outcome.lists.why[word]
+
+    def made(self, word: int, kind: str) -> Optional[str]:
+        """Of what the pointer of an ordinary call is made that its list does not cover; None of another place."""
+        is_call = kind == CALLS and opcodes.is_indirect(self.elf.word(word))
+        return self.pointers.why_called(word, self.lines.of(word, "jump")) if is_call else None
 
     def cure(self, word: int, kind: str) -> Optional[str]:
         """What makes the list of a call complete."""
         is_listed = word in self.outcome.lists.why and not self.unlisted(word)
-        return RECORDS if kind == CALLS and is_listed and not has_records(self.elf) else None
+        is_curable = kind == CALLS and is_listed and not self.made(word, kind)
+        return RECORDS if is_curable and not has_records(self.elf) else None
 
 
 def put(look: Look, entry: Place, word: int) -> None:

@@ -6,7 +6,8 @@ from __future__ import annotations
 from dataclasses import dataclass, field
 from typing import TYPE_CHECKING, Dict, FrozenSet, List, Optional, Set
 
-from stackcheck_tools.firmware import candidates, debug_lines, plain_calls, records, taken
+from stackcheck_tools.dataflow import calls
+from stackcheck_tools.firmware import candidates, debug_lines, switches
 from stackcheck_tools.firmware.elf import Elf
 from stackcheck_tools.spec.lines import Lines
 from stackcheck_tools.spec.spec import MOST_ITEMS
@@ -18,12 +19,18 @@ if TYPE_CHECKING:
 GIVEN_ONE = ("fputc", "fgetc", "fputs", "fputs_P", "puts", "puts_P", "fwrite", "fread", "fgets", "gets", "ungetc", "bsearch", "qsort")
 MOST_TRIED = 8  # lists that are tried one by one where they aren't accepted together
 ROUNDS = 4  # in which functions that are reached only then bring further lists
-RECORDED = "its list has every function whose address is taken, by the linker's records"
-SEARCHED = "its list has every function whose address is taken, as far as a search of this file finds"
+RECORDED, SEARCHED = "by the linker's records", "as far as a search of this file finds"
+COMPLETE = {
+    calls.ALL: "its list has every function whose address is taken, {}",
+    calls.PLAIN: "its list has every function whose address is taken, {}, except those in tables of virtual functions alone, which it does not read",
+    calls.PLACE: "its list has every function whose address is taken, {}, except those that stand only at other places of tables of virtual "
+                 "functions",
+    calls.OBJECT: "its list has what stands at its place of the tables of its object's class, {}",
+    calls.HELPER: "its list has each constructor and each case of a `switch` that goes through a table"}
 NONE = "with every function whose address may be taken there is no bound"
 UNNAMED = "the file has no names, so no search finds every function whose address is taken"
 UNTRIED = "a bound with every function whose address may be taken was not tried"
-PLAIN = ", except those in tables of virtual functions alone, which it does not read"
+UNKNOWN_TABLE = "one of the tables of `switch` through which it jumps was not found"
 REFUTED = "a simulated run went to {}, which no search and no record names as a function whose address is taken: the list may lack others"
 EMPTY = "the file takes the address of no function, and this call is none of avr-libc's own: its pointer is made in a way that no list knows"
 TOO_MANY = "{} functions have their address taken, and a list has at most {}"
@@ -68,22 +75,24 @@ class Widening:
         self.work, self.elf, self.device = work, work.elf, work.device
         self.reached = nodes_of(work.certificate)
         self.wanted: Dict[int, Set[int]] = {}
+        self.found: Dict[int, calls.Complete] = {}
 
     def open_sites(self) -> List[int]:
         """The sites of calls through pointers whose lines this tool wrote and of which nothing is known yet."""
         lists = self.work.lists
-        calls = set(candidates.indirect(self.elf))
-        return [site for site, kind in self.work.lines.written() if kind == "jump" and site in calls and site not in lists.whole
+        known = {*candidates.indirect(self.elf), *switches.of_helper_itself(self.elf)}
+        return [site for site, kind in self.work.lines.written() if kind == "jump" and site in known and site not in lists.whole
                 and site not in lists.why]
 
     def want(self, site: int) -> None:
         """Works out the complete list of a site, or why there is none."""
-        lists, found = self.work.lists, taken.of_site(self.elf, self.device, site, self.reached)
+        lists, found = self.work.lists, calls.of_site(self.elf, self.device, site, self.reached)
         if found is None:
-            lists.why[site] = UNNAMED
+            lists.why[site] = UNKNOWN_TABLE if site in switches.of_helper_itself(self.elf) else UNNAMED
             return
+        self.found[site] = found
         now, seen = self.work.lines.of(site, "jump"), {word for at, word in self.work.pinned if at == site}
-        if refuting := seen - found.words:
+        if refuting := seen - set(found.words):
             lists.why[site] = REFUTED.format(" ".join(map(self.work.firmware.function, sorted(refuting))))
             return
         if not found.words and not is_of_streams(self.elf, site):
@@ -98,9 +107,9 @@ class Widening:
             self.wanted[site] = words
 
     def take(self, site: int) -> None:
+        found = self.found[site]
         self.work.lists.whole.add(site)
-        is_plain = plain_calls.is_plain(self.elf, site) and taken.virtual_tables(self.elf)
-        self.work.lists.why[site] = (RECORDED if records.has_records(self.elf) else SEARCHED) + (PLAIN if is_plain else "")
+        self.work.lists.why[site] = COMPLETE[found.kind].format(RECORDED if found.by_records else SEARCHED)
 
     def attempt(self, sites: List[int]) -> bool:
         """Whether there is a bound where these sites have their complete lists, which they keep then."""

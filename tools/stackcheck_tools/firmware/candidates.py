@@ -6,13 +6,13 @@ import copy
 import functools
 from typing import Callable, Dict, Iterator, List, Optional, Set, Tuple
 
-from stackcheck_tools.firmware import opcodes, records
+from stackcheck_tools.firmware import opcodes
 from stackcheck_tools.firmware.devices import Device
 from stackcheck_tools.firmware.elf import Elf, Symbol
 from stackcheck_tools.firmware.library_names import is_library
 from stackcheck_tools.firmware.nameless import nameless
 from stackcheck_tools.firmware.names import SpecFault
-from stackcheck_tools.firmware.targets import addresses_loaded, constructors, slots, starts, tables, taken, taken_elsewhere, words_in_data
+from stackcheck_tools.firmware.targets import addresses_loaded, constructors, starts, tables, taken, words_in_data
 
 LOOK_BACK = 16  # instructions before a transfer in which its table is looked for
 
@@ -68,7 +68,7 @@ def addressed(elf: Elf, device: Device) -> Set[int]:
 def table_of_jumps(elf: Elf, site: int) -> Set[int]:
     """The words of a table of `rjmp` that the `ijmp` at a word goes through, as far as they lead into its function; none where it has no
     such table."""
-    symbol, table = elf.symbol_at(2 * site), opcodes.pair_loaded(elf, site - 2)
+    symbol, table = elf.symbol_at(2 * site), opcodes.table_before(elf, site)
     if symbol is None or table is None or not opcodes.is_jump(elf.word(site)):
         return set()
     begin, end = elf.extent(symbol)
@@ -112,32 +112,10 @@ def of_flash_table(elf: Elf, site: int) -> Set[int]:
     return found
 
 
-def of_pointer(elf: Elf, device: Device, site: int) -> Set[int]:
-    """The functions that a call through a pointer may reach: of tables of virtual functions only those in the slot from which the pointer
-    is loaded."""
-    if not elf.code or not slots(elf):
-        return addressed(elf, device)
-    words = [opcode for _, opcode in before(elf, site, LOOK_BACK) if not opcodes.leaves_pointer(opcode)]
-    if len(words) > 1 and opcodes.is_lds(words[0], 31) and opcodes.is_lds(words[1], 30):
-        return taken_elsewhere(elf)
-    slot = opcodes.slot_loaded(words)
-    return addressed(elf, device) if slot is None else taken_elsewhere(elf) | slots(elf).get(slot, set())
-
-
-def recorded(elf: Elf, found: Set[int]) -> Set[int]:
-    """Those of the functions found whose address is taken by the linker's records too; all where the file has none."""
-    known = records.taken(elf)
-    return found if known is None else found & known
-
-
-def targets(elf: Elf, device: Device, site: int) -> Set[int]:
-    """Where the indirect transfer at a word may go by all that the file tells; `exit` where it tells nothing."""
-    symbol = elf.symbol_at(2 * site)
-    if symbol and symbol.name == "__tablejump2__":
-        begin, end = elf.all.get("__dtors_start", 0), elf.all.get("__dtors_end", 0)
-        return or_none(constructors, elf) | or_none(tables, elf) | {elf.word(at // 2) for at in range(begin, end, 2)}
-    found = table_of_jumps(elf, site) or of_flash_table(elf, site) or recorded(elf, of_pointer(elf, device, site))
-    return found or {it.address // 2 for name in ("exit", "_exit") for it in elf.named(name)}
+def of_helper(elf: Elf) -> Set[int]:
+    """The constructors of static objects, and all that tables of `switch` lead to."""
+    begin, end = elf.all.get("__dtors_start", 0), elf.all.get("__dtors_end", 0)
+    return or_none(constructors, elf) | or_none(tables, elf) | {elf.word(at // 2) for at in range(begin, end, 2)}
 
 
 def may_be_entered(elf: Elf, site: int, word: int) -> bool:

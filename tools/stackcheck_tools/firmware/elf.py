@@ -18,6 +18,7 @@ ALLOCATED, EXECUTED = 2, 4  # flags of sections that take memory, and that hold 
 OBJECT, FUNCTION, FILE_NAME = 1, 2, 4  # types of symbols
 ABSOLUTE = 0xFFF1  # the section number of symbols that are no place in a section
 STUBS = ("__trampolines_start", "__trampolines_end")  # around the stubs by which pointers reach functions above 128 KiB
+REACHED = 0x20000  # the byte address up to which a pointer of two bytes reaches
 JMP = 0x940C
 BOUNDS = ("__ctors_", "__dtors_", "__trampolines_", "__vector_default", "_etext", "__TEXT_REGION", "__data_load")  # the linker's own marks
 
@@ -62,8 +63,9 @@ def what_else(data: bytes) -> Optional[str]:
 
 class Elf:
     """`path` is the file's name, `flash` has 131,072 bytes (FF where nothing is placed), `placed` the begin and the end of each part of it,
-    `code` the symbols of code by address, `all` the addresses of all names, `objects` address and size of those of data, `chip` the device
-    as whose code it is read: that of its note, and else the one that stackbound takes."""
+    `code` the symbols of code by address, `all` the addresses of all names, `objects` address and size of those of data, `has_local`
+    whether names are there that other files don't see, `chip` the device as whose code it is read: that of its note, and else the one that
+    stackbound takes."""
 
     def __init__(self, path: str) -> None:
         self.path = path
@@ -114,7 +116,7 @@ class Elf:
         self.code: List[Symbol] = []
         self.all: Dict[str, int] = {}
         self.objects: Dict[str, Tuple[int, int]] = {}
-        file = ""
+        self.has_local, file = False, ""
         for table in (it for it in self.headers if it[1] == 2):
             names = self.headers[table[6]][4]
             for at in range(table[4], table[4] + table[5] - 15, 16):
@@ -123,10 +125,12 @@ class Elf:
                 if kind == FILE_NAME:
                     file = name
                 elif name and section:
+                    self.has_local = self.has_local or info >> 4 == 0 and kind in (0, OBJECT, FUNCTION)
                     self.all.setdefault(name, address)
                     if kind == OBJECT:
                         self.objects[name] = address, size
-                    if address < CODE_END and section != ABSOLUTE and kind in (0, FUNCTION) and not name.startswith((".", *BOUNDS)):
+                    is_code = address < CODE_END and section != ABSOLUTE and kind in (0, FUNCTION)
+                    if is_code and not name.startswith((".", *BOUNDS)) and name.isprintable():
                         self.code.append(Symbol(name, address, size, kind == FUNCTION, file if info >> 4 == 0 else "", info >> 4 == 1))
         self.stub_at: Dict[int, int] = {}
         self.code += list(self.stubs({it.address: it.name for it in self.code if it.is_function}))
@@ -145,8 +149,8 @@ class Elf:
                 yield Symbol(f"{names[to]}@stub", at, 4, True, "")
 
     def pointed(self, address: int) -> int:
-        """Where a pointer to the function at a byte address leads: to its stub, where there is one."""
-        return self.stub_at.get(address, address)
+        """Where a pointer to the function at a byte address leads: to its stub, where there is one and a pointer doesn't reach it."""
+        return self.stub_at.get(address, address) if address >= REACHED else address
 
     def extent(self, symbol: Symbol) -> Tuple[int, int]:
         """The byte addresses from a symbol's begin to its end: its size where told, else up to the next symbol."""

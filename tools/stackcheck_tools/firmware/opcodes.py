@@ -10,7 +10,6 @@ IJMP, ICALL, EIJMP, EICALL = 0x9409, 0x9509, 0x9419, 0x9519
 SPM, SEI = 0x95E8, 0x9478
 DEC_R29, INC_R29, SUBI_R29 = 0x95DA, 0x95D3, 0x50D0
 OUT_SPH_R29, OUT_SPL_R28 = 0xBFDE, 0xBFCD
-MOV_R30_R0, LDS_R30, LDS_R31 = 0x2DE0, 0x91E0, 0x91F0
 FRAME_LOW, FRAME_HIGH = 28, 29  # the frame pointer
 
 
@@ -160,6 +159,13 @@ def pair_loaded(elf: Elf, word: int) -> Optional[int]:
     return None
 
 
+def table_before(elf: Elf, word: int) -> Optional[int]:
+    """The word address of the table that is added to Z right before a word; the byte above it may be moved in between."""
+    found = pair_loaded(elf, word - 2)
+    is_third = elf.word(word - 1) & 0xF000 == 0x4000  # `sbci` of the third byte, where addresses have one
+    return pair_loaded(elf, word - 3) if found is None and is_third else found
+
+
 def is_elpm(opcode: int) -> bool:
     return opcode == 0x95D8 or opcode & 0xFE0E == 0x9006
 
@@ -182,11 +188,6 @@ def is_lpm(opcode: int) -> bool:
     return opcode == 0x95C8 or opcode & 0xFE0E == 0x9004 or is_elpm(opcode)
 
 
-def is_lds(opcode: int, register: int) -> bool:
-    """Whether an instruction loads a register from a fixed address."""
-    return opcode == 0x9000 | register << 4
-
-
 def table_added(elf: Elf, word: int) -> Optional[int]:
     """The number that a pair of `subi`, `sbci` (or `ldi`, `ldi`) at a word adds to a pair of registers, or loads; None where these aren't
     there."""
@@ -196,38 +197,3 @@ def table_added(elf: Elf, word: int) -> Optional[int]:
     if low & 0xF000 == 0x5000 and high & 0xF000 == 0x4000:
         return -(immediate(low) | immediate(high) << 8) % 0x10000
     return immediate(low) | immediate(high) << 8 if is_ldi(low) and is_ldi(high) else None
-
-
-def displacement(opcode: int, register: int) -> Optional[int]:
-    """The displacement with which a register is loaded through Y or Z, 0 for `ld r, Z` and `ld r, Z+`; None of another instruction."""
-    if opcode >> 4 & 31 != register:
-        return None
-    if opcode & 0xD200 == 0x8000:
-        return opcode & 7 | opcode >> 7 & 0x18 | opcode >> 8 & 0x20
-    return 0 if opcode & 0xFE0F == 0x9001 else None
-
-
-def writes_pointer(opcode: int) -> bool:
-    """Whether a move writes r0, or r30 or r31."""
-    if opcode & 0xFF00 == 0x0100:  # movw
-        return opcode >> 4 & 15 in (0, 15)
-    return (16 + (opcode >> 4 & 15) if is_ldi(opcode) else opcode >> 4 & 31) in (0, 30, 31)
-
-
-def leaves_pointer(opcode: int) -> bool:
-    """Whether an instruction before a call leaves its pointer as it is: a move of an argument, a test for 0, a branch over the call, a
-    store."""
-    if opcode & 0xFC00 == 0x2C00 or opcode & 0xFF00 == 0x0100 or is_ldi(opcode):  # mov, movw, ldi
-        return not writes_pointer(opcode)
-    return opcode == 0x9730 or opcode & 0xFC07 in (0xF001, 0xF401) or opcode & 0xFE0F == 0x9200  # sbiw r30, 0; breq, brne; sts
-
-
-def slot_loaded(words: List[int]) -> Optional[int]:
-    """The slot of a table from which a transfer's pointer is loaded, by the instructions before it, the last one first; None where it isn't
-    so loaded."""
-    if len(words) >= 3 and words[0] == 0x2DE0:  # mov r30, r0
-        high, low = displacement(words[1], 31), displacement(words[2], 0)
-        steps = words[2] & 0xFE0F == 0x9001  # `ld r0, Z+`, behind which the high byte is at Z
-        if low is not None and high == (low if steps else low + 1):
-            return low // 2
-    return None

@@ -4,25 +4,17 @@ records, or else by a search in the file."""
 from __future__ import annotations
 
 import functools
-from typing import AbstractSet, Dict, FrozenSet, Iterator, List, NamedTuple, Optional, Set, Tuple
+from typing import AbstractSet, Dict, FrozenSet, Iterator, List, Set, Tuple
 
-from stackcheck_tools.firmware import nameless, opcodes, plain_calls, records
+from stackcheck_tools.firmware import nameless, opcodes, records
 from stackcheck_tools.firmware.candidates import code, entered
 from stackcheck_tools.firmware.devices import Device
 from stackcheck_tools.firmware.elf import ALLOCATED, CODE_END, Elf, Symbol
 from stackcheck_tools.firmware.library_names import is_library
 from stackcheck_tools.firmware.nameless import Span, code_begin, instructions
 from stackcheck_tools.firmware.names import base
-from stackcheck_tools.firmware.targets import tables_of_virtual
 
 EEPROM_END = 0x820000
-
-
-class Taken(NamedTuple):
-    """The words that a call through a pointer may enter, and whether the linker's records tell them."""
-
-    words: FrozenSet[int]
-    by_records: bool
 
 
 def is_left_out(name: str) -> bool:
@@ -123,36 +115,10 @@ def any_between(marks: List[int], span: Span) -> bool:
     return any(span[0] <= 2 * it < span[1] for it in marks)
 
 
-def virtual_tables(elf: Elf) -> List[Span]:
-    return [(address, address + 2 * len(words)) for address, words in tables_of_virtual(elf)]
-
-
 @functools.lru_cache(maxsize=None)
-def searched(elf: Elf, device: Device, reached: FrozenSet[int], is_plain: bool) -> FrozenSet[int]:
-    """The functions that the search finds; for plain calls without those that stand in tables of virtual functions alone."""
-    spans = virtual_tables(elf) if is_plain else []
+def searched(elf: Elf, but: Tuple[Span, ...] = ()) -> FrozenSet[int]:
+    """The functions that the search finds, but for those whose numbers begin within some spans of data addresses alone."""
     in_data: AbstractSet[int] = numbers_in_data(elf)
-    if spans:
-        in_data = {number for at, number in numbers_at(elf) if not any(begin <= at < end for begin, end in spans)}
-    return frozenset(functions(elf)) & (in_data | numbers_loaded(elf)) | left_over(elf, device, set(reached))
-
-
-def labels(elf: Elf, site: int, numbers: Set[int]) -> Set[int]:
-    """The words inside the function of such a jump at which an instruction begins and that are among these numbers: of `goto *`."""
-    symbol = elf.symbol_at(2 * site)
-    if symbol is None or not opcodes.is_jump(elf.word(site)):
-        return set()
-    return {word for word, _ in opcodes.words_of(elf, symbol)} & numbers
-
-
-def of_site(elf: Elf, device: Device, site: int, reached: FrozenSet[int]) -> Optional[Taken]:
-    """What a call or jump through a pointer may enter; None where the file has no names and no records. `reached`: the words of the nodes
-    of a certificate."""
-    is_plain = plain_calls.is_plain(elf, site)
-    by_records = records.taken(elf, virtual_tables(elf) if is_plain else ())
-    if by_records is not None:
-        return Taken(frozenset(by_records | labels(elf, site, records.words(elf))), True)
-    if not elf.code:
-        return None
-    found = searched(elf, device, reached, is_plain)
-    return Taken(found | labels(elf, site, set(numbers_in_data(elf) | numbers_loaded(elf))), False)
+    if but:
+        in_data = {number for at, number in numbers_at(elf) if not any(begin <= at < end for begin, end in but)}
+    return frozenset(functions(elf)) & (in_data | numbers_loaded(elf))

@@ -3,9 +3,8 @@ address taken."""
 
 from __future__ import annotations
 
-import functools
 import struct
-from typing import Dict, Iterable, Iterator, List, Optional, Set, Tuple
+from typing import Iterable, Iterator, List, Optional, Set, Tuple
 
 from stackcheck_tools.firmware import opcodes
 from stackcheck_tools.firmware.elf import Elf
@@ -29,8 +28,8 @@ def tables(elf: Elf) -> Set[int]:
     found = []
     for symbol in elf.code:
         for word, _ in opcodes.words_of(elf, symbol) if symbol.is_function else ():
-            table = opcodes.pair_loaded(elf, word)
-            if table is not None and opcodes.jump_target(elf, word + 2) in helper:
+            table = opcodes.table_before(elf, word) if opcodes.jump_target(elf, word) in helper else None
+            if table is not None:
                 found.append((table, symbol))
     if not found:
         raise SpecFault("no function jumps through a table of __tablejump2__")
@@ -96,36 +95,6 @@ def starts(elf: Elf) -> Set[int]:
 def taken(elf: Elf) -> Set[int]:
     """The words of the functions whose address is taken: by a pair of `ldi`, in the image of initialised data, or in a table in flash."""
     return starts(elf) & {*addresses_loaded(elf), *words_in_data(elf)}
-
-
-def tables_of_virtual(elf: Elf) -> Iterator[Tuple[int, List[int]]]:
-    """Yields the address and the words of each table of virtual functions."""
-    for name, (address, size) in elf.objects.items():
-        data = elf.at_data_address(address, size) if name.startswith("_ZTV") and size else None
-        if data:
-            yield address, [struct.unpack_from("<H", data, at)[0] for at in range(0, len(data) - 1, 2)]
-
-
-@functools.lru_cache(maxsize=None)
-def slots(elf: Elf) -> Dict[int, Set[int]]:
-    """The functions by the slots in which a table of virtual functions has them. A table has two words in front, and so has each part of a
-    base."""
-    known = starts(elf)
-    found: Dict[int, Set[int]] = {}
-    for _, words in tables_of_virtual(elf):
-        begins = [2] + [at + 2 for at, word in enumerate(words) if at > 1 and (word == 0 or word > 0xF000)]
-        for at, word in enumerate(words):
-            for begin in begins if word in known else ():
-                if at >= begin:
-                    found.setdefault(at - begin, set()).add(word)
-    return found
-
-
-@functools.lru_cache(maxsize=None)
-def taken_elsewhere(elf: Elf) -> Set[int]:
-    """The functions whose address is taken elsewhere than in a table of virtual functions."""
-    spans = [(address, address + 2 * len(words)) for address, words in tables_of_virtual(elf)]
-    return starts(elf) & {*addresses_loaded(elf), *words_in_data(elf, spans)}
 
 
 def targets(elf: Elf, words: List[str]) -> Set[int]:

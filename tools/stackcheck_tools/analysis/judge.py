@@ -1,0 +1,45 @@
+"""The program that judges a certificate, so that a report can name it."""
+
+from __future__ import annotations
+
+import hashlib
+import os
+import shutil
+import subprocess
+from typing import Dict, NamedTuple
+
+from stackcheck_tools.analysis.program import TOP, NoProgram
+
+BUILT = os.path.join("crates", "stack_cli", "out", "stack_cli")  # the program of a checkout, by its path beside the launcher
+
+
+class Judge(NamedTuple):
+    """The file of the program, what it says of its version, and the SHA-256 of its bytes."""
+    path: str
+    version: str
+    sha256: str
+
+    def as_json(self) -> Dict[str, str]:
+        return {"path": self.path, "version": self.version, "sha256": self.sha256}
+
+
+def file_of(called: str) -> str:
+    """The file that runs when a path or a name of the search path is called: that of a checkout behind its launcher, links followed."""
+    path = os.path.realpath(shutil.which(called) or called)
+    built = os.path.join(os.path.dirname(path), BUILT)
+    with open(path, "rb") as file:
+        is_script = file.read(2) == b"#!"
+    return built if is_script and os.path.isfile(built) else path
+
+
+def judge_of(called: str = "") -> Judge:
+    """The program at a path, or the one that the tools call."""
+    called = called or os.environ.get("STACKBOUND") or os.path.join(TOP, "stackbound")
+    try:
+        path = file_of(called)
+        with open(path, "rb") as file:
+            digest = hashlib.sha256(file.read()).hexdigest()
+        said = subprocess.run([path, "--version"], stdin=subprocess.DEVNULL, stdout=subprocess.PIPE, stderr=subprocess.DEVNULL)
+    except OSError as fault:
+        raise NoProgram(f"{called}: {fault.strerror}") from None
+    return Judge(path, said.stdout.decode("ascii", "replace").strip().rpartition(" ")[2] or "unknown", digest)
