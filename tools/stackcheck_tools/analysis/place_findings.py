@@ -40,7 +40,7 @@ MESSAGES = {
     "SB305": "a write {where} may set IVSEL, which moves the interrupt vectors",
     "SB306": "the stack is used {where} before SPL is written",
     "SB307": "the file programs fuses with which the chip starts elsewhere or as another chip",
-    "SB308": "the call {where} is a recursion, which is counted only as deep as the simulated runs went",
+    "SB308": "the call {where} enters a recursion that is counted only as deep as the simulated runs went",
     "SB321": "the bound holds if the store {where} stays inside its object",
     "SB322": "the bound holds if the call {where} enters a function whose address is taken",
     "SB323": "the bound holds if the store {where} stays inside its object and enables no interrupt without a handler",
