@@ -18,6 +18,7 @@ OPERATORS = {
     "oo": "||",
     "pp": "++", "mm": "--", "cm": ",", "pt": "->", "cl": "()", "ix": "[]", "ps": "+", "ng": "-", "ad": "&", "de": "*"}
 STANDARD = {"St": "std", "Sa": "std::allocator", "Ss": "std::string"}
+SIGNS = {"ad": "&", "de": "*", "ng": "-", "ps": "+", "nt": "!", "co": "~"}  # operators of one operand, in expressions
 SPECIAL = {"TV": "vtable for ", "TI": "typeinfo for ", "TS": "typeinfo name for ", "GV": "guard variable for "}
 
 
@@ -107,6 +108,8 @@ class Reader:
             return name
         if self.has("L"):
             return self.source_name()
+        if self.has("li"):
+            return f'operator"" {self.source_name()}'
         operator = OPERATORS.get(self.text[self.at:self.at + 2])
         self.at += 2
         if self.text[self.at - 2:self.at] == "cv":
@@ -121,16 +124,64 @@ class Reader:
             kinds.append(self.type())
         return "" if kinds == ["void"] else ", ".join(kinds)
 
+    def end_of_part(self) -> None:
+        if not self.has("E"):
+            raise Unknown
+
+    def literal(self) -> str:
+        """A number, or the name of a function or an object, whose `L` was read."""
+        if self.has("_Z"):
+            named = without_parameters(self.encoding())
+            self.end_of_part()
+            return named
+        kind, begin = self.type(), self.at
+        self.at = self.text.index("E", self.at)
+        value = self.text[begin:self.at].replace("n", "-")
+        self.at += 1
+        return {"0": "false", "1": "true"}.get(value, value) if kind == "bool" else value
+
+    def expression(self) -> str:
+        """An expression of constants, types and parameters, as templates have it."""
+        if self.has("L"):
+            return self.literal()
+        if self.peek() == "T":
+            return self.parameter()
+        if self.peek().isdigit():
+            return self.source_name()
+        code = self.text[self.at:self.at + 2]
+        self.at += 2
+        if code == "fp":
+            place = self.number()
+            self.at += 1
+            return f"{{parm#{1 if place is None else place + 2}}}"
+        if code in ("st", "sz"):
+            return f"sizeof({self.type() if code == 'st' else self.expression()})"
+        if code == "cv":
+            return f"({self.type()}){self.expression()}"
+        if code in ("dt", "pt"):
+            return f"{self.expression()}{'.' if code == 'dt' else '->'}{self.unqualified('')}"
+        if code == "sr":
+            return f"{self.type()}::{self.unqualified('')}"
+        if code == "cl":
+            called, given = self.expression(), []
+            while not self.has("E"):
+                given.append(self.expression())
+            return f"{called}({', '.join(given)})"
+        if code in SIGNS:
+            return SIGNS[code] + self.expression()
+        if code in OPERATORS:
+            return f"{self.expression()} {OPERATORS[code]} {self.expression()}"
+        raise Unknown
+
     def template(self) -> str:
         """The arguments of a template, whose `I` was read."""
         found = []
         while not self.has("E"):
             if self.has("L"):
-                kind, begin = self.type(), self.at
-                self.at = self.text.index("E", self.at)
-                value = self.text[begin:self.at].replace("n", "-")
-                found.append({"0": "false", "1": "true"}.get(value, value) if kind == "bool" else value)
-                self.at += 1
+                found.append(self.literal())
+            elif self.has("X"):
+                found.append(self.expression())
+                self.end_of_part()
             elif self.has("J") or self.has("I"):
                 found.append(self.types_up_to_end())
             else:
@@ -163,8 +214,7 @@ class Reader:
     def local(self) -> str:
         """A name within a function."""
         outer = self.encoding()
-        if not self.has("E"):
-            raise Unknown
+        self.end_of_part()
         if self.has("s"):
             return outer
         inner = self.name()
@@ -186,7 +236,10 @@ class Reader:
         return name + self.template() if self.has("I") else name
 
     def type(self) -> str:
-        return filled(self.hole_type())
+        arguments = self.arguments  # those of the function, which a type's own ones don't replace
+        found = filled(self.hole_type())
+        self.arguments = arguments
+        return found
 
     def hole_type(self) -> str:
         """A type; one of a function or an array has a hole where the sign of a pointer to it stands."""
@@ -202,8 +255,12 @@ class Reader:
             count = self.number()
             self.at += 1
             return self.hold(f"{self.type()} ({HOLE}) [{count if count is not None else ''}]")
+        if self.has("M"):
+            of, inner = self.type(), self.hole_type()
+            return self.hold(inner.replace(HOLE, f"{of}::*{HOLE}", 1) if HOLE in inner else f"{inner} {of}::*")
         if letter == "T":
-            return self.hold(self.parameter())
+            name = self.hold(self.parameter())
+            return self.hold(name + self.template()) if self.has("I") else name
         if letter == "S" and not self.text.startswith("St", self.at):
             name = self.substitution()
             return self.hold(name + self.template()) if self.has("I") else name
@@ -211,6 +268,12 @@ class Reader:
             return self.type()
         if self.has("Dn"):
             return "decltype(nullptr)"
+        if self.has("Da"):
+            return "auto"
+        if self.has("DT") or self.has("Dt"):
+            found = self.hold(f"decltype({self.expression()})")
+            self.end_of_part()
+            return found
         if letter in BUILTIN and letter:
             self.at += 1
             return BUILTIN[letter]

@@ -37,9 +37,9 @@ def plain(name: str) -> str:
 
 
 def shown(symbol: Symbol) -> str:
-    """A symbol's name as a reader knows it: that of C++ without parameters where it is one of C++, and without a clone's end."""
+    """A symbol's name as a reader knows it: that of C++ without parameters and result where it is one of C++, and without a clone's end."""
     own = base(symbol.name)
-    return without_parameters(written(own) or own)
+    return own if written(own) is None else qualified(own) or without_parameters(written(own) or own)
 
 
 def forms(name: str) -> Tuple[str, ...]:

@@ -5,6 +5,8 @@ from __future__ import annotations
 import os
 from typing import Iterator, Optional
 
+MOST_LETTERS = 100  # of a source line
+
 
 def ends(path: str) -> Iterator[str]:
     """Yields the ends of a path, the longest first."""
@@ -30,10 +32,10 @@ def readable(path: str) -> str:
 
 
 def line_of(path: str, number: int) -> Optional[str]:
-    """The text of a source line without its indentation; None if the file is not there or has no such line."""
+    """The text of a source line without its indentation, cut if it is long; None if the file is not there or has no such line."""
     try:
         with open(path, encoding="utf8", errors="replace") as file:
             text = next((it for at, it in enumerate(file, start=1) if at == number), "").strip()
     except OSError:
         return None
-    return text or None
+    return text if 0 < len(text) <= MOST_LETTERS else f"{text[:MOST_LETTERS - 3]} .." if text else None
