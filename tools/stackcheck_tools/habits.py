@@ -120,6 +120,8 @@ def of_itself(fault: BaseException) -> str:
 def run(main: Callable[[], Optional[int]]) -> NoReturn:
     """Calls a tool's `main` and ends with its status; a closed pipe, an interrupt from the keyboard and a fault end without a trace of the
     calls."""
+    if sys.platform == "win32" and isinstance(sys.stdout, io.TextIOWrapper):  # files of the program have line feeds alone
+        sys.stdout.reconfigure(encoding="utf8", newline="\n")
     for stream in (sys.stdout, sys.stderr):
         if isinstance(stream, io.TextIOWrapper):
             stream.reconfigure(errors="backslashreplace")  # an encoding that lacks a letter ends nothing

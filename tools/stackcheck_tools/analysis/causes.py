@@ -67,7 +67,7 @@ def without(work: Mending, lines: Lines, folder: str) -> Optional[Set[int]]:
     if not is_accepted:
         return None
     certificate = os.path.join(folder, "tried")
-    with open(certificate, "w", encoding="ascii") as file:
+    with open(certificate, "w", encoding="ascii", newline="\n") as file:
         file.write(text)
     told = work.program(lines).lines("premises", certificate) or []
     return {int(line.split()[1], 16) for line in told if line.startswith("at ")}

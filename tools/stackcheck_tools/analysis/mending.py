@@ -45,7 +45,7 @@ class Analysis:
         """The program under the lines so far, or under others."""
         path = os.path.join(self.folder, "assumptions")
         text = (lines or self.lines).text()
-        with open(path, "w", encoding="ascii") as file:
+        with open(path, "w", encoding="ascii", newline="\n") as file:
             file.write(text)
         return Program(self.firmware.image, self.device.name, path if text else None)
 
@@ -301,7 +301,7 @@ class Mending(Analysis):
     def kept(self) -> str:
         """The path of a file with the certificate."""
         path = os.path.join(self.folder, "told")
-        with open(path, "w", encoding="ascii") as file:
+        with open(path, "w", encoding="ascii", newline="\n") as file:
             file.write(self.certificate or "")
         return path
 

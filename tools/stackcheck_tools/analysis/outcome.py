@@ -116,7 +116,7 @@ def read_premises(found: Accepted, program: Program, certificate: str) -> None:
 
 def accept(found: Accepted, program: Program, certificate: str, text: str) -> str:
     """Writes a certificate and has it judged: only what is accepted is told."""
-    with open(certificate, "w", encoding="ascii") as file:
+    with open(certificate, "w", encoding="ascii", newline="\n") as file:
         file.write(text)
     status, said = program.call("check", certificate)
     if status != OK or not said.startswith("accepted bound "):

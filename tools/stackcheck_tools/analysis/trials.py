@@ -138,7 +138,7 @@ class Trials:
 
     def answer(self, run: Run) -> Tuple[int, str]:
         path = os.path.join(self.folder, run.command)
-        with open(path, "w", encoding="ascii") as file:
+        with open(path, "w", encoding="ascii", newline="\n") as file:
             file.write(run.text)
         return self.program.call(run.command, path, *run.options)
 

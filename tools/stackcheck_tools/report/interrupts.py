@@ -29,13 +29,13 @@ def with_never(device: Device, text: str, word: int) -> str:
 def bound_without(outcome: Accepted, word: int, folder: str) -> Optional[int]:
     """The bound that `check` accepts where the vector of a word is never entered; None where there is none."""
     paths = [os.path.join(folder, name) for name in ("never.assume", "never.cert")]
-    with open(paths[0], "w", encoding="ascii") as file:
+    with open(paths[0], "w", encoding="ascii", newline="\n") as file:
         file.write(with_never(outcome.firmware.device, assumed(outcome.certificate), word))
     program = Program(outcome.firmware.image, outcome.firmware.device.name, paths[0])
     status, text = program.call("analyse")
     if status != OK:
         return None
-    with open(paths[1], "w", encoding="ascii") as file:
+    with open(paths[1], "w", encoding="ascii", newline="\n") as file:
         file.write(text)
     status, text = program.call("check", paths[1])
     return int(text.split()[2]) if status == OK and text.startswith("accepted bound ") else None

@@ -103,12 +103,12 @@ def clear(words: Namespace) -> None:
 def put(path: str, content: str) -> None:
     """Writes a file in one step: a reader finds the old one or the new one."""
     if os.path.exists(path) and not os.path.isfile(path):  # a device, a pipe
-        with open(path, "w", encoding="utf8") as file:
+        with open(path, "w", encoding="utf8", newline="\n") as file:
             file.write(content)
         return
     target = os.path.realpath(path)
     try:
-        with open(target + ".new", "w", encoding="utf8") as file:
+        with open(target + ".new", "w", encoding="utf8", newline="\n") as file:
             file.write(content)
         os.replace(target + ".new", target)
     finally:
