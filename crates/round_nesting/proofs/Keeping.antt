@@ -28,6 +28,9 @@ module _ {K : Type 0} (eq : K → K → Bool) (exact : (x y : K) → eq x y ≡ 
   pub inserted : (ks new : List K) (k : K) → new ≡ insert_key eq ks k → HasMore ks k new
   inserted ks new k is = subst (HasMore ks k) (sym is) (inserted_by ks k (list_any (eq k) ks) refl)
 
+pub there_already : {K : Type 0} (ks : List K) (k : K) → Contains ks k → HasMore ks k ks
+there_already ks k has x = (λ h. inl h, ⊎_elim (λ h. h) (λ same. subst (Contains ks) (sym same) has))
+
 -- ---- instances
 
 pub root_more : (has_root : Bool) (others : List InstKey) (inst : InstKey) → inst ≡ root_inst → HasMore (insts_of has_root others) inst (root_inst ∷ others)

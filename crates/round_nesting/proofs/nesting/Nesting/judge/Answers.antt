@@ -12,7 +12,7 @@ pub returns-then-serve-clause-tells : goal.returns-then-serve-clause-tells
 returns-then-serve-clause-tells c =
     let old : Noted = record { insts = insts_of c.self.inside.has_root c.self.inside.others.keys; spots = c.self.inside.spots.keys; entrances = c.self.inside.entrances.keys } in
     subst (λ (n : Noted). TellsAll c.args.device n Nests) c.self.view_is
-    (nests c.args.device c.self.inside.allowances.back c.self.inside.allowances.map.entries old (c.serve.ensures.back c.if-serve.true) (c.serve.ensures.root c.if-serve.true)
+    (nests c.args.device c.self.inside.allowances.back c.self.inside.allowances.map.entries old (c.serve.ensures.some c.if-serve.true) (c.serve.ensures.back c.if-serve.true) (c.serve.ensures.root c.if-serve.true)
     (c.self.invariant.covers c.if-self.true))
 
 pub returns-then-serve-clause-once : goal.returns-then-serve-clause-once
