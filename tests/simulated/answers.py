@@ -31,21 +31,21 @@ class Answer:
             return
         with open(report, encoding="utf8") as file:
             told = json.load(file)
-        self.bound = told["bound"]
-        if self.bound is None:
+        if told["bound"] is None:
             return
+        self.bound = told["bound"]["bytes"]
         with open(certificate, encoding="ascii") as file:
             self.nodes = Nodes(elf, file.read())
         self.places: Set[int] = set()
         self.ordinary: Set[int] = set()
-        for place in told["places"]:
-            found = {int(word, 16) for word in place["words"]}
+        for it in told["findings"]:
+            found = {int(at["word"], 16) for at in it["locations"]} if it["kind"] and it["subject"] else set()
             self.places |= found
-            self.ordinary |= found if place["ordinary"] else set()
+            self.ordinary |= found if it["kind"] == "ordinary" else set()
         self.lists: Dict[int, Set[int]] = {}
         self.listed: Dict[int, Set[int]] = {}
-        for line in [*told["given"], *(it["line"] for it in told["assumed"])]:
-            for part in line.split(", "):
+        for it in told["lines"]:
+            for part in it["assumption"].split(", "):
                 what, *numbers = part.split()
                 if what in ("jump", "store"):
                     lists = self.lists if what == "jump" else self.listed

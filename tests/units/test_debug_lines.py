@@ -4,7 +4,7 @@ import struct
 import unittest
 
 from stored import path
-from stackcheck_tools.firmware import debug_lines
+from stackcheck_tools.firmware import debug_lines, dwarf_reader
 from stackcheck_tools.firmware.elf import Elf
 
 
@@ -38,8 +38,8 @@ class Tables(unittest.TestCase):
         self.assertEqual(rows, [(0x40, 0x42, "a.c", 1)])
 
     def test_signed_numbers_go_back(self) -> None:
-        self.assertEqual(debug_lines.Reader(b"\x7f").number(is_signed=True), -1)
-        self.assertEqual(debug_lines.Reader(b"\xe5\x8e\x26").number(), 624485)
+        self.assertEqual(dwarf_reader.Reader(b"\x7f").number(is_signed=True), -1)
+        self.assertEqual(dwarf_reader.Reader(b"\xe5\x8e\x26").number(), 624485)
 
 
 class Files(unittest.TestCase):

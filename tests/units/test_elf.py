@@ -60,13 +60,13 @@ class Refusing(unittest.TestCase):
     def test_other_files_are_named(self) -> None:
         self.assertIn("is a file of Intel HEX", self.told(b":100000000C9434000C943E00"))
         self.assertIn("is a library", self.told(b"!<arch>\n"))
-        self.assertIn("is no ELF file", self.told(b""))
+        self.assertIn("is not an AVR ELF file", self.told(b""))
 
     def test_a_file_that_is_cut_is_damaged(self) -> None:
         with open(path("late.elf"), "rb") as file:
             data = file.read()
         self.assertIn("is damaged", self.told(data[:-1000]))
-        self.assertIn("is no ELF file", self.told(data[:40]))
+        self.assertIn("is not an AVR ELF file", self.told(data[:40]))
 
 
 if __name__ == "__main__":

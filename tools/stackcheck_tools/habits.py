@@ -10,22 +10,22 @@ import traceback
 from argparse import Namespace
 from typing import Callable, NoReturn, Optional, Sequence, Union
 
-from stackcheck_tools.analysis.program import NoProgram
-from stackcheck_tools.firmware.devices import Misuse
-from stackcheck_tools.firmware.elf import NoElf
+from stackcheck_tools.finding import Fault, Location
 
-FAULTS = (Misuse, NoElf, NoProgram, OSError, UnicodeDecodeError)  # what is told in words, with status 3
 HERE = os.path.dirname(os.path.realpath(__file__))
 DONE, MISUSE, INTERRUPTED, CLOSED_PIPE = 0, 3, 130, 141
+UNREADABLE = "SB001"
 
 
 def version() -> str:
-    """The version of the repository: that of the file at its top, or beside the tools where they are installed."""
-    try:
-        with open(os.path.join(HERE, "..", "..", "VERSION"), encoding="ascii") as file:
-            return file.read().strip()
-    except OSError:
-        return "unknown"
+    """The version of the repository: that of the file in the package, at the top of the checkout, or beside the tools as installed."""
+    for folder in (HERE, os.path.join(HERE, "..", "..")):
+        try:
+            with open(os.path.join(folder, "VERSION"), encoding="ascii") as file:
+                return file.read().strip()
+        except OSError:
+            continue
+    return "unknown"
 
 
 def in_words(fault: BaseException) -> str:
@@ -37,6 +37,45 @@ def in_words(fault: BaseException) -> str:
     if isinstance(fault, OSError) and fault.strerror:
         return f"{fault.filename}: {fault.strerror}" if fault.filename is not None else fault.strerror
     return str(fault)
+
+
+def as_fault(fault: BaseException) -> Fault:
+    """A fault as a value: what the system says of a file is one too."""
+    return fault if isinstance(fault, Fault) else Fault(in_words(fault), UNREADABLE)
+
+
+FAULTS = (Fault, OSError, UnicodeDecodeError)  # what is told in words, with status 3
+
+
+def in_spec(fault: Fault, path: Optional[str]) -> Fault:
+    """The same fault at its line of the spec, if it names one."""
+    if fault.location.line is None or not path:
+        return fault
+    return Fault(str(fault), fault.rule, Location(path, fault.location.line))
+
+
+def line_of(name: str, fault: Fault) -> str:
+    """`FILE:LINE: error: TEXT [RULE]` of a fault that has a place, `TOOL: error: ..` of others."""
+    at = fault.location
+    return f"{f'{at.file}:{at.line}' if at.has_line() else name}: error: {fault} [{fault.rule}]"
+
+
+def tell(name: str, fault: BaseException, spec: Optional[str] = None) -> Fault:
+    """Prints what is wrong, and returns it."""
+    found = in_spec(as_fault(fault), spec)
+    print(line_of(name, found), file=sys.stderr)
+    return found
+
+
+def misused(name: str, message: str, usage: str) -> NoReturn:
+    """Ends a tool whose words are wrong: what is wrong, the usage, where the help is."""
+    print(f"{name}: error: {message}\n{usage}\nSee {name} --help", file=sys.stderr)
+    sys.exit(MISUSE)
+
+
+def usage_of(document: str) -> str:
+    """The first line `usage: ..` of a tool's text, which names the tool as it is installed."""
+    return next((line for line in document.splitlines() if line.startswith("usage: ")), "")
 
 
 def asked(name: str, document: str, words: Sequence[str]) -> bool:
@@ -51,7 +90,7 @@ def asked(name: str, document: str, words: Sequence[str]) -> bool:
 
 
 class Words(argparse.ArgumentParser):
-    """The words of a tool: others are answered by what is wrong and the tool's own text, with status 3."""
+    """The words of a tool: others are answered by what is wrong and how it is called, with status 3."""
 
     def __init__(self, name: str, document: str) -> None:
         super().__init__(prog=name, add_help=False, allow_abbrev=False)
@@ -64,8 +103,7 @@ class Words(argparse.ArgumentParser):
         return super().parse_args(args, namespace)
 
     def error(self, message: str) -> NoReturn:
-        print(f"{self.prog}: {message}\n\n{self.document.strip()}", file=sys.stderr)
-        sys.exit(MISUSE)
+        misused(self.prog, message, usage_of(self.document))
 
 
 def nowhere() -> None:
@@ -79,11 +117,14 @@ def of_itself(fault: BaseException) -> str:
     return f"a fault of this tool itself, and no answer: {type(fault).__name__}: {fault} ({os.path.basename(last.filename)}:{last.lineno})"
 
 
-def run(main: Callable[[], int]) -> None:
+def run(main: Callable[[], Optional[int]]) -> NoReturn:
     """Calls a tool's `main` and ends with its status; a closed pipe, an interrupt from the keyboard and a fault end without a trace of the
     calls."""
     if sys.platform == "win32" and isinstance(sys.stdout, io.TextIOWrapper):  # files of the program have line feeds alone
         sys.stdout.reconfigure(encoding="utf8", newline="\n")
+    for stream in (sys.stdout, sys.stderr):
+        if isinstance(stream, io.TextIOWrapper):
+            stream.reconfigure(errors="backslashreplace")  # an encoding that lacks a letter ends nothing
     try:
         status: Union[int, str, None]
         try:

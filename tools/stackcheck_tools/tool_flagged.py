@@ -2,7 +2,6 @@
 
 from __future__ import annotations
 
-import sys
 import tempfile
 from typing import Iterator, Optional, Tuple
 
@@ -10,12 +9,20 @@ from stackcheck_tools.analysis.mending import Analysis
 from stackcheck_tools.analysis.telling import line_of_spec, text_of_stop, why_not
 from stackcheck_tools.analysis.trials import Stop, Trials, handled
 from stackcheck_tools.firmware.firmware import Firmware
-from stackcheck_tools.habits import FAULTS, Words, in_words
+from stackcheck_tools.habits import FAULTS, MISUSE, Words, tell
 from stackcheck_tools.spec.lines import Lines
 from stackcheck_tools.spec.spec import assumptions
-from stackcheck_tools.firmware.names import SpecFault
 
-DOCUMENT = ""  # the text of the tool, which its script gives
+DOCUMENT = """Simulates the firmware to find flagged steps, which no bound covers.
+
+usage: flagged FW [--assume A | --spec SPEC] [--device NAME]
+
+Runs the firmware with several bytes for memory and inputs and with each vector taken along the way. Prints each stop once, with its place
+and the assumption line that admits it: `prove W` if the analysis then knows the pointer, otherwise `store W A ..`; a transfer has a `jump`
+line. The entry of a vector with a `never` line is a transfer that no line admits. `spec:` precedes the same as a line of a spec. The runs then
+go on with these lines. The search is incomplete: no output does not mean that no step is flagged.
+Status 0: none was found; 1: some were; 3: usage error, or a file or the program is missing or invalid.
+"""
 
 
 def found(search: Analysis) -> Iterator[Tuple[Stop, Optional[str]]]:
@@ -69,8 +76,8 @@ def main() -> int:
                 print("\n".join(text_of(search, stop, kind)), flush=True)
     except BrokenPipeError:
         raise
-    except (*FAULTS, SpecFault) as fault:
-        print(f"flagged: {in_words(fault)}", file=sys.stderr)
-        return 3
+    except FAULTS as fault:
+        tell("flagged", fault, words.spec)
+        return MISUSE
     print(f"{count} found; the search is incomplete")
     return 1 if count else 0

@@ -19,6 +19,5 @@ def check(outcome: Accepted, spec: Spec) -> None:
         for address in sorted(line.items):
             if not any(nodes.may_write(word, address) for word in line.places):
                 name = outcome.firmware.device.register_name(address)
-                raise SpecFault(f"line {line.number}: no store that `{line.text}` names may write {name}: it names another store than was "
-                                f"meant, "
-                                "or one that never runs (build with -g if the compiler may have inlined it)")
+                raise SpecFault(f"no store that `{line.text}` names may write {name}: it names another store than was meant, or one that "
+                                "never runs (build with -g if the compiler may have inlined it)", line.number, "SB007")

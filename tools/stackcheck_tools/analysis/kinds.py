@@ -12,14 +12,11 @@ if TYPE_CHECKING:
 
 # a correct program may be flagged there
 CALLS, STORES, VECTORS, CORES, MOVES, UNSET = "calls", "stores", "vectors", "cores", "moves", "unset"
-SAFETY, WHOLE = "memory safety", "whole lists"  # only a program without a meaning in its language is
+SAFETY, WHOLE = "memory safety", "whole lists"  # only a program with undefined behaviour is
 UNUSED = "unused units"  # a vector of a unit of which the firmware writes no register
 GIVEN = "given"  # the spec says itself what happens there
 ORDINARY = (CALLS, STORES, VECTORS, CORES, MOVES, UNSET, FUSES, BY_RUNS)
-WORDS = {CALLS: "call{s}", STORES: "store{s}", VECTORS: "vector{s}", CORES: "store{s} near the core", MOVES: "write{s} of {moving}",
-         UNSET: "use{s} of the stack before SPL is written", FUSES: "fuse{s}", SAFETY: "of memory safety",
-         WHOLE: "call{s} with a complete list", UNUSED: "vector{s} of unused units", GIVEN: "given line{s}",
-         PLACE: "limited call{s}", BY_RUNS: "call{s} as deep as the runs"}
+ORDER = (*ORDINARY, SAFETY, WHOLE, UNUSED, GIVEN, PLACE)
 
 
 def counts(outcome: Accepted) -> Dict[str, int]:
@@ -46,11 +43,3 @@ def moving(outcome: Accepted) -> str:
 def core(outcome: Accepted) -> str:
     """The registers of the core, in words."""
     return f"SREG, SP and {moving(outcome)}" if moving(outcome) else "SREG and SP"
-
-
-def counted(outcome: Accepted) -> str:
-    """How many places of each kind there are, in brackets."""
-    found = counts(outcome)
-    told = [f"{found[kind]} " + text.format(s="" if found[kind] == 1 else "s", moving=moving(outcome)) for kind, text in WORDS.items()
-            if kind in found]
-    return f" ({', '.join(told)})" if told else ""

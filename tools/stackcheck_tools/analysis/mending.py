@@ -132,7 +132,7 @@ class Mending(Analysis):
     def run(self, is_plain: bool) -> None:
         """Analyses and tries the firmware, with lines of its own unless it is asked for plain answers."""
         if self.recursions and not self.knows(recursion.KIND, 0, {0}):
-            raise SpecFault(f"line {self.recursions[0].number}: this stackbound knows no line `recur`")
+            raise SpecFault("this stackbound knows no line `recur`", self.recursions[0].number)
         if is_plain:
             self.analyse_once()
             if self.certificate:

@@ -11,7 +11,7 @@ from typing import TYPE_CHECKING, Dict, Iterator, List, Optional, Set, Tuple, Un
 
 from stackcheck_tools.analysis import core_registers, units
 from stackcheck_tools.analysis.causes import Cause
-from stackcheck_tools.analysis.kinds import CALLS, CORES, GIVEN, MOVES, ORDINARY, SAFETY, STORES, UNUSED, VECTORS, WHOLE, counted
+from stackcheck_tools.analysis.kinds import CALLS, CORES, GIVEN, MOVES, ORDINARY, SAFETY, STORES, UNUSED, VECTORS, WHOLE
 from stackcheck_tools.analysis.node_values import Nodes, pointer
 from stackcheck_tools.analysis.warnings_of_words import MOVED
 from stackcheck_tools.analysis.widening import RECORDS
@@ -22,6 +22,7 @@ from stackcheck_tools.firmware import debug_lines, fuses, opcodes, start_up
 from stackcheck_tools.firmware.devices import Device
 from stackcheck_tools.firmware.elf import CODE_END, Elf
 from stackcheck_tools.firmware.names import SpecFault, shown
+from stackcheck_tools.firmware.paths import line_of, readable
 from stackcheck_tools.firmware.records import has_records
 from stackcheck_tools.spec import recursion, sites
 from stackcheck_tools.spec.spec import START_UP, Keep, Spec
@@ -34,7 +35,6 @@ if TYPE_CHECKING:
 
 Key = Union[str, Tuple[str, int, str]]  # path, line and function; or what an entry is called
 MOST_WORDS = 4  # word addresses that one entry prints
-MOST_LETTERS = 100  # of a source line
 START = ("__do_clear_bss", "__do_copy_data")
 Z = 30  # the pair of a call
 WHY = "say here why it keeps the bound"
@@ -47,8 +47,10 @@ class Place:
     def __init__(self, device: Device, key: Key, title: str, source: Optional[Tuple[str, int]] = None) -> None:
         self.device, self.key, self.title, self.source, self.cause, self.may_enable = device, key, title, source, Cause(), False
         self.words: List[int] = []
+        self.says: Optional[str] = None  # of a vector: what is said of it
         self.kinds: Dict[Union[int, str], str] = {}  # by words, and by the names of fuses
         self.warned: List[str] = []
+        self.cure: Optional[str] = None
         self.closers: List[str] = []
         self.keep: Optional[str] = None
         self.judged: Union[Keep, recursion.Recursion, None] = None
@@ -59,43 +61,11 @@ class Place:
         """Whether a correct program may be flagged here."""
         return any(it in ORDINARY for it in self.kinds.values())
 
-    def count(self) -> str:
-        many = f"{len(self.words)} instruction{'' if len(self.words) == 1 else 's'}"
-        return many + " at " + " ".join(map(self.device.word, self.words[:MOST_WORDS])) + (" .." if len(self.words) > MOST_WORDS else "")
-
-    def where(self) -> str:
-        """`path:line: ` of a source place, and nothing of another."""
-        return f"{self.path}:{self.source[1]}: " if self.source else ""
-
-    def why(self) -> Iterator[str]:
-        """Yields what may happen there, and the lines that close it."""
+    def told(self) -> Iterator[str]:
+        """Yields what may happen there."""
         if told := str(self.cause):
             yield told
         yield from self.warned
-        yield from (f"closed by: {it}" for it in self.closers)
-        if self.keep:
-            yield f"judged by: {self.keep}"
-
-    def __str__(self) -> str:
-        code = f"`{self.code}`, " if self.code else ""
-        return f"{self.where()}{self.title}: {code}{self.count()}" if self.words else self.title
-
-
-def readable(path: str) -> str:
-    """A path as an editor finds it: relative to the folder in which the tool runs, where it lies below."""
-    path = os.path.normpath(path)
-    below = os.path.relpath(path) if os.path.isabs(path) else path
-    return path if below.startswith("..") else below
-
-
-def line_of(path: str, number: int) -> Optional[str]:
-    """The text of a source line without its indentation, cut where it is long; None where the file isn't there or has no such line."""
-    try:
-        with open(path, encoding="utf8", errors="replace") as file:
-            text = next((it for at, it in enumerate(file, start=1) if at == number), "").strip()
-    except OSError:
-        return None
-    return text if 0 < len(text) <= MOST_LETTERS else f"{text[:MOST_LETTERS - 3]} .." if text else None
 
 
 def section_at(elf: Elf, address: int) -> str:
@@ -204,14 +174,22 @@ class Look:
         if kind in (CALLS, WHOLE):
             text = self.outcome.firmware.device.word
             yield from (f"its pointer is {text(it)} here, which its list does not have" for it in self.unlisted(word))
-            is_call = kind == CALLS and opcodes.is_indirect(self.elf.word(word))
-            made = self.pointers.why_called(word, self.lines.of(word, "jump")) if is_call else None
+            made = self.made(word, kind)
             if made and not self.unlisted(word):
                 yield f"its pointer {self.of_number(word, made)}"
             if word in self.outcome.lists.why and not self.unlisted(word):
                 yield self.outcome.lists.why[word]
-                if kind == CALLS and not made and not has_records(self.elf):
-                    yield f"cure: {RECORDS}"
+
+    def made(self, word: int, kind: str) -> Optional[str]:
+        """Of what the pointer of an ordinary call is made that its list does not cover; None of another place."""
+        is_call = kind == CALLS and opcodes.is_indirect(self.elf.word(word))
+        return self.pointers.why_called(word, self.lines.of(word, "jump")) if is_call else None
+
+    def cure(self, word: int, kind: str) -> Optional[str]:
+        """What makes the list of a call complete."""
+        is_listed = word in self.outcome.lists.why and not self.unlisted(word)
+        is_curable = kind == CALLS and is_listed and not self.made(word, kind)
+        return RECORDS if is_curable and not has_records(self.elf) else None
 
 
 def put(look: Look, entry: Place, word: int) -> None:
@@ -224,6 +202,7 @@ def put(look: Look, entry: Place, word: int) -> None:
     if kind != recursion.BY_RUNS:
         entry.cause.join(cause)
     entry.warned += [it for it in look.texts(word, kind) if it not in entry.warned]
+    entry.cure = entry.cure or look.cure(word, kind)
     if word in outcome.closers:
         entry.closers.append(outcome.closers[word])
 
@@ -236,8 +215,8 @@ def entry_of_vector(outcome: Told, nodes: Nodes, word: int) -> Place:
     is_unused = device.is_open(number) and not units.uses_nameless(outcome.firmware.elf, nodes)
     why = "may be enabled" if not device.is_open(number) else \
         "its unit is not used: no register is written that the header does not name" if is_unused else "no header names its enable bit"
-    told = "a `never` line says that it is not entered" if is_given else f"it has no handler, and {why}"
-    entry = Place(device, vector, f"{vector}: {told}")
+    entry = Place(device, vector, vector)
+    entry.says = "is not entered, by a `never` line" if is_given else f"has no handler, and {why}"
     entry.kinds[word] = GIVEN if is_given else UNUSED if is_unused else VECTORS
     return entry
 
@@ -332,25 +311,3 @@ def judge(outcome: Accepted, keeps: List[Keep]) -> List[Keep]:
 def unjudged(outcome: Accepted, is_strict: bool) -> List[Place]:
     """The entries that have to be looked at and aren't judged: the ordinary ones, or all where it is asked for all."""
     return [it for it in outcome.entries if not it.judged and (is_strict or it.is_ordinary())]
-
-
-def told(outcome: Accepted) -> Iterator[str]:
-    """Yields what is printed of the places: ordinary ones, those of memory safety, and those that were judged."""
-    if outcome.premises is None:
-        return
-    left = [it for it in outcome.entries if not it.judged]
-    groups = (("to review, since a correct program may be flagged there", [it for it in left if it.is_ordinary()]),
-              ("of memory safety, or of what the spec says itself", [it for it in left if not it.is_ordinary()]))
-    count = sum(len(it.kinds) for it in outcome.entries)
-    yield f"places where a step may be flagged: {count}{counted(outcome)}"
-    for heading, entries_of in groups:
-        if entries_of:
-            yield f"{heading}:"
-        for it in entries_of:
-            yield str(it)
-            yield from (f"  {why}" for why in it.why())
-    judged = [it for it in outcome.entries if it.judged]
-    if judged:
-        yield f"judged by the spec: {len(judged)}"
-        yield from (f"{it}; {it.judged.why}" for it in judged if it.judged)
-    yield from (f"line {it.number} of the spec judges no place: keeps {it.name}{it.end()}" for it in outcome.idle_keeps)

@@ -7,6 +7,7 @@ import subprocess
 from typing import Dict, List, Optional, Tuple
 
 from stackcheck_tools import progress
+from stackcheck_tools.finding import Fault
 
 OK, REJECTED, USAGE, SCHEDULE, REFUSED, DEVICES = 0, 1, 2, 9, 10, 14
 UNBUILT = 70  # the launcher's, where no proved program stands that is of its sources
@@ -14,8 +15,10 @@ WORK = {"analyse": "analysing", "check": "checking", "attain": "seeking a run as
 TOP = os.path.join(os.path.dirname(os.path.realpath(__file__)), "..", "..", "..")
 
 
-class NoProgram(Exception):
-    """The program can't be run."""
+class NoProgram(Fault):
+    """The program cannot be run, or does not answer as it should."""
+
+    rule = "SB009"
 
 
 class Program:

@@ -6,21 +6,26 @@ from typing import TYPE_CHECKING, Dict, Iterator, List, Optional, Set, Tuple
 
 from stackcheck_tools.analysis import registers
 from stackcheck_tools.analysis.cures import parts
+from stackcheck_tools.analysis.locations import of_word
 from stackcheck_tools.analysis.telling import line_of_spec
 from stackcheck_tools.analysis.trials import handled
+from stackcheck_tools.finding import Related
 from stackcheck_tools.firmware import candidates, opcodes
 from stackcheck_tools.firmware.devices import Device
 from stackcheck_tools.firmware.elf import Elf
 from stackcheck_tools.firmware.firmware import Firmware
+from stackcheck_tools.spec.lines import Lines
 
 if TYPE_CHECKING:
     from stackcheck_tools.analysis.mending import Mending
 
 OUT_SREG, RETI, SBI = 0xBE0F, 0x9518, 0x9A00
 MOST_REASONS, NEAR, GUARD = 8, 5, 6
-SET_AGAIN = ("its own enable bit is set again before it ends, while interrupts are enabled",
-             "set the bit again only after its `cli()`, or where it cannot run; no step may set it meanwhile, whatever variables say")
-STAYS = ("it enables interrupts while its own vector counts as enabled, which nothing in the handler changes",
+# causes of which the places of this firmware tell more than a row of the table: name, cause and cure
+SET_AGAIN = ("set again", "its own enable bit is set again before it ends, while interrupts are enabled",
+             "set the bit again only after its `cli()`, or where it cannot run; no step may set it meanwhile, even on paths that cannot "
+             "run")
+STAYS = ("stays enabled", "it enables interrupts while its own vector counts as enabled, which nothing in the handler changes",
          "do not enable interrupts while this handler runs")
 
 
@@ -67,11 +72,17 @@ def way_back(graph: Dict[int, List[Step]], word: int) -> List[Tuple[int, Step]]:
     return []
 
 
-def of_recursion(firmware: Firmware, work: Mending, word: int) -> Iterator[str]:
+def reason(firmware: Firmware, text: str, word: Optional[int] = None) -> Related:
+    """What leads to a refusal, at the place of a word if it has one."""
+    return Related("reason", text) if word is None else Related("reason", f"{text} at {firmware.place(word)}", of_word(firmware, word))
+
+
+def of_recursion(firmware: Firmware, work: Mending, word: int) -> Iterator[Related]:
     """The way on which a function comes back to itself, with the `jump` lines of this tool on it."""
     for at, it in way_back(steps(firmware, work), word):
         how = f", by a line of this tool, which lists all that may be called: `{it.own}`" if it.own else ""
-        yield f"{firmware.function(at)} enters {firmware.function(it.target)} at {firmware.place(it.site)}{how}"
+        text = f"{firmware.function(at)} enters {firmware.function(it.target)} at {firmware.place(it.site)}{how}"
+        yield Related("reason", text, of_word(firmware, it.site))
 
 
 def reached(graph: Dict[int, List[Step]], word: int) -> Set[int]:
@@ -85,7 +96,7 @@ def reached(graph: Dict[int, List[Step]], word: int) -> Set[int]:
     return found
 
 
-def written_address(firmware: Firmware, work: Mending, word: int) -> Optional[int]:
+def written_address(firmware: Firmware, lines: Lines, word: int) -> Optional[int]:
     """The data address that an instruction writes; None where it isn't known."""
     opcode = firmware.elf.word(word)
     if opcode & 0xFE0F == 0x9200:
@@ -94,7 +105,7 @@ def written_address(firmware: Firmware, work: Mending, word: int) -> Optional[in
         return opcodes.io_address(opcode)
     if opcode & 0xFF00 == SBI:
         return (opcode >> 3 & 31) + 0x20
-    listed = work.lines.of(word, "store")
+    listed = lines.of(word, "store")
     return min(listed) if len(listed) == 1 else None
 
 
@@ -114,13 +125,13 @@ def may_set(elf: Elf, word: int, mask: int, begin: int) -> bool:
     return register != 1  # r1 is 0 in compiled code
 
 
-def setters(firmware: Firmware, work: Mending, functions: Set[int], vector: int) -> Iterator[Tuple[int, str]]:
+def setters(firmware: Firmware, lines: Lines, functions: Set[int], vector: int) -> Iterator[Tuple[int, str]]:
     """The words in some functions that may set a vector's enable bit, with the registers."""
     places = {it.address: it for it in firmware.device.rows[vector].places}
     for symbol in firmware.elf.code:
         if symbol.address // 2 in functions:
             for at, _ in opcodes.words_of(firmware.elf, symbol):
-                address = written_address(firmware, work, at)
+                address = written_address(firmware, lines, at)
                 found = None if address is None else places.get(address)
                 if found and may_set(firmware.elf, at, found.mask, symbol.address // 2):
                     yield at, firmware.device.register_name(found.address)
@@ -168,7 +179,7 @@ def stays_enabled(device: Device, vector: int) -> str:
             "even after it is cleared")
 
 
-def of_re_entry(firmware: Firmware, work: Mending, vector: int) -> Iterator[str]:
+def of_re_entry(firmware: Firmware, work: Mending, vector: int) -> Iterator[Related]:
     """Each place that lets interrupts in while a handler runs, and each that may set its enable bit then: in the handler, or in one that
     comes meanwhile."""
     elf, device = firmware.elf, firmware.device
@@ -178,50 +189,52 @@ def of_re_entry(firmware: Firmware, work: Mending, vector: int) -> Iterator[str]
     graph = steps(firmware, work)
     own = reached(graph, entry)
     opened = list(openers(firmware, own, entry))
-    yield from (f"{firmware.function(at)} enables interrupts (`{text}`) at {firmware.place(at)}" for at, text in opened)
+    yield from (reason(firmware, f"{firmware.function(at)} enables interrupts (`{text}`)", at) for at, text in opened)
     if stays := stays_enabled(device, vector):
-        yield stays
+        yield reason(firmware, stays)
         return
-    sets = [(at, name, "") for at, name in setters(firmware, work, own, vector)]
+    sets = [(at, name, "") for at, name in setters(firmware, work.lines, own, vector)]
     for other in handled(elf, device):
         target = opcodes.jump_target(elf, device.vector_word(other))
         if other != vector and target is not None:
-            sets += [(at, name, device.vectors[other]) for at, name in setters(firmware, work, reached(graph, target) - own, vector)]
+            sets += [(at, name, device.vectors[other]) for at, name in setters(firmware, work.lines, reached(graph, target) - own, vector)]
     for at, name, by in sets:
         function = firmware.function(at)
         why = "" if not by else ", which may come meanwhile," if function == by else f", called by {by}, which may come meanwhile,"
-        yield f"{function}{why} sets {name} again at {firmware.place(at)}"
+        yield reason(firmware, f"{function}{why} sets {name} again", at)
     if any(is_guarded(elf, at) for at in [*(at for at, _ in opened), *(at for at, *_ in sets)]):
-        yield "values of variables are not followed, so a flag that guards this does not count"
+        yield reason(firmware, "values of variables are not followed, so a flag that guards this does not count")
 
 
-def of_cause(firmware: Firmware, name: str) -> Iterator[str]:
+def of_cause(firmware: Firmware, name: str) -> Iterator[Related]:
     """What leads to a refusal by its cause: the functions that don't clear r1, the jumps to address 0."""
     elf = firmware.elf
     for symbol in {it.address: it for it in reversed(elf.code)}.values():
         if name == "zero register" and not symbol.name.startswith("__") and not registers.keeps_zero(elf, symbol):
-            yield f"{firmware.name(symbol)} computes with r1 and does not clear it"
+            yield Related("reason", f"{firmware.name(symbol)} computes with r1 and does not clear it",
+                          of_word(firmware, symbol.address // 2))
         for at, _ in opcodes.words_of(elf, symbol) if name == "begins anew" and symbol.is_function else ():
             if 0 in (opcodes.jump_target(elf, at), opcodes.call_target(elf, at)):
-                yield f"{firmware.name(symbol)} goes to address 0 at {firmware.place(at)}"
+                yield reason(firmware, f"{firmware.name(symbol)} goes to address 0", at)
 
 
-def reasons(firmware: Firmware, work: Mending, refusal: str) -> List[str]:
+def reasons(firmware: Firmware, work: Mending, refusal: str) -> List[Related]:
     """What leads to a refusal here: of recursion the way back, of a re-entry the places that let it in."""
     number, _, vector, place, _ = parts(refusal)
     if not firmware.elf.code:
         return []
-    found: Iterator[str] = iter(())
+    found: Iterator[Related] = iter(())
     if number == "2" and place:
         found = of_recursion(firmware, work, int(place, 16))
     elif number == "3" and vector:
         found = of_re_entry(firmware, work, int(vector))
     told = list(dict.fromkeys(found))
-    return told[:MOST_REASONS] + ([f"and {len(told) - MOST_REASONS} more"] if len(told) > MOST_REASONS else [])
+    more = len(told) - MOST_REASONS
+    return told[:MOST_REASONS] + ([reason(firmware, f"and {more} more")] if more > 0 else [])
 
 
-def overriding(name: str, told: List[str]) -> Optional[Tuple[str, str]]:
-    """Cause and cure where the places tell more than the usual row does."""
-    if name in ("re-entry", "noblock") and any(" counts as " in it for it in told):
+def overriding(name: str, told: List[Related]) -> Optional[Tuple[str, str, str]]:
+    """Name, cause and cure where the places tell more than the usual row does."""
+    if name in ("re-entry", "noblock") and any(" counts as " in it.message for it in told):
         return STAYS
-    return SET_AGAIN if name == "re-entry" and any(" again at " in it for it in told) else None
+    return SET_AGAIN if name == "re-entry" and any(" again at " in it.message for it in told) else None

@@ -9,7 +9,10 @@ import struct
 import subprocess
 from typing import Callable, Dict, Iterable, Iterator, List, Optional, Tuple, Union
 
+from stackcheck_tools.firmware import folders
+from stackcheck_tools.firmware.dwarf_reader import Reader
 from stackcheck_tools.firmware.elf import Elf
+from stackcheck_tools.firmware.paths import found
 
 PATH, FOLDER = 1, 2  # what a list of version 5 tells of a file
 STRING, BLOCK, STRP, UDATA, LINE_STRP = 0x08, 0x09, 0x0E, 0x0F, 0x1F  # forms of its values
@@ -17,41 +20,22 @@ Row = Tuple[int, int, str, int]  # begin and end of some code by byte addresses,
 SIZES = {0x0B: 1, 0x05: 2, 0x06: 4, 0x07: 8, 0x1E: 16}  # bytes of its numbers, by their forms
 
 
-class Reader:
-    def __init__(self, data: bytes, at: int = 0) -> None:
-        self.data, self.at = data, at
-
-    def take(self, form: str) -> int:
-        value = int(struct.unpack_from("<" + form, self.data, self.at)[0])
-        self.at += struct.calcsize(form)
-        return value
-
-    def text(self) -> str:
-        end = self.data.index(b"\0", self.at)
-        text, self.at = self.data[self.at:end].decode("utf8", "replace"), end + 1
-        return text
-
-    def number(self, is_signed: bool = False) -> int:
-        """A number in LEB128."""
-        value = shift = 0
-        while True:
-            byte = self.take("B")
-            value |= (byte & 0x7F) << shift
-            shift += 7
-            if byte < 0x80:
-                return value - (1 << shift) if is_signed and byte & 0x40 else value
-
-
-def dwarf_rows(data: bytes, texts: bytes = b"", line_texts: bytes = b"") -> Iterator[Row]:
-    """Yields (begin, end, file, line) of each row of the line tables. A table of another version is passed over. Texts are those of
-    `.debug_str` and `.debug_line_str`, to which version 5 refers."""
+def dwarf_tables(data: bytes, texts: bytes = b"", line_texts: bytes = b"") -> Iterator[Tuple[int, Iterator[Row]]]:
+    """Yields the offset of each line table and its rows: (begin, end, file, line). A table of another version is passed over. Texts are
+    those of `.debug_str` and `.debug_line_str`, to which version 5 refers."""
     at = 0
     while at + 4 <= len(data):
-        reader = Reader(data, at)
+        reader, offset = Reader(data, at), at
         at += 4 + reader.take("I")
         version = reader.take("H")
         if 2 <= version <= 5:
-            yield from unit_rows(reader, at, version, (texts, line_texts))
+            yield offset, unit_rows(reader, at, version, (texts, line_texts))
+
+
+def dwarf_rows(data: bytes, texts: bytes = b"", line_texts: bytes = b"") -> Iterator[Row]:
+    """Yields the rows of all line tables."""
+    for _, rows in dwarf_tables(data, texts, line_texts):
+        yield from rows
 
 
 def formed(reader: Reader, form: int, texts: Tuple[bytes, bytes]) -> Union[int, str, None]:
@@ -215,8 +199,12 @@ class Lines:
         self.path = path
         self.has_vectors = elf.all.get("__vectors") == 0
         self.places: Dict[int, Optional[Tuple[str, int]]] = {}
+        self.folders: Dict[int, str] = {}  # of the compiler, by byte addresses
+        self.paths: Dict[Tuple[str, str], str] = {}
+        tables = folders.by_table(elf)
         try:
-            self.hold(dwarf_rows(*(elf.section(it) for it in (".debug_line", ".debug_str", ".debug_line_str"))))
+            for offset, rows in dwarf_tables(*(elf.section(it) for it in (".debug_line", ".debug_str", ".debug_line_str"))):
+                self.hold(rows, tables.get(offset, ""))
             self.hold(stab_rows(elf.section(".stab"), elf.section(".stabstr"), lambda at: self.end_of(elf, at)))
         except (struct.error, ValueError, IndexError):
             pass  # damaged debug information tells what was read so far
@@ -229,16 +217,32 @@ class Lines:
         symbol = elf.symbol_at(address)
         return elf.extent(symbol)[1] if symbol else address
 
-    def hold(self, rows: Iterable[Row]) -> None:
-        """Holds the rows by byte address. A function that the linker has left out has rows from 0 on, where the vectors stand."""
+    def hold(self, rows: Iterable[Row], folder: str = "") -> None:
+        """Holds the rows by byte address, with the folder in which the compiler ran. A function that the linker has left out has rows from
+        0 on, where the vectors stand."""
         left_out = None
         for begin, end, file, line in rows:
             left_out = end if self.has_vectors and begin in (0, left_out) else None
             for address in range(begin, end if line and left_out is None else begin):
-                self.places.setdefault(address, (file, line))
+                if address not in self.places:
+                    self.places[address] = (file, line)
+                    if folder:
+                        self.folders[address] = folder
+
+    def path_of(self, address: int, name: str) -> str:
+        """The path of a source file, whose name the debug information has."""
+        key = self.folders.get(address, ""), name
+        if key not in self.paths:
+            self.paths[key] = found(*key)
+        return self.paths[key]
 
     def source(self, address: int) -> Optional[Tuple[str, int]]:
-        """The path and the line of a byte address as the file tells them; None where nothing tells them."""
+        """The path and the line of a byte address; None where nothing tells them."""
+        held = self.held(address)
+        return held and (self.path_of(address, held[0]), held[1])
+
+    def held(self, address: int) -> Optional[Tuple[str, int]]:
+        """The name of the file and the line of a byte address as the debug information has them; None where nothing tells them."""
         if self.has_rows or address in self.places or not self.other:
             return self.places.get(address)
         said = subprocess.run([self.other, "-e", self.path, hex(address)], capture_output=True, text=True).stdout.split(" (")[0].strip()
@@ -248,8 +252,8 @@ class Lines:
 
     def at(self, address: int) -> Optional[str]:
         """`file:line` of a byte address, the file without its folders; None where nothing tells it."""
-        found = self.source(address)
-        return f"{os.path.basename(found[0])}:{found[1]}" if found else None
+        held = self.held(address)
+        return f"{os.path.basename(held[0])}:{held[1]}" if held else None
 
     def words(self, file: str, line: int) -> List[int]:
         """The words of the instructions of a line of a file, which is named with as much of its path as tells it; none without line

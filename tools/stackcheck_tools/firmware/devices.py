@@ -7,6 +7,7 @@ import functools
 import re
 from typing import TYPE_CHECKING, Iterator, List, NamedTuple, Optional, Tuple
 
+from stackcheck_tools.finding import Fault
 from stackcheck_tools.firmware.device_table import CLASSES, LEFT_OUT, NAMED, VECTORS
 
 if TYPE_CHECKING:
@@ -25,8 +26,10 @@ OTHER_CORES = (  # names of chips that no row of the table can describe, and why
     (r"atxmega\w+", "another core, XMEGA"))
 
 
-class Misuse(Exception):
-    """The words or the firmware aren't as a tool takes them."""
+class Misuse(Fault):
+    """The device is not named, not known, or not the one that the file was linked for."""
+
+    rule = "SB003"
 
 
 class Place(NamedTuple):

@@ -7,6 +7,7 @@ import re
 import struct
 from typing import Dict, Iterator, List, Optional, Tuple
 
+from stackcheck_tools.finding import Fault
 from stackcheck_tools.firmware.devices import Device, default, named
 
 FLASH = 0x40000  # bytes of the largest device
@@ -22,8 +23,10 @@ JMP = 0x940C
 BOUNDS = ("__ctors_", "__dtors_", "__trampolines_", "__vector_default", "_etext", "__TEXT_REGION", "__data_load")  # the linker's own marks
 
 
-class NoElf(Exception):
-    """The file is no ELF file of an AVR that these tools read."""
+class NoElf(Fault):
+    """The file is not an ELF file of an AVR that these tools read."""
+
+    rule = "SB002"
 
 
 class Symbol:
@@ -48,14 +51,14 @@ def what_else(data: bytes) -> Optional[str]:
             return ("is a file of Intel HEX, which has no names and no sections: give the ELF file from which it was made, "
                     "or read it with `stackcheck --device NAME`")
         if data[:7] == b"!<arch>":
-            return "is a library (.a) and no linked firmware: give the ELF file that the linker writes"
-        return "is no ELF file of an AVR"
+            return "is a library (.a) and not a linked firmware: give the ELF file that the linker writes"
+        return "is not an AVR ELF file"
     kind, machine = struct.unpack_from("<HH", data, 16) if len(data) >= 52 else (0, 0)
     if data[4:7] != b"\x01\x01\x01" or machine != 83:
-        return "is no ELF file of an AVR"
+        return "is not an AVR ELF file"
     if kind == 1:
         return "is an object file (.o) and not linked: give the ELF file that the linker writes"
-    return None if kind == 2 else "is no ELF file of an AVR"
+    return None if kind == 2 else "is not an AVR ELF file"
 
 
 class Elf:

@@ -35,11 +35,11 @@ class Firmware:
         if begin:
             raise Misuse(f"{self.path}: this is a boot loader at {begin:04X}: nothing stands at address 0, where the bound takes the chip "
                          f"to start, and code that "
-                         "writes flash has no bound; give the program that it starts")
+                         "writes flash has no bound; give the program that it starts", "SB004")
         for _, last in self.elf.placed:
             if last > max(end, LEAST):
                 raise Misuse(f"{self.path} has bytes up to {last - 1:04X}, and the flash of {self.device.name} ends at {end - 1:04X}: it "
-                             f"was linked for another device")
+                             f"was linked for another device", "SB005")
 
     def name(self, symbol: Symbol) -> str:
         """A function's name as a reader knows it; with the types of its parameters where another one has the same."""

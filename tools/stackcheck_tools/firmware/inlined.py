@@ -6,10 +6,10 @@ import functools
 import struct
 from typing import Dict, Iterator, List, NamedTuple, Optional, Tuple, Union
 
-from stackcheck_tools.firmware.debug_lines import Reader
+from stackcheck_tools.firmware.dwarf_reader import Reader
 from stackcheck_tools.firmware.elf import Elf
 
-SUBPROGRAM, INLINED = 0x2E, 0x1D
+UNIT, SUBPROGRAM, INLINED = 0x11, 0x2E, 0x1D
 NAME, LOW, HIGH, ORIGIN, FILE, SPECIFICATION, RANGES = 0x03, 0x11, 0x12, 0x31, 0x3A, 0x47, 0x55
 LINKAGE = (0x6E, 0x2007)
 FIXED = {0x05: "H", 0x06: "I", 0x07: "Q", 0x0B: "B", 0x0C: "B", 0x11: "B", 0x12: "H", 0x13: "I", 0x14: "Q", 0x17: "I", 0x20: "Q"}
@@ -43,7 +43,7 @@ class Attribute(NamedTuple):
 
 
 class Entry(NamedTuple):
-    """An entry of the debug information that is a function or a copy of one."""
+    """An entry of the debug information: a function, a copy of one, or a unit."""
 
     offset: int
     tag: int
@@ -89,8 +89,8 @@ def attribute(reader: Reader, form: int, unit: Unit, strings: bytes) -> Union[in
     raise ValueError
 
 
-def entries(elf: Elf) -> Iterator[Entry]:
-    """Yields the entries of a file."""
+def entries(elf: Elf, tags: Tuple[int, ...] = (SUBPROGRAM, INLINED)) -> Iterator[Entry]:
+    """Yields the entries of a file that have these tags."""
     data, kinds, strings = (elf.section(it) for it in (".debug_info", ".debug_abbrev", ".debug_str"))
     at = 0
     while at + 11 <= len(data):
@@ -103,8 +103,10 @@ def entries(elf: Elf) -> Iterator[Entry]:
             if code:
                 tag, pairs = unit.kinds[code]
                 found = {name: Attribute(form, attribute(reader, form, unit, strings)) for name, form in pairs}
-                if tag in (SUBPROGRAM, INLINED):
+                if tag in tags:
                     yield Entry(offset, tag, found)
+                if tag == UNIT in tags:
+                    break  # it is the first of its unit
         at = end
 
 

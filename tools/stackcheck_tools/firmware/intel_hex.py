@@ -112,7 +112,7 @@ class Image(Elf):
         for it in self.records:
             for at in range(it.address, it.address + len(it.data)):
                 if at in placed:
-                    raise NoElf(f"{self.path}: line {it.line}: address {at:04X} has a byte by line {placed[at]} already")
+                    raise NoElf(f"{self.path}: line {it.line}: address {at:04X} is defined by line {placed[at]} already")
                 placed[at] = it.line
             if it.address + len(it.data) <= FLASH:
                 self.flash[it.address:it.address + len(it.data)] = it.data
@@ -133,7 +133,7 @@ class Image(Elf):
             end = it.address + len(it.data)
             if it.data and end > size and not NOT_FLASH < it.address:
                 raise NoElf(f"{self.path}: line {it.line}: address {max(it.address, size):04X} lies beyond the flash of {self.chip.name}, "
-                            f"whose last is {size - 1:04X}")
+                            f"whose last is {size - 1:04X}", "SB005")
 
     def static_end(self) -> Optional[int]:
         """The data address behind what the start-up code fills; None where it fills nothing."""

@@ -4,8 +4,9 @@ from __future__ import annotations
 
 import difflib
 import re
-from typing import List, Tuple
+from typing import List, Optional, Tuple
 
+from stackcheck_tools.finding import Fault, Location
 from stackcheck_tools.firmware.cxx_names import qualified, without_parameters, written
 from stackcheck_tools.firmware.elf import Elf, Symbol
 
@@ -13,8 +14,13 @@ from stackcheck_tools.firmware.elf import Elf, Symbol
 CLONE = re.compile(r"(\.(part|constprop|isra|lto_priv|cold)(\.\d+)?|\.\d+)+$")
 
 
-class SpecFault(Exception):
-    """A line of a spec that says nothing of this firmware; the text has the line's number."""
+class SpecFault(Fault):
+    """A line of a spec that says nothing of this firmware, with its number where that is known."""
+
+    rule = "SB006"
+
+    def __init__(self, message: str, line: Optional[int] = None, rule: Optional[str] = None) -> None:
+        super().__init__(message, rule, Location(line=line))
 
 
 class Missing(SpecFault):

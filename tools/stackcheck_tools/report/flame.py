@@ -6,22 +6,26 @@ from __future__ import annotations
 from html import escape
 from typing import Dict, Iterator, List, Tuple
 
-from stackcheck_tools.report.call_graph import Entry, Graph, Instance
+from stackcheck_tools.finding import Frame
 
-CALLS = ("#3f6fb5", "#5aa3b8", "#4b9a6b", "#7b86c4", "#8fb35c", "#2f8f8b", "#6b8fd6", "#86a79a")
-INTERRUPTS = ("#d98032", "#c9504a", "#d9a83c", "#b8607f", "#e0916f", "#a8703a")
-MORE = ("#b4bac4", "#98a1ae", "#c6ccd5")
-MOST_ROWS, MOST_CHILDREN = 40, 8
+# colours of boxes, with dark text on them: tests/units/test_page.py measures their contrast
+CALLS = ("#4581d0", "#3d9db7", "#44986e", "#8385d8", "#6e9f44", "#2a9287", "#668ee9", "#6f9789")
+INTERRUPTS = ("#d67b2a", "#d55c58", "#b68d1a", "#c76d91", "#dd6c4a", "#a67944")
+MORE = ("#868f9c", "#7d8590", "#8f959c")
 WIDTH, MARGIN, ROW, TOP = 1000, 170, 24, 26  # the drawing's width, what is left at its right for labels, a row, the axis
 LETTER = 7.2
+
+
+def bytes_of(count: int) -> str:
+    return "1 byte" if count == 1 else f"{count} bytes"
 
 
 class Box:
     """A function or handler on a way from the reset: where it begins, where it ends by its own frame, and the boxes that it enters."""
 
-    def __init__(self, name: str, begin: int, end: int, kind: str) -> None:
-        self.name, self.begin, self.end, self.kind, self.colour = name, begin, end, kind, ""
-        self.children: List[Box] = []
+    def __init__(self, frame: Frame) -> None:
+        self.name, self.begin, self.end, self.kind, self.colour = frame.name, frame.begin, frame.end, frame.kind, ""
+        self.children: List[Box] = [Box(it) for it in frame.children]
 
     def label(self) -> str:
         """The name as a drawing has room for it: of a handler the vector alone."""
@@ -51,45 +55,6 @@ class Box:
         for it in self.children:
             yield from it.all(top)
             top += it.rows()
-
-
-def shown_entries(graph: Graph, instance: Instance, begin: int) -> List[Tuple[int, Entry]]:
-    """What an instance enters, by name at the deepest; of handlers the deepest alone, and only where nothing that is called goes as
-    deep."""
-    deepest: Dict[Tuple[str, bool], Tuple[int, Entry]] = {}
-    for it in instance.entries.values():
-        other = graph.instances[it.other]
-        key, reach = (other.name, it.is_interrupt), it.depth + other.need
-        if key not in deepest or deepest[key][0] < reach:
-            deepest[key] = reach, it
-    found = sorted(deepest.values(), key=lambda it: (-it[0], graph.instances[it[1].other].name))
-    called = [it for it in found if not it[1].is_interrupt]
-    entered = [it for it in found if it[1].is_interrupt]
-    most = max([instance.own, *(it[0] for it in called)])
-    if entered and entered[0][0] > most:
-        called = [entered[0], *called]
-    return [(begin + it.depth, it) for _, it in called]
-
-
-def tree(graph: Graph, number: int, begin: int, most: int, is_interrupt: bool = False) -> Box:
-    instance = graph.instances[number]
-    box = Box(instance.name, begin, begin + instance.own, "interrupt" if is_interrupt else "call")
-    entries = shown_entries(graph, instance, begin)
-    box.children = [tree(graph, it.other, at, most, it.is_interrupt or is_interrupt) for at, it in entries[:most]]
-    if rest := entries[most:]:
-        at = max(begin for begin, _ in rest)
-        more = Box(f"{len(rest)} more", at, max(begin + graph.instances[it.other].need for begin, it in rest), "more")
-        box.children.append(more)
-    return box
-
-
-def made(graph: Graph) -> Box:
-    """The tree with as many boxes as there is room for."""
-    for most in range(MOST_CHILDREN, 0, -1):
-        root = tree(graph, 0, 0, most)
-        if root.rows() <= MOST_ROWS:
-            break
-    return root
 
 
 def touches(one: Tuple[int, int, int, int], other: Tuple[int, int, int, int]) -> bool:
@@ -159,9 +124,9 @@ def axis(most: int, scale: float, height: int) -> Iterator[str]:
                f'<text x="{x + 3:.1f}" y="12" class="axis">{at}</text>')
 
 
-def painted(graph: Graph) -> Tuple[Box, Dict[str, str]]:
+def painted(frames: Frame) -> Tuple[Box, Dict[str, str]]:
     """The tree with its colours, and the colour of each name."""
-    root = made(graph)
+    root = Box(frames)
     return root, paint(root)
 
 
@@ -169,10 +134,12 @@ def svg(root: Box) -> Iterator[str]:
     """The drawing of a painted tree."""
     most = max(root.reach(), 1)
     scale, height = (WIDTH - MARGIN) / most, TOP + root.rows() * ROW + 6
-    yield f'<svg viewBox="0 0 {WIDTH} {height}" xmlns="http://www.w3.org/2000/svg" role="img" aria-label="the tree of needs">'
+    yield (f'<svg viewBox="0 0 {WIDTH} {height}" xmlns="http://www.w3.org/2000/svg" role="img" aria-label="Flame graph: the functions and '
+           'interrupts to which the bytes of stack belong; the table of needs has the same numbers">')
     yield from axis(most, scale, height)
     for box, top in root.all():
-        title = f"{box.name}: bytes {box.begin} to {box.end} of the stack are its own, and it goes down to {box.reach()}"
+        title = (f"{box.name}: begins at byte {box.begin} of the stack, has a frame of {bytes_of(box.end - box.begin)} of its own, and "
+                 f"reaches byte {box.reach()} with all that it enters")
         yield f'<g><title>{escape(title)}</title><path d="{outline(box, top, scale)}" fill="{box.colour}"/>{label(box, top, scale)}</g>'
     yield from ends(root, scale)
     yield "</svg>"

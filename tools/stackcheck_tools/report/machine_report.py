@@ -1,70 +1,42 @@
-"""All that `stackcheck` prints, as one object of JSON."""
+"""The result as one object of JSON, by the schema beside this module; docs/FINDINGS.md says what each field means."""
 
 from __future__ import annotations
 
 import json
-from typing import Dict
+from dataclasses import asdict
+from typing import Dict, Optional
 
-from stackcheck_tools.analysis import kinds
-from stackcheck_tools.analysis.causes import Cause
-from stackcheck_tools.analysis.outcome import Accepted, Outcome, Refused
-from stackcheck_tools.analysis.places import Place
-from stackcheck_tools.habits import version
-from stackcheck_tools.report import verdict
+from stackcheck_tools.finding import Bound, Finding, Result
+from stackcheck_tools.report.fingerprint import numbered
+from stackcheck_tools.rules import BY_ID
 
-
-def cause(it: Cause) -> Dict[str, object]:
-    return {"protected": [f"{address:04X}" for address in sorted(it.addresses)], "more": it.more, "live": it.live, "transfer": it.transfer,
-            "moves": it.moves}
+VERSION = 1  # rises if a field goes or changes its meaning; a field that is added leaves it
 
 
-def place(it: Place) -> Dict[str, object]:
-    return {"source": it.path, "line": it.source[1] if it.source else None, "title": it.title, "text": it.code,
-            "words": [*map(it.device.word, it.words)],
-            "kind": sorted(set(it.kinds.values())), "ordinary": it.is_ordinary(), "may": cause(it.cause), "closed_by": it.closers,
-            "told": it.warned, "judged_by": it.keep, "judged": it.judged.why if it.judged else None}
+def finding(it: Finding, fingerprint: str) -> Dict[str, object]:
+    return {"rule": it.rule, "name": BY_ID[it.rule].name, "level": it.level, "message": it.message, "kind": it.kind, "subject": it.subject,
+            "locations": [asdict(at) for at in it.locations], "related": [asdict(one) for one in it.related], "details": list(it.details),
+            "source": it.source, "cause": it.cause, "why": it.why, "cure": it.cure, "spec_lines": list(it.spec_lines), "record": it.record,
+            "reviewed": it.reviewed and asdict(it.reviewed), "fingerprint": fingerprint}
 
 
-def versions(outcome: Outcome) -> Dict[str, object]:
-    return {"stackcheck": version(), "certificate": None if isinstance(outcome, Refused) else outcome.certificate.split("\n", 1)[0]}
+def bound(it: Optional[Bound]) -> Optional[Dict[str, object]]:
+    if it is None:
+        return None
+    return {"bytes": it.bytes, "holds": it.holds, "attained": it.attained, "seen": it.seen, "room": it.room, "margin": it.margin(),
+            "sram": it.sram, "places": [asdict(one) for one in it.places]}
 
 
-def common(outcome: Outcome) -> Dict[str, object]:
-    firmware = outcome.firmware
-    return {"firmware": firmware.path, "device": firmware.device.name, "linked_for": firmware.linked_for, "versions": versions(outcome),
-            "given": outcome.assumed.splitlines(),
-            "assumed": [{"spec": it.spec, "line": it.words, "place": it.place} for it in outcome.written]}
+def value(it: Result) -> Dict[str, object]:
+    return {
+        "schema": "stackcheck", "version": VERSION, "tool": {"name": "stackcheck", "version": it.version}, "command": list(it.command),
+        "firmware": {"path": it.firmware, "format": it.format, "device": it.device, "linked_for": it.linked_for},
+        "spec": it.spec, "certificate": it.certificate, "status": it.status(), "bound": bound(it.bound),
+        "findings": [finding(*one) for one in numbered(it.findings)], "lines": [asdict(one) for one in it.lines],
+        "chain": [asdict(one) for one in it.chain], "needs": [asdict(one) for one in it.needs],
+        "recursions": [asdict(one) for one in it.recursions],
+        "interrupts": None if it.interrupts is None else [asdict(one) for one in it.interrupts], "since": it.since and asdict(it.since)}
 
 
-def refused(outcome: Refused) -> Dict[str, object]:
-    return {"bound": None, "refusal": {"text": outcome.refusal, "places": outcome.places, "cause": outcome.cause,
-                                       "reasons": outcome.reasons, "cure": outcome.cure,
-                                       "spec": outcome.cure_lines}, "needs": []}
-
-
-def accepted(outcome: Accepted) -> Dict[str, object]:
-    found: Dict[str, object] = {
-        "bound": outcome.bound, "holds": verdict.holds(outcome), "witness": outcome.witness, "seen": outcome.seen,
-        "flagged": outcome.flagged,
-        "heap": outcome.heap, "room": outcome.room, "margin": outcome.room - outcome.bound, "keeps": outcome.keeps,
-        "rule": outcome.rule or None, "refusal": None,
-        "chain": [{"adds": it.count, "place": it.text} for it in outcome.chain],
-        "needs": [{"name": it.name, "own": it.own, "calls": it.calls, "interrupts": it.all, "handler": it.is_handler}
-                  for it in outcome.table],
-        "places": None if outcome.premises is None else [place(it) for it in outcome.entries],
-        "kinds": None if outcome.premises is None else kinds.counts(outcome)}
-    if outcome.recursions:
-        found["recursions"] = [{"function": it.name, "activations": it.count, "depth": max(it.depths.values()), "by_runs": it.is_by_runs(),
-                                "words": [*map(outcome.firmware.device.word, it.entries)]}
-                               for it in outcome.recursions]
-    if outcome.costs is not None:
-        found["interrupts"] = [{"name": it.name, "without": it.without} for it in outcome.costs]
-    if outcome.difference:
-        found["since"] = {"file": outcome.difference.path, "bound": outcome.difference.before,
-                          "changes": [{"name": it.name, "before": it.before, "now": it.now} for it in outcome.difference.changes]}
-    return found
-
-
-def text(outcome: Outcome) -> str:
-    found = refused(outcome) if isinstance(outcome, Refused) else accepted(outcome)
-    return json.dumps({**common(outcome), **found, "status": outcome.status}, indent=1) + "\n"
+def text(it: Result) -> str:
+    return json.dumps(value(it), indent=1, ensure_ascii=False) + "\n"

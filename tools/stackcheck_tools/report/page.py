@@ -1,50 +1,25 @@
-"""What `stackcheck` found, as one page of HTML that stands alone."""
+"""The result as one page of HTML that stands alone."""
 
 from __future__ import annotations
 
 import os
+import shlex
 from html import escape
 from typing import Dict, Iterator, List, Tuple
 
-from stackcheck_tools.analysis.outcome import Accepted, Outcome, Refused
-from stackcheck_tools.analysis.places import Place, unjudged
-from stackcheck_tools.report import flame, needs, verdict as verdicts
+from stackcheck_tools.finding import NOTE, ORDINARY, Bound, Finding, Result
+from stackcheck_tools.report import flame, text as texts
+from stackcheck_tools.report.flame import bytes_of
+from stackcheck_tools.report.needs import COLUMNS
+from stackcheck_tools.report.page_style import STYLE
 
-STYLE = """
-:root { color-scheme: light dark; --page: #fff; --text: #1d2430; --soft: #5a6372; --line: #eef0f3; --grid: #e3e6ea; --edge: #8a93a1; --code: #f1f3f6; --end: #3b4453;
-  --static: #9aa4b2; --left: #eef1f5; --green: #2e7d4f; --green-back: #eaf6ee; --amber: #c98a12; --amber-back: #fdf5e1; --red: #b3261e; --red-back: #fdecea; }
-@media (prefers-color-scheme: dark) {
-  :root { --page: #14181f; --text: #dde3ec; --soft: #9aa5b5; --line: #262d38; --grid: #2a313c; --edge: #5b6573; --code: #232a35; --end: #c3cbd7;
-    --static: #6b7686; --left: #2a313c; --green: #4fae77; --green-back: #16291f; --amber: #d9a339; --amber-back: #2e2614; --red: #e0645c; --red-back: #33191a; } }
-body { font: 15px/1.5 system-ui, "Segoe UI", Helvetica, Arial, sans-serif; color: var(--text); background: var(--page); max-width: 64rem; margin: 2rem auto; padding: 0 1.2rem; }
-h1 { font-size: 1.6rem; margin: 0; overflow-wrap: anywhere; } h2 { font-size: 1.1rem; margin: 2.2rem 0 0.6rem; } h2 small { color: var(--soft); font-weight: 400; margin-left: 0.6rem; }
-.what { color: var(--soft); margin: 0.1rem 0 1.1rem; } .verdict { padding: 0.9rem 1.2rem; border-left: 7px solid; border-radius: 5px; margin: 0.6rem 0; }
-.verdict b { font-size: 1.5rem; margin-right: 0.3rem; } .green { border-color: var(--green); background: var(--green-back); }
-.amber { border-color: var(--amber); background: var(--amber-back); } .red { border-color: var(--red); background: var(--red-back); }
-.bar { display: flex; height: 2.4rem; border-radius: 4px; overflow: hidden; border: 1px solid var(--edge); } .bar div { min-width: 2px; overflow: hidden; }
-.ends { display: flex; justify-content: space-between; color: var(--soft); font-size: 0.85rem; }
-.keys { display: flex; flex-wrap: wrap; gap: 0.3rem 1.5rem; margin: 0.5rem 0 0; padding: 0; list-style: none; }
-.keys i { display: inline-block; width: 0.9rem; height: 0.9rem; margin-right: 0.45rem; vertical-align: -0.1rem; border-radius: 2px; }
-.wide { overflow-x: auto; margin: 0; } svg { width: 100%; min-width: 47rem; height: auto; display: block; font: 12px system-ui, "Segoe UI", Helvetica, Arial, sans-serif; }
-path { stroke: var(--page); stroke-width: 1; }
-.in { fill: #fff; } .end { fill: var(--end); } .axis { fill: var(--soft); font-size: 11px; } .grid { stroke: var(--grid); }
-table { border-collapse: collapse; width: 100%; } td, th { padding: 0.25rem 0.7rem 0.25rem 0; vertical-align: top; text-align: left; }
-tr + tr td { border-top: 1px solid var(--line); } th { font-weight: 600; color: var(--soft); font-size: 0.85rem; } td.name { overflow-wrap: anywhere; width: 34%; }
-.count { text-align: right; width: 4.5rem; font-variant-numeric: tabular-nums; } .lengths { width: 32%; padding-top: 0.55rem; }
-.lengths div { display: flex; height: 0.8rem; } .lengths i { display: block; } li { overflow-wrap: anywhere; }
-code { font: 0.9em ui-monospace, Menlo, Consolas, monospace; background: var(--code); padding: 0.05em 0.3em; border-radius: 3px; overflow-wrap: anywhere; }
-.mark { width: 0.8rem; } .mark i { display: inline-block; width: 0.65rem; height: 0.65rem; border-radius: 50%; } .soft { color: var(--soft); }
-ul { padding-left: 1.2rem; margin: 0; } dt { font-weight: 600; margin-top: 0.6rem; } dd { margin: 0; }
-@media (max-width: 40rem) {
-  body { margin: 1rem auto; padding: 0 0.8rem; } h2 small { display: block; margin-left: 0; } .verdict { padding: 0.7rem 0.8rem; }
-  .lengths, tr:not(.place) th:last-child { display: none; } td.name { width: auto; } .count { width: 3.4rem; }
-  .place { display: block; position: relative; padding: 0.3rem 0 0.3rem 1.2rem; border-top: 1px solid var(--line); } tr.place td { display: block; border: 0; padding: 0; }
-  tr.place .mark { position: absolute; left: 0; } }
-"""
 STATIC, LEFT, BOTH, STACK = "var(--static)", "var(--left)", "var(--red)", flame.CALLS[0]
-OWN, WITH_CALLS, WITH_INTERRUPTS = "#3f6fb5", "#9dbbe3", "#f0b27e"
-GREEN, AMBER = "var(--green)", "var(--amber)"
+OWN, WITH_CALLS, WITH_INTERRUPTS = "#3f6fb5", "#6a92d0", "#cf7a2a"
+KEYS = (("own", OWN), ("calls", WITH_CALLS), ("interrupts", WITH_INTERRUPTS))
+GREEN, AMBER, GREY = "var(--green)", "var(--amber)", "var(--edge)"
 MOST_LETTERS = 120  # of a source line
+TERMS = ("a <em>place</em> is an instruction at which the analysis cannot rule out a flagged step; <em>attained</em>: a run as deep as the "
+         "bound is known (docs/BUILDS.md)")
 
 
 def with_code(text: str) -> str:
@@ -52,40 +27,37 @@ def with_code(text: str) -> str:
     return "".join(f"<code>{escape(part)}</code>" if n % 2 else escape(part) for n, part in enumerate(text.split("`")))
 
 
-def bar(parts: List[Tuple[int, str, str]]) -> Iterator[str]:
-    """A bar to scale with its key: parts are (bytes, colour, text)."""
+def bar(parts: List[Tuple[int, str, str]], ends: Tuple[str, ...] = ()) -> Iterator[str]:
+    """A bar to scale with its key, and what stands at its ends: parts are (bytes, colour, text)."""
     whole = sum(count for count, _, _ in parts) or 1
-    yield '<div class="bar">'
-    yield from (f'<div style="width:{100 * count / whole:.3f}%;background:{colour}" title="{escape(text)}"></div>'
+    told = ", ".join(f"{text}: {bytes_of(count)}" for count, _, text in parts if count)
+    yield f'<div class="bar" role="img" aria-label="{escape(told)}">'
+    yield from (f'<div style="width:{100 * count / whole:.3f}%;background:{colour}" title="{escape(text)}: {bytes_of(count)}"></div>'
                 for count, colour, text in parts if count)
     yield "</div>"
-
-
-def keys(parts: List[Tuple[int, str, str]]) -> Iterator[str]:
+    if ends:
+        yield f'<div class="ends">{"".join(f"<span>{escape(it)}</span>" for it in ends)}</div>'
     yield '<ul class="keys">'
-    yield from (f'<li><i style="background:{colour}"></i>{escape(text)}: {count} bytes</li>' for count, colour, text in parts)
+    yield from (f'<li><i style="background:{colour}"></i>{escape(text)}: {bytes_of(count)}</li>' for count, colour, text in parts)
     yield "</ul>"
 
 
-def memory(outcome: Accepted) -> Iterator[str]:
-    """SRAM from its first byte to its last: static data, what is left, the stack."""
-    device = outcome.firmware.device
-    static, left = device.sram() - outcome.room, outcome.room - outcome.bound
-    if left >= 0:
-        parts = [(static, STATIC, "static data"), (left, LEFT, "left"), (outcome.bound, STACK, "stack, at most")]
+def memory(result: Result, bound: Bound) -> Iterator[str]:
+    """SRAM from its first byte to its last: static data, what stays free, the stack."""
+    (first, last), static, free = result.memory, bound.sram - bound.room, bound.margin()
+    if free >= 0:
+        parts = [(static, STATIC, "static data"), (free, LEFT, "free"), (bound.bytes, STACK, "stack, worst case")]
     else:
-        parts = [(static + left, STATIC, "static data alone"), (-left, BOTH, "static data and stack"),
-                 (outcome.room, STACK, "stack alone, at most")]
-    yield "<h2>SRAM</h2>"
-    yield from bar(parts)
-    yield f'<div class="ends"><span>{device.first:04X}</span><span>{device.last:04X}</span></div>'
-    yield from keys(parts)
+        parts = [(static + free, STATIC, "static data alone"), (-free, BOTH, "static data and stack"),
+                 (bound.room, STACK, "stack alone, worst case")]
+    yield f"<h2>SRAM<small>{bytes_of(bound.sram)}, {first:04X} to {last:04X}</small></h2>"
+    yield from bar(parts, (f"{first:04X}", f"{last:04X}"))
 
 
-def chain_colours(outcome: Accepted, colours: Dict[str, str]) -> Iterator[str]:
+def chain_colours(result: Result, colours: Dict[str, str]) -> Iterator[str]:
     """A colour for each link of the chain: that of its box where the link before has another; of interrupts from the handler on."""
-    handlers, is_in_handler, last = {it.name for it in outcome.table if it.is_handler}, False, None
-    for it in outcome.chain:
+    handlers, is_in_handler, last = {it.name for it in result.needs if it.handler}, False, None
+    for it in result.chain:
         name = it.text.partition(" at ")[0]
         is_in_handler = is_in_handler or name in handlers
         palette = flame.INTERRUPTS if is_in_handler else flame.CALLS
@@ -93,37 +65,29 @@ def chain_colours(outcome: Accepted, colours: Dict[str, str]) -> Iterator[str]:
         yield last
 
 
-def chain(outcome: Accepted, colours: Dict[str, str]) -> Iterator[str]:
-    yield "<h2>The deepest chain</h2>"
-    if not outcome.chain:
-        yield "<p>This stackbound has no command that prints the chain.</p>"
-        return
-    parts = [(it.count, colour, it.text) for it, colour in zip(outcome.chain, chain_colours(outcome, colours))]
-    yield from bar(parts)
-    yield from keys(parts)
-
-
-def tree(outcome: Accepted) -> Iterator[str]:
+def tree(result: Result) -> Iterator[str]:
     """The tree of needs, and the deepest chain of it in the same colours."""
-    if outcome.graph is None:
+    if result.frames is None:
         return
-    root, colours = flame.painted(outcome.graph)
+    root, colours = flame.painted(result.frames)
     yield "<h2>Where the bytes go<small>width: bytes of stack; blue and green: calls; orange and red: interrupts</small></h2>"
-    yield '<figure class="wide">'
+    yield '<figure class="wide" tabindex="0" role="region" aria-label="Where the bytes go">'
     yield from flame.svg(root)
-    yield "</figure>"
-    yield from chain(outcome, colours)
+    yield "</figure><h2>The deepest chain</h2>"
+    yield from bar([(it.adds, colour, it.text) for it, colour in zip(result.chain, chain_colours(result, colours))])
 
 
-def needs_table(outcome: Accepted) -> Iterator[str]:
-    most = max((it.all for it in outcome.table), default=0) or 1
-    yield "<h2>What each function needs</h2><table><tr><th>function</th>"
-    yield "".join(f'<th class="count">{name}</th>' for name in needs.COLUMNS.split(", ")) + "<th></th></tr>"
-    for it in outcome.table:
+def needs_table(result: Result) -> Iterator[str]:
+    most = max((it.interrupts for it in result.needs), default=0) or 1
+    key = " ".join(f'<i style="background:{colour}"></i>{name}' for name, colour in KEYS)
+    yield '<h2>What each function needs</h2><table><tr><th scope="col">function</th>'
+    yield "".join(f'<th class="count" scope="col">{name}</th>' for name in COLUMNS.split(", "))
+    yield f'<th class="key" scope="col">{key}</th></tr>'
+    for it in result.needs:
         lengths = "".join(f'<i style="width:{100 * count / most:.1f}%;background:{colour}"></i>' for count, colour in (
-            (it.own, OWN), (it.calls - it.own, WITH_CALLS), (it.all - it.calls, WITH_INTERRUPTS)) if count)
+            (it.own, OWN), (it.calls - it.own, WITH_CALLS), (it.interrupts - it.calls, WITH_INTERRUPTS)) if count)
         yield (f'<tr><td class="name">{escape(it.name)}</td>'
-               + "".join(f'<td class="count">{count}</td>' for count in (it.own, it.calls, it.all))
+               + "".join(f'<td class="count">{count}</td>' for count in (it.own, it.calls, it.interrupts))
                + f'<td class="lengths"><div>{lengths}</div></td></tr>')
     yield "</table>"
 
@@ -133,87 +97,143 @@ def cut(line: str) -> str:
     return line if len(line) <= MOST_LETTERS else line[:MOST_LETTERS - 1] + "…"
 
 
-def place_row(it: Place) -> str:
-    where = f"<b>{escape(it.where().rstrip(': '))}</b> in {escape(it.title)}" if it.source else escape(it.title)
-    code = f"<code>{escape(cut(it.code))}</code>" if it.code else ""
-    told = [f"judged: {escape(it.judged.why)}"] if it.judged else [with_code(told) for told in it.why()]
-    why = "".join(f'<div class="soft">{text}</div>' for text in told)
-    return (f'<tr class="place"><td class="mark"><i style="background:{GREEN if it.judged else AMBER}"></i></td><td '
-            f'class="name">{where}</td><td>{code}{why}</td>'
-            f'<td class="soft">{escape(it.count()) if it.words else ""}</td></tr>')
+def state(it: Finding) -> Tuple[str, str]:
+    """The colour and the words of a place's state."""
+    if it.reviewed:
+        return GREEN, "reviewed"
+    return (AMBER, "to review") if it.level != NOTE else (GREY, "no review needed")
 
 
-def places(outcome: Accepted) -> Iterator[str]:
-    """The places that must be judged, and those that were."""
-    if outcome.premises is None:
-        return
-    yield (f"<h2>Where a step may be flagged<small>{len(unjudged(outcome, False))} to review, {len(outcome.entries)} in all, "
-           f"{sum(it.judged is not None for it in outcome.entries)} judged</small></h2>")
-    if not outcome.entries:
+def place_row(it: Finding) -> str:
+    colour, words = state(it)
+    at = it.at()
+    name = escape(it.subject or at.function or "")
+    where = f"<b>{escape(f'{at.file}:{at.line}')}</b> in {name}" if at.has_line() else name
+    code = f"<code>{escape(cut(it.source))}</code>" if it.source else ""
+    told = [f"reviewed: {it.reviewed.why}"] if it.reviewed else [it.message, *it.details, *texts.cured(it)]
+    why = "".join(f'<div class="soft">{with_code(line)}</div>' for line in told)
+    return (f'<tr class="place"><td class="state"><i class="mark" style="background:{colour}"></i>{words}</td><td class="name">{where}</td>'
+            f'<td>{code}{why}</td><td class="soft">{escape(texts.words(it.locations) if it.subject else at.word or "")}</td></tr>')
+
+
+def places(result: Result) -> Iterator[str]:
+    """The places to review first, then those that need none, then those that were reviewed."""
+    found = [it for it in result.findings if it.rule[2] == "3"]
+    left, done = sum(it.level != NOTE and not it.reviewed for it in found), sum(it.reviewed is not None for it in found)
+    yield f"<h2>Where a step may be flagged<small>{left} to review of {len(found)}, {done} reviewed</small></h2>"
+    if not found:
         yield "<p>Nowhere: the bound holds for every run.</p>"
         return
-    yield "<table>"
-    yield from (place_row(it) for it in sorted(outcome.entries, key=lambda it: it.judged is not None))
+    yield ('<table><tr class="heads"><th scope="col">state</th><th scope="col">place</th><th scope="col">what may happen there</th>'
+           '<th scope="col">words</th></tr>')
+    yield from (place_row(it) for it in sorted(found, key=lambda it: (it.reviewed is not None, it.level == NOTE, it.kind != ORDINARY)))
     yield "</table>"
 
 
-def changes(outcome: Accepted) -> Iterator[str]:
-    """What each interrupt costs, and what grew, where that was asked for."""
-    if outcome.costs:
-        yield "<h2>What each interrupt costs</h2><table>"
+def changes(result: Result, bound: Bound) -> Iterator[str]:
+    """What each interrupt costs, and what grew, if that was asked for."""
+    if result.interrupts:
+        yield "<h2>What each interrupt costs</h2><table><tr><th scope=\"col\">interrupt</th><th scope=\"col\">bytes</th></tr>"
         yield from (f'<tr><td class="name">{escape(it.name)}</td><td>'
-                    + ("no bound without it" if it.without is None else f"{outcome.bound - it.without} bytes: {it.without} without it")
-                    + "</td></tr>" for it in outcome.costs)
+                    + ("no bound without it" if it.without is None else f"{bytes_of(bound.bytes - it.without)}: {it.without} without it")
+                    + "</td></tr>" for it in result.interrupts)
         yield "</table>"
-    if outcome.difference:
-        first, *rest = outcome.difference.told()
+    if result.since:
+        first, *rest = texts.changed(bound, result.since)
         yield f"<h2>What changed</h2><p>{escape(first)}</p><ul>" + "".join(f"<li>{escape(it.strip())}</li>" for it in rest) + "</ul>"
 
 
-def verdict(outcome: Accepted) -> Tuple[str, str]:
-    """The colour of a bound, and what is wrong with it."""
-    if outcome.flagged:
-        return "red", f"this bound may say nothing: {outcome.flagged}"
-    if not outcome.keeps:
-        return "red", f"too deep ({outcome.rule})"
-    if outcome.grows_too_much and outcome.difference:
-        return "red", f"it has grown by {outcome.difference.grown()} bytes"
-    is_amber = outcome.premises is None or unjudged(outcome, False)
-    text = verdicts.holds(outcome)
-    return "amber" if is_amber else "green", f"fits; the bound {'' if text.startswith('holds') else 'holds '}{text}"
+def known(bound: Bound) -> str:
+    """How sure the number is, in words."""
+    if bound.attained:
+        return "a run as deep is known"
+    return "no run as deep is known" + ("" if bound.seen is None else f"; the deepest one reaches {bound.seen}")
 
 
-def accepted(outcome: Accepted) -> Iterator[str]:
-    colour, text = verdict(outcome)
-    seen = outcome.seen
-    yield (f'<p class="verdict {colour}"><b>{outcome.bound} bytes</b> at most '
-           f'({outcome.witness}){"" if seen is None else f", {seen} seen"}; '
-           f"{outcome.room} bytes of room, {outcome.room - outcome.bound} left: {with_code(text)}</p>")
-    yield from memory(outcome)
-    yield from tree(outcome)
-    yield from needs_table(outcome)
-    yield from changes(outcome)
-    yield from places(outcome)
-    yield "<h2>What the bound rests on</h2><ul>"
-    yield from (f"<li>{with_code(line.strip())}</li>" for line in outcome.rests_on)
-    yield "</ul>"
+def room(bound: Bound) -> str:
+    if bound.margin() < 0:
+        return f"{bytes_of(-bound.margin())} more than the {bound.room} between static data and the end of SRAM."
+    return f"{bound.margin()} of {bound.room} bytes stay free."
 
 
-def refused(outcome: Refused) -> Iterator[str]:
-    yield f'<p class="verdict red">There is no bound: <code>{escape(outcome.refusal)}</code></p><dl>'
-    rows = [("Place", "; ".join(outcome.places) or "none"), ("Usual cause", outcome.cause),
-            *([("Here", "; ".join(outcome.reasons))] if outcome.reasons else []), ("What helps", outcome.cure)]
-    rows += [("Lines for a spec", "; ".join(f"`{it}`" for it in outcome.cure_lines))] if outcome.cure_lines else []
-    yield from (f"<dt>{name}</dt><dd>{with_code(text)}</dd>" for name, text in rows)
-    yield "</dl>"
+def told_of(it: Finding, firmware: str) -> str:
+    """A finding as a paragraph with what stands behind it."""
+    more = "".join(f'<div class="soft">{with_code(line)}</div>' for line in texts.behind(it))
+    return f"<p><code>{escape(it.rule)}</code> {escape(texts.where(it, firmware))}: {with_code(it.message)}</p>{more}"
 
 
-def html(outcome: Outcome) -> str:
-    firmware = outcome.firmware
-    name = escape(os.path.basename(firmware.path))
-    taken = f", linked for {firmware.linked_for}" if firmware.linked_for not in (None, firmware.device.name) else ""
+def verdict(result: Result, bound: Bound) -> Iterator[str]:
+    """The bound and what is wrong with it."""
+    number = f"<b>{bytes_of(bound.bytes)}</b> of stack at most: {known(bound)}. {room(bound)}"
+    limits = [it for it in result.findings if it.rule[2] == "4"]
+    if limits:
+        yield f'<div class="verdict red" role="status">{number}'
+        yield from (told_of(it, result.firmware) for it in limits)
+        yield "</div>"
+        return
+    is_open = any(it.rule[2] == "3" and it.level != NOTE for it in result.findings)
+    holds = bound.holds if bound.holds.startswith("holds") else f"holds {bound.holds}"
+    yield f'<div class="verdict {"amber" if is_open else "green"}" role="status">{number}<p>{with_code(f"The bound {holds}.")}</p></div>'
+
+
+def flagged(result: Result, bound: Bound, flags: List[Finding]) -> Iterator[str]:
+    """What ends the bound before its time, and the bound up to there."""
+    yield '<div class="verdict red" role="status"><b>No bound to rely on</b>'
+    yield from (told_of(it, result.firmware) for it in flags)
+    yield f'<p class="soft">Up to that step: {bytes_of(bound.bytes)} ({known(bound)}).</p></div>'
+
+
+def rests_on(result: Result) -> Iterator[str]:
+    """The premises, and apart from them the lines on which nothing rests and what is not counted."""
+    assumed = [texts.line_of(it) for it in result.lines if it.assumes] + [texts.nested(it) for it in result.recursions]
+    other = [texts.line_of(it) for it in result.lines if not it.assumes and it.origin == "tool"]
+    remarks = [it for it in result.findings if it.rule[2] == "5"]
+    for title, lines in (("What the bound rests on", assumed), ("Lines that stackcheck added", other)):
+        if lines:
+            yield f"<h2>{title}</h2><ul>"
+            yield from (f"<li>{with_code(line)}</li>" for line in lines)
+            yield "</ul>"
+    if remarks:
+        yield "<h2>Beside the bound</h2><ul>"
+        yield from (f"<li>{escape(it.rule)} {with_code(it.message)}{''.join(f'; <code>{escape(one)}</code>' for one in it.spec_lines)}</li>"
+                    for it in remarks)
+        yield "</ul>"
+
+
+def accepted(result: Result, bound: Bound) -> Iterator[str]:
+    flags = [it for it in result.findings if it.rule[2] == "2" and it.asks()]
+    if flags:
+        yield from flagged(result, bound, flags)
+        yield from places(result)
+    else:
+        yield from verdict(result, bound)
+    yield from memory(result, bound)
+    yield from tree(result)
+    yield from needs_table(result)
+    yield from changes(result, bound)
+    if not flags:
+        yield from places(result)
+    yield from rests_on(result)
+
+
+def refused(result: Result) -> Iterator[str]:
+    yield '<div class="verdict red" role="status"><b>There is no bound</b>'
+    yield from (told_of(it, result.firmware) for it in result.findings)
+    yield "</div>"
+    yield from rests_on(result)
+
+
+def footer(result: Result) -> str:
+    """Who wrote the page, by which command."""
+    spec = f" · spec {escape(result.spec)}" if result.spec else ""
+    call = f"<code>{escape(shlex.join(result.command))}</code>"
+    return f"<footer>stackcheck {escape(result.version)} · {call} · {escape(result.device)}{spec} · {TERMS}</footer>"
+
+
+def html(result: Result) -> str:
+    name = escape(os.path.basename(result.firmware))
     return "\n".join([
-        '<!DOCTYPE html>', f'<html lang="en"><head><meta charset="utf-8"><meta name="viewport" content="width=device-width, '
-                           f'initial-scale=1"><title>Stack of {name}</title>', f"<style>{STYLE}</style></head><body>",
-        f"<h1>Stack of {name}</h1>", f'<p class="what">{escape(firmware.device.name)}{escape(taken)}</p>',
-        *(refused(outcome) if isinstance(outcome, Refused) else accepted(outcome)), "</body></html>", ""])
+        "<!DOCTYPE html>", '<html lang="en"><head><meta charset="utf-8">'
+                           '<meta name="viewport" content="width=device-width, initial-scale=1">' f"<title>Stack of {name}</title>", f"<style>{STYLE}</style></head><body><main>",
+        f"<h1>Stack of {name}</h1>", f'<p class="what">{escape(texts.device(result).partition(" ")[2])}</p>',
+        *(refused(result) if result.bound is None else accepted(result, result.bound)), "</main>", footer(result), "</body></html>", ""])

@@ -1,9 +1,8 @@
-"""What a bound rests on, in words: the first line of what `stackcheck` prints, and its status."""
+"""For which runs a bound holds, in words."""
 
 from __future__ import annotations
 
-from argparse import Namespace
-from typing import List, Optional
+from typing import Optional
 
 from stackcheck_tools.analysis.kinds import (
     CALLS,
@@ -20,12 +19,10 @@ from stackcheck_tools.analysis.kinds import (
     count_of,
     moving,
 )
-from stackcheck_tools.analysis.outcome import Accepted, Outcome, Refused
-from stackcheck_tools.analysis.places import Place, unjudged
+from stackcheck_tools.analysis.outcome import Accepted
 from stackcheck_tools.firmware import fuses
 from stackcheck_tools.spec import recursion
 
-KEPT, PASSED, REFUSED, MISUSE, FLAGGED, UNJUDGED = 0, 1, 2, 3, 4, 5  # statuses
 CONDITIONS = {
     CALLS: ("{} call{s} below {stay} within {its} list{s}", "stays", "stay", "its", "their"),
     STORES: ("{} store{s} below {stay} clear of the registers that enable interrupts", "stays", "stay", "", ""),
@@ -46,7 +43,7 @@ def condition(outcome: Accepted, kind: str, count: int) -> str:
 
 
 def of_language(outcome: Accepted) -> Optional[str]:
-    """What a program with a meaning in its language keeps to at the places that ask for it; None where there are none. With the line
+    """What a program without undefined behaviour keeps to at the places that ask for it; None where there are none. With the line
     `masks` a store there may still enable a vector without a handler."""
     stores, calls = count_of(outcome, (SAFETY,)), count_of(outcome, (WHOLE,))
     if not stores and not calls:
@@ -59,8 +56,6 @@ def of_language(outcome: Accepted) -> Optional[str]:
 
 def holds(outcome: Accepted) -> str:
     """Of which runs the bound holds."""
-    if outcome.premises is None:
-        return "for every run up to its first flagged step; this stackbound does not list where that may be"
     conditions = [*recursion.conditions(outcome.recursions),
                   *(condition(outcome, kind, count) for kind in ORDINARY if kind in CONDITIONS and (count := count_of(outcome, (kind,)))),
                   *recursion.conditions_by_runs(outcome.recursions)]
@@ -73,28 +68,5 @@ def holds(outcome: Accepted) -> str:
     places = [it for it in outcome.entries if set(it.kinds.values()) - {recursion.PLACE}]
     judged = [it for it in places if it.judged]
     if judged:
-        text += "; all judged by the spec" if len(judged) == len(places) else f"; {len(judged)} of {len(places)} entries judged by the spec"
+        text += "; all reviewed" if len(judged) == len(places) else f"; {len(judged)} of {len(places)} entries reviewed"
     return text
-
-
-def first(outcome: Accepted) -> str:
-    return f"bound {outcome.bound}, {holds(outcome)}"
-
-
-def left(outcome: Accepted, words: Namespace) -> List[Place]:
-    """The entries that make the status 5."""
-    if words.accept_places:
-        return []
-    return unjudged(outcome, words.judged)
-
-
-def status(outcome: Outcome, words: Namespace) -> int:
-    """The exit status: no bound, then an empty one, then the limits, then the places."""
-    if isinstance(outcome, Refused):
-        return REFUSED
-    if outcome.flagged:
-        return FLAGGED
-    if not outcome.keeps or outcome.grows_too_much:
-        return PASSED
-    is_guess = outcome.premises is None or any(it.is_by_runs() for it in outcome.recursions)
-    return UNJUDGED if left(outcome, words) or is_guess and not words.accept_places else KEPT

@@ -12,7 +12,6 @@ from stackcheck_tools.firmware.elf import Elf
 from stackcheck_tools.firmware.names import SpecFault, functions, shown
 
 if TYPE_CHECKING:
-    from stackcheck_tools.analysis.trials import Stop
     from stackcheck_tools.firmware.firmware import Firmware
     from stackcheck_tools.spec.lines import Lines
 
@@ -51,16 +50,6 @@ class Recursion:
     def by_runs(self) -> str:
         """What is told of a call of such a function."""
         return f"calls {self.name}, of which the simulated runs had at most {self.count} on the stack"
-
-    def told(self) -> Iterator[str]:
-        """Yields what the line came to: the deepest call, and what each further activation takes; and the line to copy, if the spec has
-        none."""
-        entry = max(self.entries, key=lambda it: self.depths.get(it, 0))
-        step = self.steps.get(entry)
-        more = f" ({step} for each further activation)" if step else ""
-        seen = ", as deep as the simulated runs" if self.is_by_runs() else ""
-        yield f"{KIND_OF_SPEC} {self.name} {self.count}{seen}: calls up to {self.depths.get(entry, 0)} bytes deep{more}"
-        yield from [f"spec: {self.line()}"] * self.is_by_runs()
 
 
 def read(elf: Elf, number: int, words: List[str], why: str) -> Recursion:
@@ -177,7 +166,7 @@ def numbered(recursions: List[Recursion]) -> List[Tuple[int, Recursion]]:
     for it in recursions:
         for entry in it.entries:
             if entry in found:
-                raise SpecFault(f"line {it.number}: {it.name} has a line `recursion` already")
+                raise SpecFault(f"{it.name} has a line `recursion` already", it.number)
             found[entry] = it
     return sorted(found.items(), key=lambda it: it[0])
 
@@ -190,8 +179,8 @@ def settle(firmware: Firmware, certificate: str, recursions: List[Recursion]) ->
     for _, it in words:
         states *= it.count + 1
     if states > MOST_STATES:
-        raise SpecFault(f"line {words[-1][1].number}: the numbers of these lines are too great together: fewer functions of a cycle, or "
-                        f"smaller ones")
+        raise SpecFault("the numbers of these lines are too great together: fewer functions of a cycle, or smaller ones",
+                        words[-1][1].number, "SB008")
     found: Dict[int, int] = {}
     for (entry, it), depths in zip(words, nest.depths(tuple(it.count for _, it in words))):
         known = [depth for depth in depths if depth >= 0]
@@ -221,16 +210,6 @@ def of_call(elf: Elf, lines: Lines, recursions: List[Recursion], word: int) -> O
     target = opcodes.call_target(elf, word)
     targets = {target} if target is not None else lines.of(word, "jump") if opcodes.is_call(elf.word(word)) else set()
     return next((found for it in sorted(targets) if (found := line_at(recursions, it))), None)
-
-
-def text_of_stop(firmware: Firmware, recursions: List[Recursion], stop: Stop) -> Optional[str]:
-    """What a trial run says that passes a line; None of another stop."""
-    found = line_at(recursions, stop.other) if stop.kind == "transfer" else None
-    if found is None:
-        return None
-    at = f"{firmware.device.word(stop.word)} {firmware.place(stop.word)}"
-    return (f"FLAGGED: a simulated run calls {found.name} while {found.count} of it stand on the stack, at {at}: "
-            f"{found.count} is too small in `recursion {found.name} {found.count}`; the bound covers only what comes before")
 
 
 def name_of_entry(firmware: Firmware, entry: int) -> str:

@@ -11,7 +11,7 @@ from stackcheck_tools.firmware.elf import Elf
 from stackcheck_tools.firmware.fuses import KEPT as FUSES_KEPT
 from stackcheck_tools.firmware.names import Missing, SpecFault
 from stackcheck_tools.firmware.targets import targets
-from stackcheck_tools.spec import recursion, scratch, sites
+from stackcheck_tools.spec import recursion, scratch, settings, sites
 from stackcheck_tools.spec.sites import AT_LINE
 
 MOST_ITEMS, MOST_LINES = 64, 4096
@@ -61,7 +61,7 @@ def register(device: Device, word: str) -> int:
     except ValueError:
         address = -1
     if address not in device.registers.values():
-        raise SpecFault(f"{word} is no protected register")
+        raise SpecFault(f"{word} is not a protected register")
     return address
 
 
@@ -87,7 +87,7 @@ def vectors(elf: Elf, device: Optional[Device], name: str) -> Set[int]:
     else:
         vector = device.vector_named(name)
         if vector is None:
-            raise SpecFault(f"{name} is no vector")
+            raise SpecFault(f"{name} is not a vector")
         found = {vector}
     return {device.vector_word(it) for it in found}
 
@@ -124,7 +124,7 @@ def read_line(elf: Elf, device: Optional[Device], words: List[str]) -> Tuple[str
     """The kind, the sites and the items of one line."""
     kind, rest = words[0], words[1:]
     if kind not in FORMS:
-        raise SpecFault(f"{kind} is none of {', '.join(NAMED)}, recursion and keeps")
+        raise SpecFault(f"{kind} must be one of {', '.join((*NAMED, 'recursion', 'keeps', *settings.FORMS))}")
     if not is_of_form(kind, rest):
         raise SpecFault(f"expected `{kind} {FORMS[kind]}".rstrip() + "`")
     if kind in (PAIRS, MASKS):
@@ -179,11 +179,11 @@ class Spec:
                     self.keeps.append(read_keep(elf, number, words, comment or above))
                 elif words[:1] == ["recursion"]:
                     self.recursions.append(recursion.read(elf, number, words, comment or above))
-                elif words:
+                elif words and not settings.is_one(words[0]):
                     self.lines.append(Line(number, " ".join(words), *read_line(elf, device, words)))
             except SpecFault as fault:
                 if not (is_optional and isinstance(fault, Missing)):
-                    raise SpecFault(f"line {number}: {fault}") from None
+                    raise SpecFault(str(fault), number) from None
             above = comment if not words else ""
         recursion.numbered(self.recursions)
 
@@ -197,10 +197,10 @@ class Spec:
                 held = lines.setdefault((place, KINDS.index(line.kind)), set())
                 held |= line.items
                 if len(held) > MOST_ITEMS:
-                    raise SpecFault(f"line {number}: a line of an assumption file has at most {MOST_ITEMS} words, and these are "
-                                    f"{len(held)}")
+                    raise SpecFault(f"a line of an assumption file has at most {MOST_ITEMS} words, and these are {len(held)}", number,
+                                    "SB008")
         if len(lines) > MOST_LINES:
-            raise SpecFault(f"line {number}: an assumption file has at most {MOST_LINES} lines, and these are {len(lines)}")
+            raise SpecFault(f"an assumption file has at most {MOST_LINES} lines, and these are {len(lines)}", number, "SB008")
         return "".join(assumption_line(self.device, KINDS[kind], place, items) + "\n" for (place, kind), items in sorted(lines.items()))
 
 
@@ -208,5 +208,5 @@ def assumptions(elf: Elf, text: str, device: Optional[Device] = None) -> str:
     """The text of the assumption file that a spec makes of this firmware; of lines `recursion` alone the analysis makes lines."""
     spec = Spec(elf, text, device)
     for it in spec.recursions:
-        raise SpecFault(f"line {it.number}: a line `recursion` needs an analysis for its depth, which stackcheck makes")
+        raise SpecFault("a line `recursion` needs an analysis for its depth, which stackcheck makes", it.number)
     return spec.text()

@@ -1,0 +1,101 @@
+"""The finding of a firmware without a bound: what is refused, its usual cause, what leads to it in this firmware, and what helps."""
+
+from __future__ import annotations
+
+from typing import TYPE_CHECKING, Iterator, List, Optional, Tuple
+
+from stackcheck_tools.analysis import cures, cycles, refusals
+from stackcheck_tools.analysis.added import by_tool
+from stackcheck_tools.analysis.locations import of_vector, of_word, of_words
+from stackcheck_tools.finding import ERROR, Finding, Location, Related
+from stackcheck_tools.firmware import candidates, opcodes
+from stackcheck_tools.firmware.firmware import Firmware
+
+if TYPE_CHECKING:
+    from stackcheck_tools.analysis.mending import Mending
+
+MOST_OTHERS = 8  # vectors that are tried behind the first that lets itself in
+# causes that lines cure
+BY_LINES = ("tables", "constructors", "pointer", "stream", "prologues", "high byte", "unhandled", "joined", "array", "copy")
+RULES = {"1": "SB101", "2": "SB102", "3": "SB103", "4": "SB104", "5": "SB105", "6": "SB106", "7": "SB107", "8": "SB108"}
+MESSAGES = {
+    "1": "{function} calls or jumps through a pointer whose targets are not listed (`{text}`)",
+    "2": "{function} calls itself, directly or through others",
+    "3": "{vector} can be interrupted by its own vector",
+    "4": "the stack pointer cannot be followed at `{text}` in {function}",
+    "5": "{text} in {function} is not an instruction of {device}, or one that writes flash",
+    "6": "the stack would exceed SRAM ({need} bytes of {sram})",
+    "7": "the analysis needs more {text} than a certificate may have",
+    "8": "the pointer of `{text}` in {function} has to be known and is not",
+}
+
+
+def message(firmware: Firmware, refusal: str) -> str:
+    """A refusal as one sentence without a place."""
+    number, _, vector, place, text = cures.parts(refusal)
+    function = firmware.function(int(place, 16)) if place else ""
+    return MESSAGES[number].format(function=function, vector=firmware.device.vectors[int(vector)] if vector else "", text=text or "",
+                                   device=firmware.device.name, need=(text or "").rpartition(" ")[2], sram=firmware.device.sram())
+
+
+def lines_for(firmware: Firmware, work: Mending, name: str) -> List[str]:
+    """The lines of a spec that this tool would write for a refusal of this cause, with all candidates."""
+    more = work.copy()
+    more.lines.given = set(more.lines.items)
+    if name == "division" and more.lines.add_pairs() or name in BY_LINES and more.at_refusal(work.refusal or ""):
+        return [it.spec or it.assumption for it in by_tool(firmware, more.lines)]
+    return []
+
+
+def others(firmware: Firmware, work: Mending, name: str, word: Optional[int]) -> List[int]:
+    """The other words of the same kind, as far as the file or the program tells them."""
+    elf = firmware.elf
+    if name in ("recursion", "put"):
+        found = [it.address // 2 for it in elf.code if it.is_function and it.address // 2 in candidates.reached(elf, it.address // 2)]
+    elif name == "written flash":
+        found = [at for words in candidates.code(elf) for at, opcode in words if opcode == opcodes.SPM]
+    elif name in ("re-entry", "noblock", "merged"):
+        return list(other_vectors(firmware, work))
+    else:
+        return []
+    return sorted(set(found) - {word})
+
+
+def other_vectors(firmware: Firmware, work: Mending) -> Iterator[int]:
+    """Yields the words of the vectors that let themselves in, beside the first: each with the ones before it left out."""
+    probe, text = work.copy(), work.refusal or ""
+    for _ in range(MOST_OTHERS):
+        words = text.split()
+        if words[:3] != ["refused", "3", "re-entry"]:
+            return
+        probe.lines.add(int(words[6], 16), "never")
+        text = probe.analyse()[1].strip()
+        words = text.split()
+        if words[:3] == ["refused", "3", "re-entry"]:
+            yield int(words[6], 16)
+
+
+def locations(firmware: Firmware, work: Mending, name: str, word: Optional[int]) -> Tuple[Location, ...]:
+    """The place of a refusal, of a re-entry the handler, and all others of the same kind."""
+    first: Tuple[Location, ...] = ()
+    if word is not None:
+        first = of_vector(firmware, word) if cures.parts(work.refusal or "")[2] else (of_word(firmware, word),)
+    more = others(firmware, work, name, word)
+    if not cures.parts(work.refusal or "")[2]:
+        return first + of_words(firmware, more)
+    return first + tuple(of_vector(firmware, it)[0] for it in more)
+
+
+def finding(firmware: Firmware, work: Mending) -> Finding:
+    """The one finding of an analysis that has no bound."""
+    refusal = work.refusal or ""
+    name, word = cures.cure(firmware.elf, firmware.device, refusal, work.lines)
+    reasons: List[Related] = refusals.reasons(firmware, work, refusal) or list(refusals.of_cause(firmware, name))
+    _, why, cure = cures.CURES[name]
+    cause, why, cure = refusals.overriding(name, reasons) or (name, why, cure)
+    notes = [Related("reason", note, of_word(firmware, at)) for at, note in work.notes]
+    return Finding(
+        RULES[cures.parts(refusal)[0]], ERROR, message(firmware, refusal), locations(firmware, work, name, word),
+        tuple(it for it in (*reasons, *notes) if it.location.is_known()),
+        (refusal, *(it.message for it in reasons if not it.location.is_known())),
+        cause=cause, why=why, cure=cure, spec_lines=tuple(lines_for(firmware, work, name) or list(cycles.lines(work))))
