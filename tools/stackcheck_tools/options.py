@@ -73,12 +73,12 @@ STATUSES = (
 )
 MORE = (
     "The first line is an error, or the bound with the runs for which it holds. A place is an instruction at which the analysis cannot "
-    "rule out a flagged step. At an ordinary place a correct program may be flagged: review it, and record that with a `keeps` line. At a "
-    "memory-safety place only a program with undefined behaviour is flagged: a store that leaves the object its pointer was made from, or "
-    "a call through a pointer that enters no function whose address is taken. A store or call through a number that the program makes a "
-    "pointer is an ordinary place, as *(uint8_t *)received = 1. Taken for granted: two bytes that are read as one pointer from memory that "
-    "holds pointers are one, as `next` of a list, and no pointer to a virtual member is made a plain one (docs/FORMATS.md, \"What is not "
-    "seen\"). With the line `masks`, such a store may still enable an interrupt without a handler; the bound says so.",
+    "rule out a flagged step. At an ordinary place a correct program may be flagged: review it, and record that with a `keeps` line. A "
+    "store or call through a number that the program makes to a pointer is one, as *(uint8_t *)received = 1. At a memory-safety place "
+    "only a program with undefined behaviour is flagged: a store that leaves the object its pointer was made from, or a call through a "
+    "pointer that enters no function whose address is taken. With the line `masks`, such a store may still enable an interrupt without a "
+    "handler; the bound says so. Taken for granted: two bytes that are read as one pointer from memory that holds pointers are one, as "
+    "`next` of a list, and no pointer to a virtual member is made a plain one (docs/FORMATS.md, \"What is not seen\").",
     "stackcheck adds the lines that the spec lacks, and prints each: as `assumed:` if the bound rests on it, else as `added:`. A call "
     "through a pointer gets all functions whose address is taken, by the linker's records (-Wl,--emit-relocs) or by a search, which misses "
     "a handler that is called through a pointer. If this gives no bound, the call gets fewer, and is an ordinary place.",
