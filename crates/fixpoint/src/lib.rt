@@ -4,6 +4,7 @@
 
 mod checking;
 mod confirming;
+mod cost;
 mod fitting;
 pub mod forming;
 mod leading;

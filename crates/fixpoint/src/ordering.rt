@@ -17,6 +17,7 @@ ghost use Rattle.family_edges.specs.Tasks.{task_of};
 
 use crate::checking::{check_nesting, check_size, note_seen};
 use crate::confirming::confirm;
+use crate::cost::{VISIT, visit_cost};
 use crate::rounds::{Rounds, begin, family_of, go_on, start};
 use crate::unfound::Unfound;
 use certificate::MOST_INSTANCES;
@@ -130,8 +131,8 @@ pub struct Walk {
     pub counted: u64,
     /// The number of nodes at which the nesting is checked next.
     pub due: usize,
-    /// How many visits there were.
-    pub looks: usize,
+    /// What the visits cost.
+    pub cost: u64,
 }
 
 // Worklist iteration before the first visit.
@@ -149,7 +150,7 @@ fn set_out(task: &Task<'_>) -> Result<Walk, AllocError>
         waiting,
         counted,
         due: 64,
-        looks: 0,
+        cost: 0,
     })
 }
 
@@ -167,7 +168,7 @@ fn step(task: &Task<'_>, walk: &mut Walk, key: NodeKey) -> Result<(), Unfound>
     ensures way { OnOk result (IsOnItsWay (task_of task.now) walk.new) }
     ensures falls { OnOk result (2 * room walk.new.table + heap_len walk.new.waiting ≤ 2 * room walk.old.table + heap_len walk.old.waiting) }
 {
-    walk.looks = walk.looks.saturating_add(1);
+    walk.cost = walk.cost.saturating_add(visit_cost(&key));
     let changed = look_on(
         task,
         &mut walk.table,
@@ -186,12 +187,13 @@ fn step(task: &Task<'_>, walk: &mut Walk, key: NodeKey) -> Result<(), Unfound>
     Ok(())
 }
 
-// Visits nodes, the least offset and word first, until the worklist is empty, or so often in all at most. Returns whether it is empty.
-fn walk_on(task: &Task<'_>, walk: &mut Walk, most: usize) -> Result<bool, Unfound>
+// Visits nodes, the least offset and word first, until the worklist is empty or the visits cost this much in all. Returns whether it is
+// empty.
+fn walk_on(task: &Task<'_>, walk: &mut Walk, most: u64) -> Result<bool, Unfound>
     requires { IsOnItsWay (task_of task.now) walk.old }
     ensures { OnOk result (IsOnItsWay (task_of task.now) walk.new) }
 {
-    'looks: while walk.looks < most {
+    'visits: while walk.cost < most {
         let Some(key) = take_first(&mut walk.waiting) else {
             return Ok(true);
         };
@@ -215,8 +217,8 @@ fn is_end(task: &Task<'_>, table: &Table, counted: u64) -> Result<(), Unfound>
     told
 }
 
-// Worklist iteration to a family at which the rounds end, or so many visits in all at most. Returns whether it has come there.
-fn walk_to_end(task: &Task<'_>, walk: &mut Walk, most: usize) -> Result<bool, Unfound>
+// Worklist iteration to a family at which the rounds end, or until the visits cost this much in all. Returns whether it has come there.
+fn walk_to_end(task: &Task<'_>, walk: &mut Walk, most: u64) -> Result<bool, Unfound>
     requires { IsOnItsWay (task_of task.now) walk.old }
     ensures way { OnOk result (IsOnItsWay (task_of task.now) walk.new) }
     ensures found { IfOk result (λ ended. ended ≡ true → AreRoundsFound (task_of task.now) None walk.new.table) }
@@ -228,12 +230,12 @@ fn walk_to_end(task: &Task<'_>, walk: &mut Walk, most: usize) -> Result<bool, Un
     Ok(ended)
 }
 
-// The visits of the other order's first turn. Each further turn doubles them.
-const FIRST_TURN: usize = 12_288;
+// What the other order's first turn costs: 256 visits of nodes with no frame. Each further turn doubles it.
+const FIRST_TURN: u64 = 256 * VISIT;
 
-// The rounds and the other order in turns. Each goes on where it was, so no visit is made twice. The other order has its first turn once the
-// rounds repeat, and each further one once the rounds have visited nodes as often as it may then: so it costs no more than the rounds and
-// its first turn. Returns whether the rounds come to their end first. If the other order stops, the rounds go to their end.
+// The rounds and the other order in turns. Each goes on where it was, so no visit is made twice. The other order has a turn once repeated
+// visits of the rounds cost as much as it may cost then. So it costs no more than what the rounds repeat, and nothing if they repeat
+// little. Returns whether the rounds come to their end first. If the other order stops, the rounds go to their end.
 fn take_turns(task: &Task<'_>, rounds: &mut Rounds, walk: &mut Walk) -> Result<bool, Refusal>
     requires rounds { AreUnderWay (task_of task.now) None rounds.old }
     requires walk { IsOnItsWay (task_of task.now) walk.old }
@@ -241,17 +243,15 @@ fn take_turns(task: &Task<'_>, rounds: &mut Rounds, walk: &mut Walk) -> Result<b
     ensures ordered { IfOk result (λ first. first ≡ false → AreRoundsFound (task_of task.now) None walk.new.table) }
     ensures why_not { IfErr result (λ r. AreRoundsWithout (task_of task.now) None r) }
 {
-    let mut hurry = 0;
     let mut most = FIRST_TURN;
     'turns: for _turn in 0..32 {
-        if go_on(task, None, Some(hurry), rounds)? {
+        if go_on(task, None, Some(most), rounds)? {
             return Ok(true);
         }
         match walk_to_end(task, walk, most) {
             Ok(true) => return Ok(false),
             Ok(false) => {
                 most = most.saturating_mul(2);
-                hurry = most;
             }
             Err(Unfound) => break,
         }

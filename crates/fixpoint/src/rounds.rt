@@ -17,6 +17,7 @@ ghost use Rattle.fixpoint.specs.Checks.{AreRoundsStopped, IsReady};
 ghost use Rattle.family_edges.specs.Tasks.{task_of};
 
 use crate::checking::{check_nesting, check_size, note_seen};
+use crate::cost::{table_cost, visits_cost};
 use family_edges::Task;
 use local_rules::Node;
 use node_keys::{InstKey, NodeKey};
@@ -102,8 +103,8 @@ pub struct Rounds {
     pub counted: u64,
     /// What is left of the budget.
     pub left: Option<u64>,
-    /// How many visits there were.
-    pub looks: usize,
+    /// What the visits cost.
+    pub cost: u64,
 }
 
 /// The rounds before the first one.
@@ -119,7 +120,7 @@ pub fn begin(task: &Task<'_>, steps: Option<u64>) -> Result<Rounds, AllocError>
         work,
         counted,
         left: steps,
-        looks: 0,
+        cost: 0,
     })
 }
 
@@ -139,7 +140,7 @@ fn play(task: &Task<'_>, steps: Option<u64>, rounds: &mut Rounds) -> Result<bool
     ensures falls { IfOk result (λ ended. ended ≡ false → room rounds.new.table < room rounds.old.table) }
     ensures why_not { IfErr result (λ r. AreRoundsWithout (task_of task.now) steps r) }
 {
-    rounds.looks = rounds.looks.saturating_add(rounds.work.len());
+    rounds.cost = rounds.cost.saturating_add(visits_cost(&rounds.work));
     let nodes = next_nodes(
         task,
         &rounds.table,
@@ -155,34 +156,35 @@ fn play(task: &Task<'_>, steps: Option<u64>, rounds: &mut Rounds) -> Result<bool
     Ok(false)
 }
 
-// Whether the rounds are late, which they are in a hurry alone: they have looked at nodes more often than this, and at many nodes again.
-fn is_late(hurry: Option<usize>, rounds: &Rounds) -> bool
-    ensures { result ≡ true → IsSome hurry }
+// Whether repeated visits cost more than the limit: what all visits cost beyond one visit of each node.
+fn is_late(limit: Option<u64>, rounds: &Rounds) -> bool
+    ensures { result ≡ true → IsSome limit }
 {
-    match hurry {
+    match limit {
         Some(most) => {
-            rounds.looks > most && rounds.looks.saturating_sub(256) > rounds.table.len()
+            let once = table_cost(&rounds.table, rounds.counted);
+            rounds.cost.saturating_sub(once) > most
         }
         None => false,
     }
 }
 
-/// Goes on with the rounds. Returns whether they come to their end, or why they end at no family within the budget. They don't come to it
-/// only in a hurry, if they are late: they have looked at nodes more often than `hurry` says, and at many nodes again.
+/// Goes on with the rounds. Returns whether they come to their end, or why they end at no family within the budget. With a limit they also
+/// stop as soon as repeated visits cost more.
 pub fn go_on(
     task: &Task<'_>,
     steps: Option<u64>,
-    hurry: Option<usize>,
+    limit: Option<u64>,
     rounds: &mut Rounds,
 ) -> Result<bool, Refusal>
     requires { AreUnderWay (task_of task.now) steps rounds.old }
     ensures found { IfOk result (λ ended. ended ≡ true → AreRoundsFound (task_of task.now) steps rounds.new.table) }
     ensures more { IfOk result (λ ended. ended ≡ false → AreUnderWay (task_of task.now) steps rounds.new) }
-    ensures late { IfOk result (λ ended. ended ≡ false → IsSome hurry) }
+    ensures late { IfOk result (λ ended. ended ≡ false → IsSome limit) }
     ensures why_not { IfErr result (λ r. AreRoundsWithout (task_of task.now) steps r) }
 {
     'each: loop {
-        if is_late(hurry, rounds) {
+        if is_late(limit, rounds) {
             return Ok(false);
         }
         if play(task, steps, rounds)? {

@@ -9,7 +9,7 @@ use Rattle.indexmap.proofs.CallerLemmas.{Contains-list_any}
 use Rattle.node_keys.specs.declared.keys.InstKey.{InstKey}
 use Rattle.node_keys.specs.declared.keys.NodeKey.{NodeKey}
 use Rattle.node_keys.specs.declared.keys.SpForm.TheVariants.{Closed}
-use Rattle.node_keys.specs.Keys.{root_inst, offset_of}
+use Rattle.node_keys.specs.Keys.{root_inst}
 use Rattle.node_keys.specs.Order.{same_inst}
 use Rattle.node_keys.proofs.AllLaws.{keys_are_ordered}
 use Rattle.round_nesting.specs.Nestings.{Spot, Entrance, Noted, AreOnce, IsNodeNoted, HasEntrance, AreAlike}
@@ -27,6 +27,9 @@ module _ {K : Type 0} (eq : K → K → Bool) (exact : (x y : K) → eq x y ≡ 
 
   pub inserted : (ks new : List K) (k : K) → new ≡ insert_key eq ks k → HasMore ks k new
   inserted ks new k is = subst (HasMore ks k) (sym is) (inserted_by ks k (list_any (eq k) ks) refl)
+
+pub there_already : {K : Type 0} (ks : List K) (k : K) → Contains ks k → HasMore ks k ks
+there_already ks k has x = (λ h. inl h, ⊎_elim (λ h. h) (λ same. subst (Contains ks) (sym same) has))
 
 -- ---- instances
 

@@ -5,4 +5,6 @@ pub mod Steps
 pub mod Telling
 pub mod Keeping
 pub mod Covering
+pub mod Lowering
+pub mod Listing
 pub mod AllLaws

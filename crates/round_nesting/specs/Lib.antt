@@ -2,3 +2,5 @@ pub mod Nestings
 pub mod Hashes
 pub mod Drawn
 pub mod Covers
+pub mod Exits
+pub mod Lowering

@@ -4,6 +4,7 @@
 
 mod allowances;
 mod drawing;
+mod exits;
 mod judging;
 pub mod laws;
 pub mod nesting;

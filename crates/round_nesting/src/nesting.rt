@@ -7,6 +7,7 @@ ghost use Rattle.round_nesting.specs.Nestings.{Noted, nothing, AreOnce, IsNodeNo
 ghost use Rattle.round_nesting.specs.Drawn.{insts_of, AreOthersApart, HasMore};
 
 use crate::allowances::Allowances;
+use crate::exits::Exits;
 use crate::judging::judge_noted;
 use crate::notes::{NotedEntrance, NotedSpot};
 use crate::verdict::NestingVerdict;
@@ -26,6 +27,7 @@ pub struct Nesting {
     others: IndexSet<InstKey>,
     spots: IndexSet<NotedSpot>,
     entrances: IndexSet<NotedEntrance>,
+    exits: Exits,
 }
 
 impl Model for Nesting {
@@ -37,7 +39,7 @@ impl Model for Nesting {
 
     ghost view = { λ n. record { insts = insts_of n.has_root n.others.keys; spots = n.spots.keys; entrances = n.entrances.keys } };
 
-    ghost invariant = { λ n. IsCoverKept n.covered n.allowances.map.entries n.others.keys n.spots.keys n.entrances.keys };
+    ghost invariant = { λ n. IsCoverKept n.covered n.allowances.back n.allowances.map.entries n.exits.map.entries n.others.keys n.spots.keys n.entrances.keys };
 }
 
 // Notes an instance, if it is new.
@@ -71,6 +73,7 @@ impl Nesting {
             others: IndexSet::new(alloc),
             spots: IndexSet::new(alloc),
             entrances: IndexSet::new(alloc),
+            exits: Exits::new(alloc),
         }
     }
 
@@ -94,7 +97,7 @@ impl Nesting {
         match key.sp {
             SpForm::Closed(offset) => {
                 let spot = NotedSpot::new(key.inst, offset);
-                let covered = covered && self.allowances.allow_spot(&spot);
+                let covered = self.allowances.make_room(covered, &spot)?;
                 self.spots.insert(spot)?;
                 self.covered = covered;
                 Ok(())
@@ -118,10 +121,17 @@ impl Nesting {
         ensures once { OnOk result (AreOnce self.new.insts) }
     {
         let entrance = NotedEntrance::new(*from, *into, offset);
+        if self.entrances.contains(&entrance) {
+            return Ok(());
+        }
         let covered = self.covered;
         self.covered = false;
+        let exit = NotedEntrance::new(*from, *into, offset);
+        self.exits.add(self.alloc, exit)?;
         self.allowances.leave(&entrance)?;
-        let covered = covered && self.allowances.allow_entrance(&entrance);
+        let covered = self
+            .allowances
+            .enter(self.alloc, covered, &entrance, &self.exits)?;
         self.entrances.insert(entrance)?;
         self.covered = covered;
         Ok(())
@@ -135,7 +145,7 @@ impl Nesting {
         ensures same { AreAlike self.old self.new }
         ensures once { AreOnce self.new.insts }
     {
-        if self.covered && self.allowances.allow_root(device.size()) {
+        if self.covered && self.allowances.serve(device) {
             return Ok(NestingVerdict::Nests);
         }
         if !self.has_root {

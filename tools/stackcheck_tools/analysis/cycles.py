@@ -56,8 +56,7 @@ def functions_of(work: Mending, words: List[int]) -> List[int]:
 
 
 class Limits:
-    """The functions of the cycles of a firmware, and how deep simulated runs called each. `lines` has a line for each, or is empty where the
-    runs call none of them, or deeper than can be counted."""
+    """The functions of the cycles of a firmware, how deep simulated runs called each, and the lines that say so."""
 
     def __init__(self, work: Mending, entries: List[int], certificate: str) -> None:
         self.work, self.entries, self.refusal = work, entries, work.refusal or ""

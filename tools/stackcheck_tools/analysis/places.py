@@ -12,10 +12,11 @@ from typing import TYPE_CHECKING, Dict, Iterator, List, Optional, Set, Tuple, Un
 from stackcheck_tools.analysis import core_registers, units
 from stackcheck_tools.analysis.causes import Cause
 from stackcheck_tools.analysis.kinds import CALLS, CORES, GIVEN, MOVES, ORDINARY, SAFETY, STORES, UNUSED, VECTORS, WHOLE, counted
-from stackcheck_tools.analysis.node_values import Nodes
+from stackcheck_tools.analysis.node_values import Nodes, pointer
 from stackcheck_tools.analysis.warnings_of_words import MOVED
 from stackcheck_tools.analysis.widening import RECORDS
-from stackcheck_tools.dataflow.numbers import Pointers
+from stackcheck_tools.dataflow.made_of import Search
+from stackcheck_tools.dataflow.numbers import MADE, Pointers
 from stackcheck_tools.dataflow.origins import Origins
 from stackcheck_tools.firmware import debug_lines, fuses, opcodes, start_up
 from stackcheck_tools.firmware.devices import Device
@@ -181,6 +182,14 @@ class Look:
         is_followed = follows and not lines.has(word, "store")
         return SAFETY if is_followed or not core_registers.is_enabling(self.known, lines, word) else STORES
 
+    def of_number(self, word: int, why: str) -> str:
+        """Why a pointer is one that a program makes, with the number of which it is made and where it is read."""
+        pair = pointer(self.elf.word(word))[0] if opcodes.is_pointer_store(self.elf.word(word)) else Z
+        source = Search(self.pointers.origins).source(word, pair) if why == MADE else None
+        if source is None:
+            return why
+        return f"{why} ({f'{source.name}, ' if source.name else ''}read at {self.outcome.firmware.place(source.word)})"
+
     def texts(self, word: int, kind: str) -> Iterator[str]:
         """Yields what is told of a word beside what the program says may happen there."""
         cause = self.outcome.causes.get(word, Cause())
@@ -188,7 +197,8 @@ class Look:
             yield MOVED
         if kind == CORES:
             for why in dict.fromkeys(self.cores[word].values()):
-                yield f"may write {' '.join(it for it, its in self.cores[word].items() if its == why)}: its pointer {why}"
+                names = " ".join(it for it, its in self.cores[word].items() if its == why)
+                yield f"may write {names}: its pointer {self.of_number(word, why)}"
         if kind == recursion.BY_RUNS and (limit := self.limit(word)):
             yield limit.by_runs()
         if kind in (CALLS, WHOLE):
@@ -197,7 +207,7 @@ class Look:
             is_call = kind == CALLS and opcodes.is_indirect(self.elf.word(word))
             made = self.pointers.why_called(word, self.lines.of(word, "jump")) if is_call else None
             if made and not self.unlisted(word):
-                yield f"its pointer {made}"
+                yield f"its pointer {self.of_number(word, made)}"
             if word in self.outcome.lists.why and not self.unlisted(word):
                 yield self.outcome.lists.why[word]
                 if kind == CALLS and not made and not has_records(self.elf):

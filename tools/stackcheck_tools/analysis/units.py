@@ -1,5 +1,5 @@
-"""Units of a chip whose registers no header names, with vectors whose enable bits are there: the touch controllers. A firmware that writes none
-of these registers uses no such unit."""
+"""Units of a chip whose registers no header names, with vectors whose enable bits are there: the touch controllers. A firmware that writes
+none of these registers uses no such unit."""
 
 from __future__ import annotations
 

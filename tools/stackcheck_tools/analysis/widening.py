@@ -32,7 +32,8 @@ UNNAMED = "the file has no names, so no search finds every function whose addres
 UNTRIED = "a bound with every function whose address may be taken was not tried"
 UNKNOWN_TABLE = "one of the tables of `switch` through which it jumps was not found"
 REFUTED = "a simulated run went to {}, which no search and no record names as a function whose address is taken: the list may lack others"
-EMPTY = "the file takes the address of no function, and this call is none of avr-libc's own: its pointer is made in a way that no list knows"
+EMPTY = ("the file takes the address of no function, and this call is none of avr-libc's own: its pointer is made in a way that no list "
+         "knows")
 TOO_MANY = "{} functions have their address taken, and a list has at most {}"
 RECORDS = "link with -Wl,--emit-relocs: then the linker's records name every function whose address is taken"
 

@@ -5,7 +5,7 @@ from __future__ import annotations
 from typing import Dict, Iterator, NamedTuple, Optional, Set, Tuple
 
 from stackcheck_tools.dataflow.addresses import Addresses
-from stackcheck_tools.dataflow.origin import ALONE, KEPT, MOVED, NUMBER, OBJECTS, POINTERS, few, object_bit
+from stackcheck_tools.dataflow.origin import ALONE, CONSTANTS, KEPT, MOVED, NUMBER, NUMBERS, OBJECTS, POINTERS, ZERO, few, object_bit
 
 NAMELESS = -1  # the object of bytes at known addresses in which no object has a name
 IS_POINTER = POINTERS | ALONE
@@ -136,12 +136,35 @@ class Memory:
         """Whether an earlier look has found nothing but numbers written at a place."""
         return self.known is not None and not self.known.is_open(place.number) and not self.known.held(place) & IS_POINTER
 
+    def has_purer(self) -> bool:
+        """Whether something that an earlier look took to hold pointers holds none."""
+        if self.known is None:
+            return True
+        pairs = ((self.by_name, self.known.by_name), (self.through, self.known.through))
+        return any(byte & IS_POINTER and not now.get(place, 0) & IS_POINTER for now, before in pairs for place, byte in before.items())
+
     def through_pointer(self, place: Place) -> int:
         """What a byte is that is read through a pointer made of an object."""
         found = self.held(place)
         if self.is_open(place.number) or not self.is_pure(place) or found & IS_POINTER:
             return KEPT
-        return few(found) if self.is_static(place.number) else NUMBER
+        if not self.is_static(place.number):
+            return NUMBER
+        if not place.is_known and self.first(place) & CONSTANTS & ~ZERO and not self.is_overwritten(place):
+            first = few(self.first(place))  # a table may have addresses of registers, as drivers have them of their ports
+            return KEPT if first & NUMBER else KEPT | first
+        return few(found)
+
+    def is_overwritten(self, place: Place) -> bool:
+        """Whether a pair that is read somewhere in an object may be one that a number was written to: at no greater distance where that isn't
+        known, or by both its bytes."""
+        known = set()
+        for it in self.of.get(place.number, ()):
+            if (self.by_name.get(it, 0) | self.through.get(it, 0)) & NUMBERS:
+                if not it.is_known and it.distance <= place.distance:
+                    return True
+                known |= {it.distance} if it.is_known else set()
+        return any(it + 1 in known for it in known)
 
     def written_through(self, place: Place) -> Iterator[int]:
         """Yields what is written through pointers to a known place; of an object that is a pointer or smaller, to any place of it."""

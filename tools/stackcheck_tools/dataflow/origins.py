@@ -1,7 +1,8 @@
 """Where the pointers of stores and calls come from: from the address of an object or function, from memory that holds pointers, or from a
 number. One worklist over the words that a certificate reaches: functions are followed by what they are given and give back, registers and
-slots of frames along all ways, other memory by all that is written there. It is run twice: what is a pointer isn't known before all that is
-written was seen, so the first run takes all objects to hold pointers, and the second begins with the pointers that the first one found. """
+slots of frames along all ways, other memory by all that is written there. It is run several times: what is a pointer isn't known before all
+that is written was seen, so the first run takes all objects to hold pointers, and each other one begins with the pointers that the one
+before found. """
 
 from __future__ import annotations
 
@@ -25,6 +26,7 @@ NO_ARGUMENTS = (*range(2, 8), 28, 29)  # registers in which no caller leaves any
 # the lowest register in which avr-libc's functions get an argument that keep in lower ones what they haven't set on each way
 LOWEST = {"malloc": 24, "free": 24, "realloc": 22, "calloc": 22}
 MOST_ROUNDS = 40
+MORE_RUNS = 2  # behind the second one, while each finds that more memory holds nothing but numbers
 SMALL = 32  # addresses below are of registers
 
 
@@ -82,7 +84,9 @@ class Run:
         self.returned: Dict[Key, Set[int]] = {}
         self.now: Optional[Key] = None  # the word that is followed
         self.readers: Dict[int, Set[Key]] = {}  # by what they read
-        self.left: List[Key] = []
+        self.left: List[Tuple[int, int]] = []  # ranks of functions, and words; what is called is followed before its caller goes on
+        self.entries: List[int] = []
+        self.ranks: Dict[int, int] = {}
         self.near: Dict[int, Optional[loaded.State]] = {}
         self.run()
 
@@ -96,18 +100,26 @@ class Run:
                 self.enter((word, word), NOTHING)
         for _ in range(MOST_ROUNDS):
             while self.left:
-                key = heapq.heappop(self.left)
-                if not self.left or self.left[0] != key:
-                    self.now = key
-                    self.step(key)
+                rank, word = heapq.heappop(self.left)
+                if not self.left or self.left[0] != (rank, word):
+                    self.now = self.entries[-rank], word
+                    self.step(self.now)
             self.now = None
             if self.memory.changed:
                 again = set().union(*(self.readers.get(it, ()) for it in self.memory.changed))
                 self.memory.changed.clear()
                 for key in again:
-                    heapq.heappush(self.left, key)
+                    self.push(key)
             elif not self.enter_missed():
                 break
+
+    def push(self, key: Key) -> None:
+        """Lets a word be followed."""
+        entry, word = key
+        if entry not in self.ranks:
+            self.ranks[entry] = -len(self.entries)
+            self.entries.append(entry)
+        heapq.heappush(self.left, (self.ranks[entry], word))
 
     def enter_missed(self) -> bool:
         """Enters words of the certificate to which no way is known yet: begins of functions, which are entered by a list of constructors,
@@ -137,7 +149,7 @@ class Run:
             if key in self.hints:
                 state = State(joined(state.registers, self.hints[key]), state.slots)
             self.before[key] = state
-            heapq.heappush(self.left, key)
+            self.push(key)
             return
         slots = held.slots
         if slots != state.slots:
@@ -145,7 +157,7 @@ class Run:
         registers = joined(held.registers, state.registers)
         if registers != held.registers or slots != held.slots:
             self.before[key] = State(registers, slots)
-            heapq.heappush(self.left, key)
+            self.push(key)
 
     def leave(self, entry: int, registers: Registers) -> None:
         """Returns from a function."""
@@ -156,7 +168,7 @@ class Run:
         if met != held:
             self.exits[entry] = met
             for it in self.callers.get(entry, ()):
-                heapq.heappush(self.left, it)
+                self.push(it)
 
     def call(self, key: Key, to: int, after: Optional[int]) -> None:
         """Enters a function, behind which a run goes on at a word, or returns itself."""
@@ -587,6 +599,10 @@ class Origins:
         self.elf, self.told = elf, Addresses(elf)
         firmware = Firmware(elf, device, reached, targets, self.told)
         self.run = Run(firmware, Run(firmware))
+        for _ in range(MORE_RUNS):
+            if not self.run.memory.has_purer():
+                break
+            self.run = Run(firmware, self.run)
         self.by_word: Dict[int, List[Key]] = {}
         for key in self.run.before:
             self.by_word.setdefault(key[1], []).append(key)

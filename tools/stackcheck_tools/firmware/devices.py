@@ -56,10 +56,10 @@ class Vector:
 
 class Device:
     """A class of equal devices, by a line of the table: `words` of flash, the `first` and the `last` byte of SRAM, the bytes of a return
-    address (`back`), how many words a vector has, the `last_vector`, and the vector of the `watchdog`. `vectors` has the name of each vector that may come, by number; `registers`
-    the protected addresses by name; `enabling` those of registers that enable interrupts; `handlers` the functions of handlers by their
-    vectors' names; `moving` the bit that moves the vectors; `core` the registers of the core, with SPH where it `has_sph`; `banks` which of
-    RAMPZ and EIND it has."""
+    address (`back`), how many words a vector has, the `last_vector`, and the vector of the `watchdog`. `vectors` has the name of each
+    vector that may come, by number; `registers` the protected addresses by name; `enabling` those of registers that enable interrupts;
+    `handlers` the functions of handlers by their vectors' names; `moving` the bit that moves the vectors; `core` the registers of the
+    core, with SPH where it `has_sph`; `banks` which of RAMPZ and EIND it has."""
 
     def __init__(self, row: List[str]) -> None:
         self.name, self.words, self.back, self.vector_words, self.last_vector = row[0], int(row[1]), *map(int, (row[5], row[6], row[8]))

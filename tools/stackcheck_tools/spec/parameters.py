@@ -1,5 +1,5 @@
-"""Pushes of parameters: what a function pushes in front of a call and gives back behind it. Such a byte is an object of the callee, which may
-write it."""
+"""Pushes of parameters: what a function pushes in front of a call and gives back behind it. Such a byte is an object of the called
+function, which may write it."""
 
 from __future__ import annotations
 
@@ -35,8 +35,8 @@ def makes_room(elf: Elf, word: int) -> bool:
 
 
 def given_back(elf: Elf, word: int) -> int:
-    """How many bytes the write of SPL at a word gives back: what `adiw`, or `subi` with `sbci`, has added to the stack pointer that was read
-    just before; 0 of another write."""
+    """How many bytes the write of SPL at a word gives back: what `adiw`, or `subi` with `sbci`, has added to the stack pointer that was
+    read just before; 0 of another write."""
     register, count = opcodes.destination(elf.word(word)), 0
     for at in range(word - 1, max(word - NEAR, 0), -1):
         opcode = elf.word(at)

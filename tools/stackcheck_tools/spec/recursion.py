@@ -27,8 +27,8 @@ Counts = Tuple[int, ...]
 
 
 class Recursion:
-    """A line of a spec: its number and text, the words of the function, the most activations at a time, why, and the depth of each word. One
-    without a number in the spec has as many activations as simulated runs reached."""
+    """A line of a spec: its number and text, the words of the function, the most activations at a time, why, and the depth of each word.
+    One without a number in the spec has as many activations as simulated runs reached."""
 
     def __init__(self, number: Optional[int], name: str, entries: List[int], count: int, why: str) -> None:
         self.number, self.name, self.entries, self.count = number, name, entries, count
@@ -53,7 +53,8 @@ class Recursion:
         return f"calls {self.name}, of which the simulated runs had at most {self.count} on the stack"
 
     def told(self) -> Iterator[str]:
-        """Yields what the line came to: the deepest call, and what each further activation takes; and the line to copy, if the spec has none."""
+        """Yields what the line came to: the deepest call, and what each further activation takes; and the line to copy, if the spec has
+        none."""
         entry = max(self.entries, key=lambda it: self.depths.get(it, 0))
         step = self.steps.get(entry)
         more = f" ({step} for each further activation)" if step else ""

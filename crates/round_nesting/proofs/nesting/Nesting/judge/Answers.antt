@@ -4,20 +4,19 @@ use Rattle.node_keys.specs.Keys.{root_inst}
 use Rattle.round_nesting.specs.declared.verdict.NestingVerdict.TheVariants.{Nests}
 use Rattle.round_nesting.specs.Nestings.{Noted, AreOnce, AreAlike, TellsAll}
 use Rattle.round_nesting.specs.Drawn.{insts_of}
-use Rattle.round_nesting.specs.Covers.{AllowsRoot}
 use Rattle.round_nesting.proofs.Keeping.{insts_once, root_kept, alike}
 use Rattle.round_nesting.proofs.Covering.{nests}
 use Rattle.round_nesting.proofs.nesting.Nesting.judge.Goals as goal
 
-pub returns-then-allow_root-clause-tells : goal.returns-then-allow_root-clause-tells
-returns-then-allow_root-clause-tells c =
+pub returns-then-serve-clause-tells : goal.returns-then-serve-clause-tells
+returns-then-serve-clause-tells c =
     let old : Noted = record { insts = insts_of c.self.inside.has_root c.self.inside.others.keys; spots = c.self.inside.spots.keys; entrances = c.self.inside.entrances.keys } in
     subst (λ (n : Noted). TellsAll c.args.device n Nests) c.self.view_is
-    (nests c.args.device c.self.inside.allowances.map.entries old
-    (subst (AllowsRoot c.self.inside.allowances.map.entries) c.size.ensures (c.allow_root.ensures c.if-allow_root.true)) (c.self.invariant.covers c.if-self.true))
+    (nests c.args.device c.self.inside.allowances.back c.self.inside.allowances.map.entries old (c.serve.ensures.some c.if-serve.true) (c.serve.ensures.back c.if-serve.true) (c.serve.ensures.root c.if-serve.true)
+    (c.self.invariant.covers c.if-self.true))
 
-pub returns-then-allow_root-clause-once : goal.returns-then-allow_root-clause-once
-returns-then-allow_root-clause-once c = subst (λ (n : Noted). AreOnce n.insts) c.self.view_is (insts_once c.self.inside.has_root c.self.inside.others.keys c.self.invariant.apart)
+pub returns-then-serve-clause-once : goal.returns-then-serve-clause-once
+returns-then-serve-clause-once c = subst (λ (n : Noted). AreOnce n.insts) c.self.view_is (insts_once c.self.inside.has_root c.self.inside.others.keys c.self.invariant.apart)
 
 pub returns-then-not-self-clause-tells : goal.returns-then-not-self-clause-tells
 returns-then-not-self-clause-tells c task f sized root nesting =

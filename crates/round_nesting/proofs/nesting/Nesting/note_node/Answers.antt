@@ -1,25 +1,28 @@
-use Rattle.std.proofs.Common.{◌≡◌, ◌∙◌, subst, sym, true}
+use Rattle.std.proofs.Common.{subst, sym, ℕ}
 use Rattle.round_nesting.specs.Nestings.{Noted, Spot, IsNodeNoted}
 use Rattle.round_nesting.specs.Drawn.{insts_of, HasMore}
-use Rattle.round_nesting.specs.Covers.{AllowsSpot}
+use Rattle.round_nesting.specs.Covers.{IsCoverKept}
 use Rattle.round_nesting.specs.Hashes.{same_spot, spot_is}
 use Rattle.round_nesting.proofs.Keeping.{inserted, closed_node, open_node, insts_once}
 use Rattle.round_nesting.proofs.Covering.{kept_inst, kept_spot}
 use Rattle.round_nesting.proofs.nesting.Nesting.note_node.Goals as goal
-use Rattle.round_nesting.proofs.nesting.Nesting.note_node.Goals.{then-covered, else-covered}
 
 pub invariant_of-self-in-Closed : goal.invariant_of-self-in-Closed
 invariant_of-self-in-Closed c =
     let s : Spot = c.new-spot.result in
-    let gs = c.self.inside.allowances.map.entries in
-    let held : c.if-covered.covered ≡ true → (c.self.inside.covered ≡ true) × AllowsSpot gs s =
-    elim c.if-covered.branch [ then-covered w ↦ λ t. (w.if-covered.true, w.allow_spot-covered.ensures (sym w.covered-is ∙ t)) | else-covered w ↦ λ t. absurd (let e = w.covered-is in cc) ] in
-    kept_spot c.self.inside.covered gs c.self.inside.others.keys c.self.inside.spots.keys c.self.inside.entrances.keys c.self.invariant c.if-covered.covered s
-    c.keep_inst.new.others.keys c.insert.new.self.keys c.keep_inst.ensures.apart (inserted same_spot spot_is c.self.inside.spots.keys c.insert.new.self.keys c.new-spot.result c.in_ok-insert-in-Closed.ensures.keys) held
+    let made = c.in_ok-covered-in-Closed.ensures in
+    let gs = c.make_room.new.self.map.entries in
+    subst
+    (λ (back : ℕ). IsCoverKept c.in_ok-covered-in-Closed.covered back gs c.self.inside.exits.map.entries c.keep_inst.new.others.keys c.insert.new.self.keys c.self.inside.entrances.keys)
+    (sym c.make_room.ensures.back)
+    (kept_spot c.self.inside.covered c.self.inside.allowances.back c.self.inside.allowances.map.entries c.self.inside.exits.map.entries c.self.inside.others.keys c.self.inside.spots.keys
+    c.self.inside.entrances.keys c.self.invariant c.in_ok-covered-in-Closed.covered gs s c.keep_inst.new.others.keys c.insert.new.self.keys c.keep_inst.ensures.apart
+    (inserted same_spot spot_is c.self.inside.spots.keys c.insert.new.self.keys c.new-spot.result c.in_ok-insert-in-Closed.ensures.keys)
+    (λ t. (made.was t, made.spot t, made.kept t)))
 
 pub invariant_of-self-in-Open : goal.invariant_of-self-in-Open
 invariant_of-self-in-Open c =
-    kept_inst c.self.inside.covered c.self.inside.allowances.map.entries c.self.inside.others.keys c.keep_inst.new.others.keys c.self.inside.spots.keys
+    kept_inst c.self.inside.covered c.self.inside.allowances.back c.self.inside.allowances.map.entries c.self.inside.exits.map.entries c.self.inside.others.keys c.keep_inst.new.others.keys c.self.inside.spots.keys
     c.self.inside.entrances.keys c.self.invariant c.keep_inst.ensures.apart
 
 pub returns-in_ok-insert-in-Closed-clause-node : goal.returns-in_ok-insert-in-Closed-clause-node
