@@ -20,6 +20,11 @@ TARGETS = {
     "windows": ["--target=x86_64-w64-windows-gnu", "-ffunction-sections", "-fdata-sections"],
     "wasm": ["--target=wasm64-unknown-unknown", "-mbulk-memory", "-msimd128", "-mllvm", "-expand-div-rem-bits=64"],
 }
+# what links a port, and its package in Debian; the kit links that for WebAssembly
+LINKED_BY = {
+    "linux": ("aarch64-linux-gnu-gcc", "gcc-aarch64-linux-gnu"),
+    "windows": ("x86_64-w64-mingw32-gcc", "gcc-mingw-w64-x86-64"),
+}
 PROGRAMS = {"linux": "stackbound-aarch64", "windows": "stackbound.exe", "wasm": "stackbound.wasm"}
 WARNINGS = ["-Wall", "-Wextra", "-Werror"]
 
@@ -37,18 +42,17 @@ def compile_module(port: str, module: str, made: str) -> None:
 
 
 def link_linux(program: str, made: str, work: str, more: Sequence[str]) -> None:
-    gcc = tool("aarch64-linux-gnu-gcc", "gcc-aarch64-linux-gnu")
+    gcc = tool(*LINKED_BY["linux"])
     call([gcc, "-O2", *WARNINGS, "-static", "-s", "-Wl,--gc-sections", "-o", made, program, os.path.join(RUNTIME, "linux.c"), *more])
 
 
 def link_windows(program: str, made: str, work: str, more: Sequence[str]) -> None:
-    package = "gcc-mingw-w64-x86-64"
     renamed = os.path.join(work, "renamed.o")
     names = [word for name, other in RENAMED.items() for word in ("--redefine-sym", f"{name}={other}")]
-    call([tool("x86_64-w64-mingw32-objcopy", package), *names, program, renamed])
+    call([tool("x86_64-w64-mingw32-objcopy", "binutils-mingw-w64-x86-64"), *names, program, renamed])
     # no time in the header: the same sources give the same bytes
     options = ["-municode", "-s", "-Wl,--gc-sections", f"-Wl,--stack,{STACK}", "-Wl,--no-insert-timestamp"]
-    gcc = tool("x86_64-w64-mingw32-gcc", package)
+    gcc = tool(*LINKED_BY["windows"])
     call([gcc, "-O2", *WARNINGS, *options, "-o", made, renamed, os.path.join(RUNTIME, "windows.c"), *more])
 
 
@@ -81,6 +85,8 @@ def make(module: str, folder: str, ports: Sequence[str]) -> Dict[str, str]:
 
     def one(port: str) -> None:
         try:
+            if port in LINKED_BY:
+                tool(*LINKED_BY[port])
             compile_module(port, module, object_in(folder, port))
             link(port, object_in(folder, port), os.path.join(folder, PROGRAMS[port]))
         except NotMade as fault:
