@@ -20,7 +20,7 @@ use Rattle.avr_model.specs.declared.rows.Ivsel.{Ivsel}
 use Rattle.avr_model.specs.declared.rows.EnablePlace.{EnablePlace}
 use Rattle.avr_model.specs.declared.device_table.TheConstants.{ROWS, LAST, CLASSES, LAST_CLASS}
 use Rattle.avr_model.specs.Families.{FAMILIES, family_of}
-use Rattle.avr_model.specs.Devices.{device_row, width, words_of, io_end, size_of, ramend, back_of, has_sph, has_elpm, has_eijmp, rampz_most, eind_most, sp_count, wrapped, limit_of, word_digits, depth_of}
+use Rattle.avr_model.specs.Devices.{device_row, width, words_of, io_base, sreg_address, guarded_end, io_end, size_of, ramend, back_of, has_sph, has_elpm, has_eijmp, rampz_most, eind_most, sp_count, wrapped, limit_of, word_digits, depth_of}
 use Rattle.avr_model.specs.Vectors.{last_vector, watchdog, vector_word, is_core_of, covers}
 
 -- ---- what is tested of each row, and of each place
@@ -29,16 +29,17 @@ use Rattle.avr_model.specs.Vectors.{last_vector, watchdog, vector_word, is_core_
 abbrev pub is_apart : Row → Option Ivsel → Bool
 is_apart r None = true
 is_apart r (Some s) =
-    nat_le 0x40 s.address && (nat_le s.address r.io_end && (not (is_core_of r s.address) && (nat_lt s.bit 8 && not (list_any (covers s.address s.bit) (family_of r.family)))))
+    nat_le (r.io_base + 0x20) s.address && (nat_le s.address r.guarded_end && (not (is_core_of r s.address) && (nat_lt s.bit 8 && not (list_any (covers s.address s.bit) (family_of r.family)))))
 
 abbrev pub tests : Row → List Bool
 tests r =
-    nat_le 9 r.width ∷ nat_le r.width 17 ∷ nat_le 0x5F r.io_end ∷ nat_le r.io_end 0x1FF ∷ nat_le r.size 32768 ∷ nat_le 2 r.last ∷ nat_le r.last 77 ∷ nat_le r.watchdog r.last
-    ∷ nat_lt (r.step * (r.last - 1)) (2 ^ r.width) ∷ ((r.step == 1) || (r.step == 2)) ∷ list_all (λ (p : EnablePlace). nat_le p.vector r.last && (nat_le p.address r.io_end && not (is_core_of r p.address))) (family_of r.family)
+    nat_le 9 r.width ∷ nat_le r.width 17 ∷ nat_le (r.io_base + 0x3F) r.io_end ∷ nat_le r.io_end 0x77FF ∷ nat_le r.size 32768 ∷ nat_le 2 r.last ∷ nat_le r.last 77 ∷ nat_le r.watchdog r.last
+    ∷ nat_lt (r.step * (r.last - 1)) (2 ^ r.width) ∷ ((r.step == 1) || (r.step == 2)) ∷ list_all (λ (p : EnablePlace). nat_le p.vector r.last && (nat_le p.address r.guarded_end && not (is_core_of r p.address))) (family_of r.family)
     ∷ nat_lt r.family (length FAMILIES) ∷ is_apart r r.ivsel ∷ nat_le 2 r.back ∷ nat_le r.back 3 ∷ nat_le (2 ^ r.width) (256 ^ r.back)
     ∷ (r.has_sph || nat_lt (r.io_end + r.size) 256) ∷ (r.has_sph || nat_le r.size 128) ∷ (r.has_sph || r.reads_masks)
     ∷ (not r.has_elpm || (65536 * (2 ^ r.width / 32768 - 1 + 1) == 2 * 2 ^ r.width)) ∷ (not r.has_eijmp || (65536 * (2 ^ r.width / 65536 - 1 + 1) == 2 ^ r.width)) ∷ (not r.has_elpmx || r.has_elpm)
-    ∷ (not r.has_elpm || nat_le 16 r.width) ∷ (not r.has_eijmp || (r.has_elpm && (r.width == 17))) ∷ nat_lt (r.io_end + r.size) 0x8200 ∷ (not r.has_elpm || r.reads_masks) ∷ []
+    ∷ (not r.has_elpm || nat_le 16 r.width) ∷ (not r.has_eijmp || (r.has_elpm && (r.width == 17))) ∷ nat_lt (r.io_end + r.size) 0x8200 ∷ (not r.has_elpm || r.reads_masks)
+    ∷ nat_le r.io_base 0x20 ∷ nat_le (r.io_base + 0x3F) r.guarded_end ∷ nat_le r.guarded_end r.io_end ∷ nat_lt r.guarded_end 0x1005 ∷ []
 
 abbrev pub is_sound : Row → Bool
 is_sound r = list_all (λ b. b) (tests r)
@@ -75,11 +76,26 @@ least_width d = at_most_from_test 9 (width d) (passes d 0)
 pub most_width : (d : Device) → width d ≤ 17
 most_width d = at_most_from_test (width d) 17 (passes d 1)
 
-pub least_io : (d : Device) → 0x5F ≤ io_end d
-least_io d = at_most_from_test 0x5F (io_end d) (passes d 2)
+pub most_base : (d : Device) → io_base d ≤ 0x20
+most_base d = at_most_from_test (io_base d) 0x20 (passes d 26)
 
-pub most_io : (d : Device) → io_end d ≤ 0x1FF
-most_io d = at_most_from_test (io_end d) 0x1FF (passes d 3)
+pub least_io : (d : Device) → sreg_address d ≤ io_end d
+least_io d = at_most_from_test (sreg_address d) (io_end d) (passes d 2)
+
+pub most_io : (d : Device) → io_end d ≤ 0x77FF
+most_io d = at_most_from_test (io_end d) 0x77FF (passes d 3)
+
+pub most_ramend : (d : Device) → ramend d < 0x8200
+most_ramend d = less_from_test (ramend d) 0x8200 (passes d 24)
+
+pub least_guarded : (d : Device) → sreg_address d ≤ guarded_end d
+least_guarded d = at_most_from_test (sreg_address d) (guarded_end d) (passes d 27)
+
+pub guarded_in : (d : Device) → guarded_end d ≤ io_end d
+guarded_in d = at_most_from_test (guarded_end d) (io_end d) (passes d 28)
+
+pub most_guarded : (d : Device) → guarded_end d < 0x1005
+most_guarded d = less_from_test (guarded_end d) 0x1005 (passes d 29)
 
 pub most_bytes : (d : Device) → size_of d ≤ 32768
 most_bytes d = at_most_from_test (size_of d) 32768 (passes d 4)

@@ -4,9 +4,10 @@ use Rattle.std.specs.Fmt.{digits}
 use Rattle.avr_model.specs.declared.instruction.Instr.TheVariants as i
 use Rattle.avr_model.specs.declared.instruction.Base.TheVariants as base
 use Rattle.avr_model.specs.declared.device.TheConstants as device
-use Rattle.avr_model.specs.Devices.{Image, M328, device_row}
+use Rattle.avr_model.specs.declared.device.Special.TheVariants as special
+use Rattle.avr_model.specs.Devices.{Image, M328, T1614, device_row, spl_address, sph_address, sreg_address, guarded_end}
 use Rattle.avr_model.specs.Image.{WORDS}
-use Rattle.avr_model.specs.State.{SIZE, SPL, SPH, SREG, RAMPZ, EIND, REGISTERS}
+use Rattle.avr_model.specs.State.{SIZE, RAMPZ, EIND, REGISTERS, register_at, special as special_at}
 use Rattle.avr_model.specs.Table.{decoded, length_of}
 use Rattle.avr_model.specs.Text.{text_of}
 use Rattle.avr_model.specs.Sites.{is_scratch, is_fixed, path_behind, is_loaded_behind, ijmp_from, table_site}
@@ -20,15 +21,6 @@ code_has_words = refl
 pub code_has_size : SIZE ≡ device.SIZE
 code_has_size = refl
 
-pub code_has_spl : SPL ≡ device.SPL
-code_has_spl = refl
-
-pub code_has_sph : SPH ≡ device.SPH
-code_has_sph = refl
-
-pub code_has_sreg : SREG ≡ device.SREG
-code_has_sreg = refl
-
 pub code_has_rampz : RAMPZ ≡ device.RAMPZ
 code_has_rampz = refl
 
@@ -37,6 +29,32 @@ code_has_eind = refl
 
 pub code_has_registers : REGISTERS ≡ device.REGISTERS
 code_has_registers = refl
+
+-- the stack pointer and the status register behind 32 registers, and behind none; the last guarded addresses
+pub addresses_of_m328 : spl_address M328 ∷ sph_address M328 ∷ sreg_address M328 ∷ guarded_end M328 ∷ [] ≡ 0x5D ∷ 0x5E ∷ 0x5F ∷ 0xC1 ∷ []
+unfolding device_row
+addresses_of_m328 = refl
+
+pub addresses_of_t1614 : spl_address T1614 ∷ sph_address T1614 ∷ sreg_address T1614 ∷ guarded_end T1614 ∷ [] ≡ 0x3D ∷ 0x3E ∷ 0x3F ∷ 0x1003 ∷ []
+unfolding device_row
+addresses_of_t1614 = refl
+
+pub special_of_m328 : map (special_at M328) (0x3D ∷ 0x5D ∷ 0x5E ∷ 0x5F ∷ []) ≡ None ∷ Some special.Spl ∷ Some special.Sph ∷ Some special.Sreg ∷ []
+unfolding device_row
+special_of_m328 = refl
+
+pub special_of_t1614 : map (special_at T1614) (0x3D ∷ 0x3E ∷ 0x3F ∷ 0x5D ∷ []) ≡ Some special.Spl ∷ Some special.Sph ∷ Some special.Sreg ∷ None ∷ []
+unfolding device_row
+special_of_t1614 = refl
+
+-- the registers' data addresses, and none
+pub registers_of_m328 : map (register_at M328) (0 ∷ 31 ∷ 32 ∷ 0x5B ∷ []) ≡ Some 0 ∷ Some 31 ∷ None ∷ None ∷ []
+unfolding device_row
+registers_of_m328 = refl
+
+pub registers_of_t1614 : map (register_at T1614) (0 ∷ 31 ∷ []) ≡ None ∷ None ∷ []
+unfolding device_row
+registers_of_t1614 = refl
 
 -- the ATmega328P's flash that begins with these words, and is erased behind them
 abbrev pub firmware : List ℕ → Image

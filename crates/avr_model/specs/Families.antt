@@ -58,6 +58,7 @@ FAMILIES =
     ∷ table.FAMILY_50
     ∷ table.FAMILY_51
     ∷ table.FAMILY_52
+    ∷ table.FAMILY_53
     ∷ []
 
 -- the list of this number, where the first has number k; none behind the last

@@ -64,6 +64,7 @@ pub(crate) fn family(number: u8) -> &'static [EnablePlace]
         50 => &table::FAMILY_50,
         51 => &table::FAMILY_51,
         52 => &table::FAMILY_52,
+        53 => &table::FAMILY_53,
         _ => &[],
     }
 }

@@ -40,8 +40,12 @@ pub struct Row {
     pub width: u8,
     /// The number of bytes in which a word address is pushed: 2 or 3, so that they hold each word address.
     pub back: u8,
-    /// The last address of I/O, 0x5F to 0x1FF; SRAM begins behind it.
+    /// The data address of I/O address 0, and the number of registers that have data addresses: those below it. 0x20, or 0.
+    pub io_base: u16,
+    /// The last address of I/O, at most 0x77FF; SRAM begins behind it.
     pub io_end: u16,
+    /// No data address behind this one is a register's, the stack pointer's, the status register's, an enable place or IVSEL. At most 0x1004.
+    pub guarded_end: u16,
     /// The number of bytes of SRAM, at most 32,768; it ends below 0x8200.
     pub size: u16,
     /// Whether the stack pointer has a high byte, SPH. Without one, SRAM ends below 0x100, and each list is read with `masks`.
@@ -109,13 +113,15 @@ pub(crate) use ivsel;
 // A row: the device's name, and the fields of `Row` in their order.
 macro_rules! row {
     (
-        $name:ident $width:literal $back:literal $io_end:literal $size:literal $sph:tt $step:literal $last:literal $watchdog:literal
+        $name:ident $width:literal $back:literal $io_base:literal $io_end:literal $guarded_end:literal $size:literal $sph:tt $step:literal $last:literal $watchdog:literal
         $open:literal $jmp:tt $mul:tt $movw:tt $lpmx:tt $elpm:tt $elpmx:tt $eijmp:tt $break:tt $masks:tt $ivsel:tt $family:literal
     ) => {
         Row {
             width: $width,
             back: $back,
+            io_base: $io_base,
             io_end: $io_end,
+            guarded_end: $guarded_end,
             size: $size,
             has_sph: has!($sph),
             step: $step,
