@@ -9,12 +9,12 @@ use Rattle.basics.specs.Numbers.{less_from_test, at_most_from_test}
 use Rattle.avr_model.specs.declared.device.Device.{Device}
 use Rattle.avr_model.specs.declared.rows.EnablePlace.{EnablePlace}
 use Rattle.avr_model.specs.Families.{FAMILIES, numbered, family_of}
-use Rattle.avr_model.specs.Devices.{device_row, guarded_end, io_end}
+use Rattle.avr_model.specs.Devices.{device_row, guarded_end}
 use Rattle.avr_model.specs.Bits.{any_below}
 use Rattle.avr_model.specs.Vectors.{last_vector, is_vector, enable_places, covers, is_bit, is_core, has_common}
 use Rattle.avr_model.specs.Laws.{PlacesAreApart}
 use Rattle.avr_model.proofs.Below.{some_below, any_found}
-use Rattle.avr_model.proofs.Facts.{passes, guarded_in}
+use Rattle.avr_model.proofs.Facts.{passes}
 
 -- ---- pairs of items of a list
 
@@ -166,16 +166,16 @@ not_core true e = absurd (cc)
 not_core false e = refl
 
 parts : (d : Device) (p : EnablePlace) → is_place p ≡ true → in_device d p ≡ true
-    → (is_vector d p.vector ≡ true) × ((is_core d p.address ≡ false) × ((p.address ≤ io_end d) × (p.mask < 256)))
+    → (is_vector d p.vector ≡ true) × ((is_core d p.address ≡ false) × ((p.address ≤ guarded_end d) × (p.mask < 256)))
 parts d p h g =
     let last = not (is_bit p.enable) || any_below 8 (λ b. p.mask == 2 ^ b) in
     let a = and_parts (nat_le 2 p.vector) (nat_lt p.mask 256 && last) h in
     let c = and_parts (nat_lt p.mask 256) last a.1 in
     let e = and_parts (nat_le p.vector (last_vector d)) (nat_le p.address (guarded_end d) && not (is_core d p.address)) g in
     let f = and_parts (nat_le p.address (guarded_end d)) (not (is_core d p.address)) e.1 in
-    (vector_test p.vector (last_vector d) a.0 e.0, (not_core (is_core d p.address) f.1, (let in_guarded = at_most_from_test p.address (guarded_end d) f.0 in let in_io = guarded_in d in omega arith, less_from_test p.mask 256 c.0)))
+    (vector_test p.vector (last_vector d) a.0 e.0, (not_core (is_core d p.address) f.1, (at_most_from_test p.address (guarded_end d) f.0, less_from_test p.mask 256 c.0)))
 
-each : (d : Device) → All (λ (p : EnablePlace). (is_vector d p.vector ≡ true) × ((is_core d p.address ≡ false) × ((p.address ≤ io_end d) × (p.mask < 256)))) (enable_places d)
+each : (d : Device) → All (λ (p : EnablePlace). (is_vector d p.vector ≡ true) × ((is_core d p.address ≡ false) × ((p.address ≤ guarded_end d) × (p.mask < 256)))) (enable_places d)
 each d k default lt = let p = slice_index_or (enable_places d) k default in let there : Contains (enable_places d) p = (k, lt, any_default (enable_places d) k p default lt) in parts d p (one d p there) (in_row d p there)
 
 equal_if : (x y : ℕ) → (x == y) ≡ true → x ≡ y

@@ -1,5 +1,5 @@
 -- IVSEL is apart from the core, from what `sbi` and `cbi` reach, and from all enable bits.
-use Rattle.std.proofs.Common.{◌≡◌, ◌≤◌, ◌+◌, refl, subst, ap, ℕ, Bool, true, false, ◌==◌, ◌&&◌, not, nat_le, nat_lt, List, [], ◌∷◌, Option, Some, None, arith}
+use Rattle.std.proofs.Common.{◌≡◌, ◌+◌, refl, subst, ap, ℕ, Bool, true, false, ◌==◌, ◌&&◌, not, nat_le, nat_lt, List, [], ◌∷◌, Option, Some, None, arith}
 use Rattle.std.specs.List.{list_any, find}
 use Rattle.std.specs.Option.{option_map}
 use Rattle.std.proofs.lemmas.Bool.{and_parts}
@@ -9,10 +9,10 @@ use Rattle.avr_model.specs.declared.device.Device.{Device}
 use Rattle.avr_model.specs.declared.rows.Ivsel.{Ivsel}
 use Rattle.avr_model.specs.declared.rows.EnablePlace.{EnablePlace}
 use Rattle.avr_model.specs.Families.{family_of}
-use Rattle.avr_model.specs.Devices.{device_row, io_base, guarded_end, io_end}
+use Rattle.avr_model.specs.Devices.{device_row, io_base, guarded_end}
 use Rattle.avr_model.specs.Vectors.{enable_places, covers, is_core, is_bit_of, is_ivsel, enable_of}
 use Rattle.avr_model.specs.Laws.{IvselIsApart}
-use Rattle.avr_model.proofs.Facts.{is_apart, passes, guarded_in}
+use Rattle.avr_model.proofs.Facts.{is_apart, passes}
 
 none_found : {X : Type 0} (p : X → Bool) (xs : List X) → list_any p xs ≡ false → find p xs ≡ None
 none_found p [] h = refl
@@ -57,14 +57,11 @@ pub apart : (d : Device) (a b : ℕ) → is_ivsel d a b ≡ true → Apart d a b
 unfolding is_ivsel
 apart d a b is = by_row d (device_row d).ivsel a b (passes d 12) is
 
-in_io : (d : Device) (a : ℕ) → a ≤ guarded_end d → a ≤ io_end d
-in_io d a le = let inside = guarded_in d in omega arith
-
 pub ivsel_is_apart : IvselIsApart
 unfolding enable_of
 ivsel_is_apart =
     record {
-      reach = λ d a b is. (at_most_from_test (io_base d + 0x20) a (apart d a b is).least, in_io d a (at_most_from_test a (guarded_end d) (apart d a b is).most));
+      reach = λ d a b is. (at_most_from_test (io_base d + 0x20) a (apart d a b is).least, at_most_from_test a (guarded_end d) (apart d a b is).most);
       core = λ d a b is. (apart d a b is).core;
       bit = λ d a b is. less_from_test b 8 (apart d a b is).bit;
       enable = λ d a b is. ap (option_map (λ (p : EnablePlace). p.vector)) (none_found (covers a b) (enable_places d) (apart d a b is).enable);
