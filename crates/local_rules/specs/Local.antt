@@ -172,8 +172,8 @@ flow_row task scratch at (i.Rjmp t) = going_to at.key at.state (wrapped at.devic
 flow_row task scratch at (i.Rcall t) = relative_call scratch at (wrapped at.device (far at.key.pc t))
 flow_row task scratch at (i.Brbs n t) = flag_turn true n (node_of at) (wrapped at.device (near at.key.pc t)) (further at.device at.key 1)
 flow_row task scratch at (i.Brbc n t) = flag_turn false n (node_of at) (wrapped at.device (near at.key.pc t)) (further at.device at.key 1)
-flow_row task scratch at (i.Sbic a b) = bit_skip task at (port a) b false
-flow_row task scratch at (i.Sbis a b) = bit_skip task at (port a) b true
+flow_row task scratch at (i.Sbic a b) = bit_skip task at (port at.device a) b false
+flow_row task scratch at (i.Sbis a b) = bit_skip task at (port at.device a) b true
 flow_row task scratch at (i.Sbrc r b) = skip_if task.flash at (tri_not (tri_at (bits at.state r) b))
 flow_row task scratch at (i.Sbrs r b) = skip_if task.flash at (tri_at (bits at.state r) b)
 -- nop, sleep, break and wdr
@@ -195,10 +195,10 @@ memory_row task scratch at (i.ElpmZPlus d) = elpm_row task.flash at (extended_mo
 memory_row task scratch at i.Elpm = elpm_row task.flash at at.state.registers 0
 memory_row task scratch at (i.Pop d) = pop_row at d
 memory_row task scratch at (i.Push r) = push_row (scratch || has_scratch task.assumptions at.key.pc) at r
-memory_row task scratch at (i.In d a) = read_row task.assumptions at 1 d (port a)
-memory_row task scratch at (i.Out a r) = known_write at true (port a) r
-memory_row task scratch at (i.Cbi a b) = bit_row at (port a) b false
-memory_row task scratch at (i.Sbi a b) = bit_row at (port a) b true
+memory_row task scratch at (i.In d a) = read_row task.assumptions at 1 d (port at.device a)
+memory_row task scratch at (i.Out a r) = known_write at true (port at.device a) r
+memory_row task scratch at (i.Cbi a b) = bit_row at (port at.device a) b false
+memory_row task scratch at (i.Sbi a b) = bit_row at (port at.device a) b true
 memory_row task scratch at instr = flow_row task scratch at instr
 
 -- The successors of an instruction; `scratch` says that its pushes make a compiler's small frame.

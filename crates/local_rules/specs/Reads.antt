@@ -2,10 +2,12 @@
 use Rattle.std.specs.Prelude.{ℕ, ◌+◌, ◌*◌, ◌-◌, ◌==◌, ◌&&◌, Bool, true, false, nat_lt, nat_le, if◌then◌else◌, length, Option, Some, None}
 use Rattle.std.specs.Int.{bit_at, from_bool}
 use Rattle.avr_model.specs.declared.device.Device.{Device}
+use Rattle.avr_model.specs.declared.device.Special.{Special}
+use Rattle.avr_model.specs.declared.device.Special.TheVariants.{Spl, Sph, Sreg}
 use Rattle.avr_model.specs.Devices.{Image, words_of, io_end, ramend, device_of}
 use Rattle.avr_model.specs.Image.{byte_at}
 use Rattle.avr_model.specs.Vectors.{enable_of, held_of, is_ivsel}
-use Rattle.avr_model.specs.State.{SPL, SREG, register_at, is_sph, low, high, plus16, minus16}
+use Rattle.avr_model.specs.State.{register_at, special, low, high, plus16, minus16}
 use Rattle.bit_domain.specs.declared.bits.Tri.{Tri}
 use Rattle.bit_domain.specs.declared.bits.Tri.TheVariants.{Zero, One, Any}
 use Rattle.bit_domain.specs.declared.bytes.TriByte.{TriByte}
@@ -102,15 +104,17 @@ slot_read device Root s a = if nat_le a (ramend device) then value_of (slot_at s
 slot_read device Call s a = unknown
 slot_read device (Vector v) s a = unknown
 
--- the value of a known address; `may` says whether the key has what may be enabled
+-- the value of a known address that is no register's; `may` says whether the key has what may be enabled
+abbrev pub read_special : Device → Bool → NodeKey → AbsState → ℕ → Option Special → AbsByte
+read_special device may k s a (Some Spl) = sp_low device k.inst.kind k.sp
+read_special device may k s a (Some Sph) = sp_high device k.inst.kind k.sp
+read_special device may k s a (Some Sreg) = sreg_value k s
+read_special device may k s a None = if nat_le a (io_end device) then untagged (io_bits device may k.masks a) else slot_read device k.inst.kind s a
+
+-- the value of a known address
 abbrev pub read_behind : Device → Bool → NodeKey → AbsState → ℕ → Option ℕ → AbsByte
 read_behind device may k s a (Some r) = value s r
-read_behind device may k s a None =
-    if a == SPL then sp_low device k.inst.kind k.sp
-    else (if is_sph device a then sp_high device k.inst.kind k.sp
-    else (if a == SREG then sreg_value k s
-    else (if nat_le a (io_end device) then untagged (io_bits device may k.masks a)
-    else slot_read device k.inst.kind s a)))
+read_behind device may k s a None = read_special device may k s a (special device a)
 
 unfoldable pub read_at : Device → Bool → NodeKey → AbsState → ℕ → AbsByte
 read_at device may k s a = read_behind device may k s a (register_at device a)

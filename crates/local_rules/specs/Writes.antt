@@ -1,11 +1,13 @@
 -- The effect of writing a byte to data space. Source: own.
 use Rattle.std.specs.Prelude.{ℕ, ◌+◌, ◌*◌, ◌-◌, ◌%◌, ◌==◌, ◌&&◌, Bool, true, false, not, nat_lt, nat_le, if◌then◌else◌, List, [], ◌∷◌, ◌++◌, map, filter, Option, Some, None, slice_set}
 use Rattle.avr_model.specs.declared.device.Device.{Device}
+use Rattle.avr_model.specs.declared.device.Special.{Special}
+use Rattle.avr_model.specs.declared.device.Special.TheVariants.{Spl, Sph, Sreg}
 use Rattle.avr_model.specs.declared.assumption.Entry.{Entry}
 use Rattle.avr_model.specs.Devices.{size_of, ramend, has_sph}
 use Rattle.avr_model.specs.Assumptions.{store_line, is_fixed_site}
 use Rattle.avr_model.specs.Masks.{admits_enables}
-use Rattle.avr_model.specs.State.{SPL, SREG, register_at, is_sph, low, high, minus16}
+use Rattle.avr_model.specs.State.{register_at, special, low, high, minus16}
 use Rattle.bit_domain.specs.declared.bits.Tri.{Tri}
 use Rattle.bit_domain.specs.declared.bits.Tri.TheVariants.{Zero, One, Any}
 use Rattle.bit_domain.specs.TriByte.{tri_at, has, byte_with, byte_constant}
@@ -150,14 +152,17 @@ pub record ByteWrite : Type 0 where
 abbrev pub write_at : Device → ℕ → NodeKey → AbsState → AbsByte → ByteWrite
 write_at device pc k s v = record { device = device; pc = pc; key = k; state = s; value = v }
 
+-- the effect of the write at a known address that is no register's
+abbrev pub special_written : ByteWrite → Bool → ℕ → Option Special → Raw
+special_written w is_out a (Some Spl) = closing w.device (closing_offset w.device w.key.inst.kind w.key.sp w.value) w.key w.state w.pc
+special_written w is_out a (Some Sph) = opening (high_part w.key.inst.kind w.value) w.key w.state w.pc
+special_written w is_out a (Some Sreg) = sreg_written (tri_at w.value.bits 7) w.key (put_flags w.state (flags_written w.value)) is_out
+special_written w is_out a None = masks_written w.device w.key w.state a w.value
+
 -- the effect of the write at a known address
 abbrev pub written_behind : ByteWrite → Bool → ℕ → Option ℕ → Raw
 written_behind w is_out a (Some r) = one w.key (register_written w.device w.state r w.value)
-written_behind w is_out a None =
-    if a == SPL then closing w.device (closing_offset w.device w.key.inst.kind w.key.sp w.value) w.key w.state w.pc
-    else (if is_sph w.device a then opening (high_part w.key.inst.kind w.value) w.key w.state w.pc
-    else (if a == SREG then sreg_written (tri_at w.value.bits 7) w.key (put_flags w.state (flags_written w.value)) is_out
-    else masks_written w.device w.key w.state a w.value))
+written_behind w is_out a None = special_written w is_out a (special w.device a)
 
 unfoldable pub written_at : ByteWrite → Bool → ℕ → Raw
 written_at w is_out a = written_behind w is_out a (register_at w.device a)
