@@ -19,7 +19,9 @@ use Rattle.avr_model.specs.Effects.{port}
 use Rattle.avr_model.specs.Image.{byte_at}
 use Rattle.avr_model.specs.Masks.{reads_masks}
 use Rattle.avr_model.specs.Sites.{base_register, pointer_register}
-use Rattle.avr_model.specs.State.{SPL, SREG, register_at, is_sph}
+use Rattle.avr_model.specs.declared.device.Special.{Special}
+use Rattle.avr_model.specs.declared.device.Special.TheVariants.{Spl, Sph, Sreg}
+use Rattle.avr_model.specs.State.{register_at, special}
 use Rattle.avr_model.specs.Text.{far, near}
 use Rattle.bit_domain.specs.declared.bits.Tri.{Tri}
 use Rattle.bit_domain.specs.declared.bits.Tri.TheVariants.{Zero, One, Any}
@@ -53,7 +55,7 @@ use Rattle.local_rules.specs.HighBytes.{SpView, view_by, carry_number, seen_high
 use Rattle.local_rules.specs.Raw.{Raw, further, next, at_word}
 use Rattle.local_rules.specs.Registers.{value, bits, carry_bit, set, set_pair, low_tag, high_tag, down_by, high_tag_of, pair_moved, going_by, interrupts_row, flag_row, binary_after, immediate_after, unary_after}
 use Rattle.local_rules.specs.FrameLines.{is_followed, followed, tag_followed, number_added, more_tag, high_more_tag, less_tag, framed_binary, framed_immediate, framed_unary, immediate_at, unary_at}
-use Rattle.local_rules.specs.Reads.{sp_low, sp_high, flags_tag, io_bits, value_of, slot_read, read_behind, read_at, pair_constant, pointed, read_number, read_constant, read_both, read_frame, read_pointed, flash_value}
+use Rattle.local_rules.specs.Reads.{sp_low, sp_high, flags_tag, io_bits, value_of, slot_read, read_special, read_behind, read_at, pair_constant, pointed, read_number, read_constant, read_both, read_frame, read_pointed, flash_value}
 use Rattle.local_rules.specs.Flow.{branch, flag_at, part_of, with_value, where_carry, going_where, carry_branch, flag_branch, targets_at, far_targets_at, pushed_slot, pushing, popping, making_room, relative_call, ret_exit, reti_exit}
 use Rattle.local_rules.specs.Local.{step_before, pointer_moved, loading, extended_moved, row_of}
 use Rattle.local_rules.specs.Site.{Task, site_at}
@@ -263,18 +265,20 @@ module _ (device : Device) (is_root : Bool) (k : NodeKey) (s : AbsState) (h : Is
   slot_read_named Call a = refl
   slot_read_named (Vector v) a = refl
 
-  place_named : (a r : ℕ) → IsPlace device a r → names (value s r).tag ≡ true
-  place_named a r (at_low lt is) = register_named r lt
-  place_named a r (at_rampz has place is) = subst (λ (n : ℕ). names (value s n).tag ≡ true) (sym is) (weak.rampz.tag (rampz_there device has))
-  place_named a r (at_eind has place is) = subst (λ (n : ℕ). names (value s n).tag ≡ true) (sym is) (weak.eind.tag (eind_there device has))
+  place_named : (r : ℕ) → IsPlace device r → names (value s r).tag ≡ true
+  place_named r (at_low lt) = register_named r lt
+  place_named r (at_rampz has is) = subst (λ (n : ℕ). names (value s n).tag ≡ true) (sym is) (weak.rampz.tag (rampz_there device has))
+  place_named r (at_eind has is) = subst (λ (n : ℕ). names (value s n).tag ≡ true) (sym is) (weak.eind.tag (eind_there device has))
+
+  special_named : (may : Bool) (a : ℕ) (x : Option Special) → names (read_special device may k s a x).tag ≡ true
+  special_named may a (Some Spl) = free_names device _ (sp_low_free k.inst.kind k.sp)
+  special_named may a (Some Sph) = free_names device _ (sp_high_free k.inst.kind k.sp)
+  special_named may a (Some Sreg) = free_names device _ (free_flags s.flags.entry)
+  special_named may a None = if_named (nat_le a (io_end device)) (untagged (io_bits device may k.masks a)) _ refl (slot_read_named k.inst.kind a)
 
   behind_named : (may : Bool) (a : ℕ) (x : Option ℕ) → register_at device a ≡ x → names (read_behind device may k s a x).tag ≡ true
-  behind_named may a (Some r) e = place_named a r (place_of device a r e)
-  behind_named may a None e =
-      if_named (a == SPL) _ _ (free_names device _ (sp_low_free k.inst.kind k.sp))
-      (if_named (is_sph device a) _ _ (free_names device _ (sp_high_free k.inst.kind k.sp))
-      (if_named (a == SREG) _ _ (free_names device _ (free_flags s.flags.entry))
-      (if_named (nat_le a (io_end device)) (untagged (io_bits device may k.masks a)) _ refl (slot_read_named k.inst.kind a))))
+  behind_named may a (Some r) e = place_named r (place_of device a r e)
+  behind_named may a None e = special_named may a (special device a)
 
   read_named : (may : Bool) (a : ℕ) → names (read_at device may k s a).tag ≡ true
   unfolding read_at
@@ -551,10 +555,10 @@ module _ (device : Device) (is_root : Bool) (task : Task) (scratch : Bool) (k : 
   row_of_device (i.Pop d) fits has supported = each_closed Q k.sp k.pc _ (λ offset. pop_of device is_root k s h d offset has)
   row_of_device (i.Push r) fits has supported = each_closed Q k.sp k.pc _ (λ offset. push_of device is_root k s h (scratch || has_scratch task.assumptions k.pc) r offset fits)
   row_of_device (i.In d a) fits has supported =
-      each_one Q _ _ (set_at _ _ (set_of_good G refl device is_root s.registers d _ regs has (read_named device is_root k s h may (port a))))
-  row_of_device (i.Out a r) fits has supported = written_of G refl device is_root k.pc (next device k) s (value s r) true (port a) strong (base_value device is_root s h r fits)
-  row_of_device (i.Cbi a b) fits has supported = written_of G refl device is_root k.pc (next device k) s _ false (port a) strong refl
-  row_of_device (i.Sbi a b) fits has supported = written_of G refl device is_root k.pc (next device k) s _ false (port a) strong refl
+      each_one Q _ _ (set_at _ _ (set_of_good G refl device is_root s.registers d _ regs has (read_named device is_root k s h may (port device a))))
+  row_of_device (i.Out a r) fits has supported = written_of G refl device is_root k.pc (next device k) s (value s r) true (port device a) strong (base_value device is_root s h r fits)
+  row_of_device (i.Cbi a b) fits has supported = written_of G refl device is_root k.pc (next device k) s _ false (port device a) strong refl
+  row_of_device (i.Sbi a b) fits has supported = written_of G refl device is_root k.pc (next device k) s _ false (port device a) strong refl
   row_of_device i.Ijmp fits has supported = each_jumping Q (targets_at task.assumptions (site_at device k s)) k s strong
   row_of_device i.Icall fits has supported = each_indirect Q device (targets_at task.assumptions (site_at device k s)) k
   row_of_device i.Eijmp fits has supported = each_jumping Q (far_targets_at task.assumptions (site_at device k s)) k s strong
@@ -567,8 +571,8 @@ module _ (device : Device) (is_root : Bool) (task : Task) (scratch : Bool) (k : 
   row_of_device (i.Rcall t) fits has supported = relative_of device is_root k s h scratch (wrapped device (far k.pc t))
   row_of_device (i.Brbs n t) fits has supported = turn_of device is_root k s h n (wrapped device (near k.pc t)) (further device k 1) (flag_at k s n) _ _ carries
   row_of_device (i.Brbc n t) fits has supported = turn_of device is_root k s h n (further device k 1) (wrapped device (near k.pc t)) (tri_not (flag_at k s n)) _ _ carries
-  row_of_device (i.Sbic a b) fits has supported = each_branch Q (tri_not (tri_at (read_at device may k s (port a)).bits b)) _ _ s strong
-  row_of_device (i.Sbis a b) fits has supported = each_branch Q (tri_at (read_at device may k s (port a)).bits b) _ _ s strong
+  row_of_device (i.Sbic a b) fits has supported = each_branch Q (tri_not (tri_at (read_at device may k s (port device a)).bits b)) _ _ s strong
+  row_of_device (i.Sbis a b) fits has supported = each_branch Q (tri_at (read_at device may k s (port device a)).bits b) _ _ s strong
   row_of_device (i.Sbrc r b) fits has supported = each_branch Q (tri_not (tri_at (bits s r) b)) _ _ s strong
   row_of_device (i.Sbrs r b) fits has supported = each_branch Q (tri_at (bits s r) b) _ _ s strong
   row_of_device i.Nop fits has supported = each_one Q _ s strong

@@ -1,14 +1,14 @@
 -- RAMPZ and EIND hold no number above their greatest, before and behind each instruction.
-use Rattle.std.proofs.Common.{◌≡◌, ◌≢◌, refl, sym, ◌∙◌, ap, subst, ℕ, zero, suc, ◌+◌, ◌/◌, ◌*◌, ◌^◌, ◌-◌, ◌<◌, ◌≤◌, ◌==◌, ◌&&◌, ◌||◌, ⊎_elim, Bool, true, false, nat_lt, if◌then◌else◌, List, [], ◌∷◌, ◌++◌, Option, Some, None, slice_index, slice_set, length, length-set, bit_and, arith, ltb-true, eqb-true}
+use Rattle.std.proofs.Common.{◌≡◌, ◌≢◌, refl, ap, subst, ℕ, zero, suc, ◌+◌, ◌/◌, ◌*◌, ◌^◌, ◌-◌, ◌<◌, ◌≤◌, ◌==◌, ◌&&◌, ⊎_elim, Bool, true, false, nat_lt, if◌then◌else◌, List, [], ◌∷◌, ◌++◌, Option, Some, None, slice_index, slice_set, length, length-set, bit_and, arith, ltb-true}
 use Rattle.std.specs.Prelude.{⊤}
-use Rattle.std.proofs.lemmas.Bool.{and_parts, cases_eq, cases_lt, ne_eqb, lt-ltb}
+use Rattle.std.proofs.lemmas.Bool.{and_parts, cases_eq, cases_lt}
 use Rattle.std.proofs.Math.Pow.{pow_mono}
 use Rattle.std.proofs.lemmas.Bool.Decides.{nat_tests}
 use Rattle.std.proofs.lemmas.Grind.{elements}
 use Rattle.std.proofs.lemmas.List.{get_or_past}
 use Rattle.std.proofs.lemmas.Nat.{and_le_l, and_le_r}
 use Rattle.avr_model.proofs.AllLaws.{devices_are_alike}
-use Rattle.avr_model.specs.Devices.{Image, width, words_of, has_sph, has_elpm, has_eijmp, rampz_most, eind_most}
+use Rattle.avr_model.specs.Devices.{Image, io_base, rampz_address, eind_address, width, words_of, has_elpm, has_eijmp, rampz_most, eind_most}
 use Rattle.avr_model.specs.declared.device.Device.{Device}
 use Rattle.avr_model.specs.declared.effect.Write.{Write}
 use Rattle.avr_model.specs.declared.instruction.Instr.{Instr}
@@ -21,8 +21,7 @@ use Rattle.avr_model.specs.declared.instruction.UnaryOp.{UnaryOp}
 use Rattle.avr_model.specs.declared.instruction.UnaryOp.TheVariants as unary
 use Rattle.avr_model.specs.declared.instruction.Pointer.{Pointer}
 use Rattle.avr_model.specs.declared.instruction.Pointer.TheVariants as pointer
-use Rattle.avr_model.specs.Vectors.{is_core}
-use Rattle.avr_model.specs.State.{State, RAMPZ, EIND, REGISTERS, register, pair, register_at, bank_most, kept_of}
+use Rattle.avr_model.specs.State.{State, RAMPZ, EIND, register, pair, register_at, bank_most, kept_of}
 use Rattle.avr_model.specs.Effects.{set, set_pair, moved, stepped_bank, binary_effect, immediate_effect, unary_effect, effect_of}
 use Rattle.avr_model.specs.Step.{with_registers, register_stored, registers_after}
 use Rattle.pair_rules.specs.Fits.{HasRegisters}
@@ -172,47 +171,22 @@ module _ (m : State) (h : IsMachine m) where
 
 -- ---- addresses of registers
 
--- the address of a register, of RAMPZ or of EIND
-pub data IsPlace (device : Device) (a r : ℕ) : Type 0 where
-  low : r < 32 → a ≡ r → IsPlace device a r
-  rampz : has_elpm device ≡ true → a ≡ 0x5B → r ≡ RAMPZ → IsPlace device a r
-  eind : has_eijmp device ≡ true → a ≡ 0x5C → r ≡ EIND → IsPlace device a r
+-- a register that the device has: one of r0 to r31, RAMPZ or EIND
+pub data IsPlace (device : Device) (r : ℕ) : Type 0 where
+  low : r < 32 → IsPlace device r
+  rampz : has_elpm device ≡ true → r ≡ RAMPZ → IsPlace device r
+  eind : has_eijmp device ≡ true → r ≡ EIND → IsPlace device r
 
-pub place_of : (device : Device) (a r : ℕ) → register_at device a ≡ Some r → IsPlace device a r
-place_of device a r e = by (nat_lt a 0x20) ((a == 0x5B) && has_elpm device) ((a == 0x5C) && has_eijmp device) refl refl refl e
+-- only such a register has an address
+pub place_of : (device : Device) (a r : ℕ) → register_at device a ≡ Some r → IsPlace device r
+place_of device a r e = by (nat_lt a (io_base device)) ((a == rampz_address device) && has_elpm device) ((a == eind_address device) && has_eijmp device) refl refl refl e
   where
-    by : (p q s : Bool) → nat_lt a 0x20 ≡ p → ((a == 0x5B) && has_elpm device) ≡ q → ((a == 0x5C) && has_eijmp device) ≡ s
-        → (if p then Some a else (if q then Some RAMPZ else (if s then Some EIND else None))) ≡ Some r → IsPlace device a r
-    by true q s is is' is'' found = let same : a ≡ r = cc in let lt = ltb-true a 0x20 is in low (omega (arith, same, lt)) same
-    by false true s is is' is'' found = let both = and_parts (a == 0x5B) (has_elpm device) is' in rampz both.1 (eqb-true a 0x5B both.0) (cc)
-    by false false true is is' is'' found = let both = and_parts (a == 0x5C) (has_eijmp device) is'' in eind both.1 (eqb-true a 0x5C both.0) (cc)
+    by : (p q s : Bool) → nat_lt a (io_base device) ≡ p → ((a == rampz_address device) && has_elpm device) ≡ q → ((a == eind_address device) && has_eijmp device) ≡ s
+        → (if p then Some a else (if q then Some RAMPZ else (if s then Some EIND else None))) ≡ Some r → IsPlace device r
+    by true q s is is' is'' found = let same : a ≡ r = cc in low (omega (arith, same, ltb-true a (io_base device) is, devices_are_alike.most_base device))
+    by false true s is is' is'' found = rampz (and_parts (a == rampz_address device) (has_elpm device) is').1 (cc)
+    by false false true is is' is'' found = eind (and_parts (a == eind_address device) (has_eijmp device) is'').1 (cc)
     by false false false is is' is'' found = absurd (cc)
-
-pub place_small : (device : Device) (a r : ℕ) → IsPlace device a r → r < REGISTERS
-place_small device a r (low lt same) = omega (arith, lt)
-place_small device a r (rampz has is same) = omega (arith, same)
-place_small device a r (eind has is same) = omega (arith, same)
-
--- neither the stack pointer nor the status register is there
-pub place_apart : (device : Device) (a r b : ℕ) → 0x5C < b → IsPlace device a r → (a == b) ≡ false
-place_apart device a r b above (low lt same) = ne_eqb a b (λ e. omega (arith, lt, same, e, above))
-place_apart device a r b above (rampz has is same) = ne_eqb a b (λ e. omega (arith, is, e, above))
-place_apart device a r b above (eind has is same) = ne_eqb a b (λ e. omega (arith, is, e, above))
-
-pub place_core : (device : Device) (a r : ℕ) → IsPlace device a r → is_core device a ≡ true
-place_core device a r (low lt same) = ap (λ b. b || ((a == 0x5D) || ((a == 0x5F) || ((has_sph device && (a == 0x5E)) || ((has_elpm device && (a == 0x5B)) || (has_eijmp device && (a == 0x5C))))))) (lt-ltb a 0x20 (omega (arith, lt, same)))
-place_core device a r (rampz has is same) = subst (λ x. is_core device x ≡ true) (sym is) (ap (λ b. (has_sph device && false) || ((b && true) || (has_eijmp device && false))) has ∙ shown (has_sph device))
-  where
-    shown : (b : Bool) → ((b && false) || true) ≡ true
-    shown true = refl
-    shown false = refl
-place_core device a r (eind has is same) = subst (λ x. is_core device x ≡ true) (sym is) (ap (λ b. (has_sph device && false) || ((has_elpm device && false) || (b && true))) has ∙ shown (has_sph device) (has_elpm device))
-  where
-    shown : (b c : Bool) → ((b && false) || ((c && false) || true)) ≡ true
-    shown true true = refl
-    shown true false = refl
-    shown false true = refl
-    shown false false = refl
 
 -- ---- numbers that they hold
 

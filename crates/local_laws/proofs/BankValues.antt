@@ -75,16 +75,16 @@ bank_stands device o r v x is kept h =
     by false e = tt
 
 -- what a register holds of a byte that is written by its address
-pub stored_stands : (device : Device) (o : Origin) (a r : ℕ) (v : AbsByte) (x : ℕ) → AreBanks device o.registers → IsPlace device a r → ByteStands o v x
+pub stored_stands : (device : Device) (o : Origin) (r : ℕ) (v : AbsByte) (x : ℕ) → AreBanks device o.registers → IsPlace device r → ByteStands o v x
     → ByteStands o (stored_value device r v) (kept_of device r x)
-stored_stands device o a r v x banks (at_low lt same) h =
+stored_stands device o r v x banks (at_low lt) h =
     let is : nat_lt r 32 ≡ true = grind (arith, nat_tests) in
     subst (λ (b : Bool). ByteStands o (if b then with_bits v.tag v.bits else bank_value device r v) (if b then x else bit_and x (bank_most device r))) (sym is)
     (bits_make_values.stands o v.tag v.bits x h.small h.tag h.bits)
-stored_stands device o a r v x banks (at_rampz has is same) h =
+stored_stands device o r v x banks (at_rampz has same) h =
     subst (λ n. ByteStands o (stored_value device n v) (kept_of device n x)) (sym same)
     (bank_stands device o RAMPZ v x refl (kept_rampz device (slice_index o.registers RAMPZ) banks.rampz) h)
-stored_stands device o a r v x banks (at_eind has is same) h =
+stored_stands device o r v x banks (at_eind has same) h =
     subst (λ n. ByteStands o (stored_value device n v) (kept_of device n x)) (sym same)
     (bank_stands device o EIND v x refl (kept_eind device (slice_index o.registers EIND) banks.eind) h)
 

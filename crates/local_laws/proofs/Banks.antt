@@ -181,12 +181,12 @@ module _ (good : Tag → Bool) (none : good tag.None ≡ true) (device : Device)
   low_value : (r : ℕ) (v : AbsByte) → r < 32 → good v.tag ≡ true → good (stored_value device r v).tag ≡ true
   low_value r v lt h = ap (λ (b : Bool). good (if b then with_bits v.tag v.bits else bank_value device r v).tag) (lt-ltb r 32 lt) ∙ h
 
-  stored_in : (vs : List AbsByte) (a r : ℕ) (v : AbsByte) → AreOf good device is_root vs → IsPlace device a r → good v.tag ≡ true
+  stored_in : (vs : List AbsByte) (r : ℕ) (v : AbsByte) → AreOf good device is_root vs → IsPlace device r → good v.tag ≡ true
       → AreOf good device is_root (slice_set vs r (stored_value device r v))
-  stored_in vs a r v h (at_low lt same) is = set_of_good vs r (stored_value device r v) h lt (low_value r v lt is)
-  stored_in vs a r v h (at_rampz has place same) is =
+  stored_in vs r v h (at_low lt) is = set_of_good vs r (stored_value device r v) h lt (low_value r v lt is)
+  stored_in vs r v h (at_rampz has same) is =
       subst (λ (n : ℕ). AreOf good device is_root (slice_set vs n (stored_value device n v))) (sym same) (rampz_set vs (bank_value device RAMPZ v) h (bank_of RAMPZ v (rampz_there device has) is))
-  stored_in vs a r v h (at_eind has place same) is =
+  stored_in vs r v h (at_eind has same) is =
       subst (λ (n : ℕ). AreOf good device is_root (slice_set vs n (stored_value device n v))) (sym same) (eind_set vs (bank_value device EIND v) h (bank_of EIND v (eind_there device has) is))
 
   abbrev Of : AbsState → Type 0
@@ -206,7 +206,7 @@ module _ (good : Tag → Bool) (none : good tag.None ≡ true) (device : Device)
         same = h;
         flags = λ f. record { registers = h.registers; slots = h.slots };
         slots = λ n. record { registers = h.registers; slots = resized_of s.slots n h.slots };
-        register = λ a r e. record { registers = stored_in s.registers a r v h.registers (place_of device a r e) is; slots = h.slots };
+        register = λ a r e. record { registers = stored_in s.registers r v h.registers (place_of device a r e) is; slots = h.slots };
       }
 
   pub written_of : (pc : ℕ) (k : NodeKey) (s : AbsState) (v : AbsByte) (is_out : Bool) (a : ℕ) → Of s → good v.tag ≡ true → All (written_at (write_at device pc k s v) is_out a)

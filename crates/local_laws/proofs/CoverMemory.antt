@@ -322,15 +322,15 @@ module _ (task : Task) (m : State) (o : Origin) (k : NodeKey) (s : AbsState) (at
       (less_set (with_registers m.registers (set_pair 30 (plus16 (pair m 30) 1))) s.flags.carry (flag m.sreg 0) RAMPZ (stepped_bank m) spares.1.1.1.0
       (less_two m.registers s.flags.carry (flag m.sreg 0) 30 31 _ _ (spares.1.0, (spares.1.1.0, tt)) at.stands.less)) spares.0 (elpm_stands are small)
   addressed_covered members are small i.Elpm spares is told clean unflagged = one_covered 0 _ _ (elpm_stands are small) spares.0
-  addressed_covered members are small (i.In d a) spares is told clean unflagged = one_covered d _ _ (read_stands m o k s at (port a) b1 small) spares.0
-  addressed_covered members are small (i.Out a r) spares is told clean unflagged = register_covered members on_next 1 (goes_further m o k s at (not scratch) b1 b2 1) true (port a) r clean
-  addressed_covered members are small (i.Cbi a b) spares is told clean unflagged = bit_covered members (port a) b false clean
-  addressed_covered members are small (i.Sbi a b) spares is told clean unflagged = bit_covered members (port a) b true clean
+  addressed_covered members are small (i.In d a) spares is told clean unflagged = one_covered d _ _ (read_stands m o k s at (port m.device a) b1 small) spares.0
+  addressed_covered members are small (i.Out a r) spares is told clean unflagged = register_covered members on_next 1 (goes_further m o k s at (not scratch) b1 b2 1) true (port m.device a) r clean
+  addressed_covered members are small (i.Cbi a b) spares is told clean unflagged = bit_covered members (port m.device a) b false clean
+  addressed_covered members are small (i.Sbi a b) spares is told clean unflagged = bit_covered members (port m.device a) b true clean
   addressed_covered members are small (i.Sbic a b) spares is told clean unflagged =
-      skip_keys m o k s at (not scratch) b1 b2 task.flash (not (flag (read (reads_masks m.device task.assumptions) m (port a) b1) b)) (tri_not (tri_at (read_at m.device (reads_masks m.device task.assumptions) k s (port a)).bits b)) (reading_zero m.device (reads_masks m.device task.assumptions) k (port a) b) k refl refl
-      (λ pc pc' here off. turns_zero (port a) b pc pc' here (off_by (flag (read (reads_masks m.device task.assumptions) m (port a) b1) b) off)) (λ pc pc' here on. turns_to m o k s at (not scratch) pc pc' here)
-      (not_may (tri_at (read_at m.device (reads_masks m.device task.assumptions) k s (port a)).bits b) (flag (read (reads_masks m.device task.assumptions) m (port a) b1) b) (bit_may small (port a) b))
+      skip_keys m o k s at (not scratch) b1 b2 task.flash (not (flag (read (reads_masks m.device task.assumptions) m (port m.device a) b1) b)) (tri_not (tri_at (read_at m.device (reads_masks m.device task.assumptions) k s (port m.device a)).bits b)) (reading_zero m.device (reads_masks m.device task.assumptions) k (port m.device a) b) k refl refl
+      (λ pc pc' here off. turns_zero (port m.device a) b pc pc' here (off_by (flag (read (reads_masks m.device task.assumptions) m (port m.device a) b1) b) off)) (λ pc pc' here on. turns_to m o k s at (not scratch) pc pc' here)
+      (not_may (tri_at (read_at m.device (reads_masks m.device task.assumptions) k s (port m.device a)).bits b) (flag (read (reads_masks m.device task.assumptions) m (port m.device a) b1) b) (bit_may small (port m.device a) b))
   addressed_covered members are small (i.Sbis a b) spares is told clean unflagged =
-      skip_keys m o k s at (not scratch) b1 b2 task.flash (flag (read (reads_masks m.device task.assumptions) m (port a) b1) b) (tri_at (read_at m.device (reads_masks m.device task.assumptions) k s (port a)).bits b) k (reading_zero m.device (reads_masks m.device task.assumptions) k (port a) b) refl refl
-      (λ pc pc' here on. turns_to m o k s at (not scratch) pc pc' here) (λ pc pc' here off. turns_zero (port a) b pc pc' here off) (bit_may small (port a) b)
+      skip_keys m o k s at (not scratch) b1 b2 task.flash (flag (read (reads_masks m.device task.assumptions) m (port m.device a) b1) b) (tri_at (read_at m.device (reads_masks m.device task.assumptions) k s (port m.device a)).bits b) k (reading_zero m.device (reads_masks m.device task.assumptions) k (port m.device a) b) refl refl
+      (λ pc pc' here on. turns_to m o k s at (not scratch) pc pc' here) (λ pc pc' here off. turns_zero (port m.device a) b pc pc' here off) (bit_may small (port m.device a) b)
   addressed_covered members are small instr spares is told clean unflagged = absurd is

@@ -1,11 +1,13 @@
 -- What holds of all states behind a store, wherever the byte is stored.
-use Rattle.std.proofs.Common.{◌≡◌, refl, ℕ, ◌==◌, Bool, true, false, List, [], ◌∷◌, map, filter, Option, Some, None, nat_le, ⊎_elim}
+use Rattle.std.proofs.Common.{◌≡◌, refl, ℕ, Bool, true, false, List, [], ◌∷◌, map, filter, Option, Some, None, nat_le, ⊎_elim}
 use Rattle.std.proofs.lemmas.List.Elements.{Contains-append_cases}
 use Rattle.avr_model.specs.declared.device.Device.{Device}
 use Rattle.avr_model.specs.declared.assumption.Entry.{Entry}
 use Rattle.avr_model.specs.Assumptions.{is_fixed_site, store_line}
 use Rattle.avr_model.specs.Devices.{size_of}
-use Rattle.avr_model.specs.State.{SPL, SREG, register_at, is_sph}
+use Rattle.avr_model.specs.declared.device.Special.{Special}
+use Rattle.avr_model.specs.declared.device.Special.TheVariants.{Spl, Sph, Sreg}
+use Rattle.avr_model.specs.State.{register_at, special}
 use Rattle.bit_domain.specs.declared.bits.Tri.{Tri}
 use Rattle.bit_domain.specs.declared.bits.Tri.TheVariants.{Zero, One, Any}
 use Rattle.bit_domain.specs.TriByte.{tri_at}
@@ -21,7 +23,7 @@ use Rattle.local_rules.specs.HighBytes.{view_by}
 use Rattle.local_rules.specs.Raw.{Raw, one, all_of}
 use Rattle.local_rules.specs.Reads.{pointed}
 use Rattle.local_rules.specs.Site.{Task}
-use Rattle.local_rules.specs.Writes.{high_part, opening, closing_offset, closing, flags_written, sreg_written, register_written, put_flags, write_at, written_behind, written_at, reaches, fixed_write, may_wake, waking, pointer_write}
+use Rattle.local_rules.specs.Writes.{high_part, opening, closing_offset, closing, flags_written, sreg_written, register_written, put_flags, write_at, special_written, written_behind, written_at, reaches, fixed_write, may_wake, waking, pointer_write}
 use Rattle.local_laws.proofs.EachState.{AllOf, each_none, each_one, each_two, each_if, each_all, each_same}
 
 -- the state has a property after the byte is stored to it, wherever that is
@@ -45,13 +47,15 @@ module _ (P : AbsState → Type 0) (device : Device) (s : AbsState) (v : AbsByte
   sreg_each One k f is_out = each_one P _ (put_flags s f) (h.flags f)
   sreg_each Any k f is_out = each_two P _ _ (put_flags s f) (h.flags f)
 
+  special_each : (pc : ℕ) (k : NodeKey) (is_out : Bool) (a : ℕ) (x : Option Special) → AllOf P (special_written (write_at device pc k s v) is_out a x)
+  special_each pc k is_out a (Some Spl) = closing_each (closing_offset device k.inst.kind k.sp v) k pc
+  special_each pc k is_out a (Some Sph) = opening_each (high_part k.inst.kind v) k pc
+  special_each pc k is_out a (Some Sreg) = sreg_each (tri_at v.bits 7) k (flags_written v) is_out
+  special_each pc k is_out a None = each_same P (λ m. record k { masks = m }) s (splits device k.masks a v.bits) h.same
+
   behind_each : (pc : ℕ) (k : NodeKey) (is_out : Bool) (a : ℕ) (x : Option ℕ) → register_at device a ≡ x → AllOf P (written_behind (write_at device pc k s v) is_out a x)
   behind_each pc k is_out a (Some r) e = each_one P k (register_written device s r v) (h.register a r e)
-  behind_each pc k is_out a None e =
-      each_if P (a == SPL) _ _ (closing_each (closing_offset device k.inst.kind k.sp v) k pc)
-      (each_if P (is_sph device a) _ _ (opening_each (high_part k.inst.kind v) k pc)
-      (each_if P (a == SREG) _ _ (sreg_each (tri_at v.bits 7) k (flags_written v) is_out)
-      (each_same P (λ m. record k { masks = m }) s (splits device k.masks a v.bits) h.same)))
+  behind_each pc k is_out a None e = special_each pc k is_out a (special device a)
 
   pub written_each : (pc : ℕ) (k : NodeKey) (is_out : Bool) (a : ℕ) → AllOf P (written_at (write_at device pc k s v) is_out a)
   unfolding written_at

@@ -1,6 +1,6 @@
 -- Enable bits by keys that have what is enabled, and by keys that have what may be.
-use Rattle.std.proofs.Common.{◌≡◌, refl, sym, ◌∙◌, ap, subst, ℕ, zero, suc, ◌-◌, ◌^◌, ◌<◌, ◌≤◌, Bool, true, false, ◌&&◌, ◌||◌, nat_lt, nat_le, if◌then◌else◌, ◌==◌, List, [], ◌∷◌, Option, Some, None, arith, eqb-true, find, ⊎_elim}
-use Rattle.std.proofs.lemmas.Bool.{and_parts, or_parts, cases_lt}
+use Rattle.std.proofs.Common.{◌≡◌, refl, sym, ◌∙◌, ap, subst, ℕ, zero, suc, ◌-◌, ◌^◌, ◌<◌, ◌≤◌, Bool, true, false, ◌&&◌, ◌||◌, nat_le, if◌then◌else◌, ◌==◌, List, [], ◌∷◌, Option, Some, None, arith, eqb-true, find, ⊎_elim}
+use Rattle.std.proofs.lemmas.Bool.{and_parts, cases_lt}
 use Rattle.std.proofs.lemmas.Bool.Decides.{nat_tests}
 use Rattle.std.proofs.lemmas.List.Elements.{All-head, All-tail}
 use Rattle.std.proofs.lemmas.Nat.Bits.{bit_at-lt}
@@ -8,13 +8,13 @@ use Rattle.std.specs.Int.{bit_at}
 use Rattle.std.specs.List.{All, list_any}
 use Rattle.std.specs.Option.{option_map}
 use Rattle.basics.specs.Numbers.{at_most_from_test}
-use Rattle.avr_model.proofs.AllLaws.{devices_are_alike, places_are_apart}
+use Rattle.avr_model.proofs.AllLaws.{devices_are_alike, nothing_is_behind, places_are_apart}
 use Rattle.avr_model.specs.declared.device.Device.{Device}
 use Rattle.avr_model.specs.declared.rows.EnablePlace.{EnablePlace}
 use Rattle.avr_model.specs.Bits.{with_bit}
-use Rattle.avr_model.specs.Devices.{io_end, has_sph, has_elpm, has_eijmp}
+use Rattle.avr_model.specs.Devices.{guarded_end, io_end}
 use Rattle.avr_model.specs.Sreg.{flag}
-use Rattle.avr_model.specs.State.{State, SPL, SREG, RAMPZ, EIND, register_at, is_sph, read_behind, read}
+use Rattle.avr_model.specs.State.{State, register_at, special, read_behind, read}
 use Rattle.avr_model.specs.Step.{enables_taken}
 use Rattle.avr_model.specs.Vectors.{last_vector, enable_count, enable_places, covers, is_bit, is_vector, is_core, is_enabled, held_of, has_enables, written_enables, io_bit, io_byte, kept_byte}
 use Rattle.vector_table.proofs.AllLaws.{enables_are_vectors, numbers_are_their_bits}
@@ -27,7 +27,8 @@ use Rattle.node_keys.specs.Place.{EnablesAre}
 use Rattle.node_keys.specs.Wakes.{without}
 use Rattle.node_keys.proofs.AllLaws.{enables_stay_among}
 use Rattle.local_rules.specs.Reads.{loosened, enable_read}
-use Rattle.local_rules.specs.Writes.{masks_written, written_behind, written_at}
+use Rattle.local_rules.specs.Writes.{masks_written, special_written, written_behind, written_at}
+use Rattle.local_laws.proofs.Specials.{outside_core, byte_is}
 use Rattle.local_laws.proofs.Machine.{io_value, free_bit, free_small}
 use Rattle.local_rules.specs.Writes.{write_at}
 
@@ -84,79 +85,35 @@ vector_small device v h =
 
 -- the address is no register, not the stack pointer, not the status register, and not in SRAM
 abbrev pub IsIo : Device → ℕ → Type 0
-IsIo device a = (register_at device a ≡ None) × (((a == SPL) ≡ false) × ((is_sph device a ≡ false) × (((a == SREG) ≡ false) × (nat_le a (io_end device) ≡ true))))
+IsIo device a = (register_at device a ≡ None) × ((special device a ≡ None) × (nat_le a (io_end device) ≡ true))
 
--- a place is in I/O, at no core address, and its mask is a byte
+-- a place is guarded, at no core address, and its mask is a byte
 abbrev IsInIo : Device → EnablePlace → Type 0
-IsInIo device p = (is_vector device p.vector ≡ true) × ((is_core device p.address ≡ false) × ((p.address ≤ io_end device) × (p.mask < 256)))
+IsInIo device p = (is_vector device p.vector ≡ true) × ((is_core device p.address ≡ false) × ((p.address ≤ guarded_end device) × (p.mask < 256)))
 
--- no place of the list is at a core address, or behind I/O
-places_in : (device : Device) (ps : List EnablePlace) (a : ℕ) → All (IsInIo device) ps → list_any (λ (p : EnablePlace). p.address == a) ps ≡ true → (is_core device a ≡ false) × (a ≤ io_end device)
+-- no place of the list is at a core address, or behind the guarded ones
+places_in : (device : Device) (ps : List EnablePlace) (a : ℕ) → All (IsInIo device) ps → list_any (λ (p : EnablePlace). p.address == a) ps ≡ true → (is_core device a ≡ false) × (a ≤ guarded_end device)
 places_in device [] a all h = absurd (cc)
 places_in device (p ∷ ps) a all h = by (p.address == a) refl (places_in device ps a (All-tail (IsInIo device) p ps all)) h
   where
-    by : (b : Bool) → (p.address == a) ≡ b → (list_any (λ (q : EnablePlace). q.address == a) ps ≡ true → (is_core device a ≡ false) × (a ≤ io_end device))
-        → (b || list_any (λ (q : EnablePlace). q.address == a) ps) ≡ true → (is_core device a ≡ false) × (a ≤ io_end device)
+    by : (b : Bool) → (p.address == a) ≡ b → (list_any (λ (q : EnablePlace). q.address == a) ps ≡ true → (is_core device a ≡ false) × (a ≤ guarded_end device))
+        → (b || list_any (λ (q : EnablePlace). q.address == a) ps) ≡ true → (is_core device a ≡ false) × (a ≤ guarded_end device)
     by true e rest found =
         let is : p.address ≡ a = eqb-true p.address a e in
         let here = All-head (IsInIo device) p ps all in
-        subst (λ (x : ℕ). (is_core device x ≡ false) × (x ≤ io_end device)) is (here.1.0, here.1.1.0)
+        subst (λ (x : ℕ). (is_core device x ≡ false) × (x ≤ guarded_end device)) is (here.1.0, here.1.1.0)
     by false e rest found = rest found
-
-swapped_and : (a b : Bool) → (a && b) ≡ false → (b && a) ≡ false
-swapped_and true b h = ap (λ x. x && true) h
-swapped_and false true h = refl
-swapped_and false false h = refl
-
-third_none : {A : Type 0} (p q r : Bool) (x y z : A) → p ≡ false → q ≡ false → r ≡ false → (if p then Some x else (if q then Some y else (if r then Some z else None))) ≡ None
-third_none false false false x y z a b c = refl
-third_none true q r x y z a b c = absurd (cc)
-third_none false true r x y z a b c = absurd (cc)
-third_none false false true x y z a b c = absurd (cc)
-
-pub outside_core : (device : Device) (a : ℕ) → is_core device a ≡ false → (register_at device a ≡ None) × (((a == SPL) ≡ false) × ((is_sph device a ≡ false) × ((a == SREG) ≡ false)))
-outside_core device a h =
-    let one = or_parts (nat_lt a 0x20) _ h in
-    let two = or_parts (a == 0x5D) _ one.1 in
-    let three = or_parts (a == 0x5F) _ two.1 in
-    let four = or_parts (has_sph device && (a == 0x5E)) _ three.1 in
-    let five = or_parts (has_elpm device && (a == 0x5B)) (has_eijmp device && (a == 0x5C)) four.1 in (
-      third_none (nat_lt a 0x20) ((a == 0x5B) && has_elpm device) ((a == 0x5C) && has_eijmp device) a RAMPZ EIND one.0
-          (swapped_and (has_elpm device) (a == 0x5B) five.0) (swapped_and (has_eijmp device) (a == 0x5C) five.1),
-      (two.0, (swapped_and (has_sph device) (a == 0x5E) four.0, three.0)),
-    )
-
--- behind I/O there is no register
-pub none_behind : (device : Device) (a : ℕ) → io_end device < a → register_at device a ≡ None
-none_behind device a lt =
-    third_none (nat_lt a 0x20) ((a == 0x5B) && has_elpm device) ((a == 0x5C) && has_eijmp device) a RAMPZ EIND
-    (grind (arith, nat_tests, devices_are_alike.least_io device)) (apart 0x5B (has_elpm device) (omega (arith, lt, devices_are_alike.least_io device)))
-    (apart 0x5C (has_eijmp device) (omega (arith, lt, devices_are_alike.least_io device)))
-  where
-    apart : (n : ℕ) (has : Bool) → n < a → ((a == n) && has) ≡ false
-    apart n has less = let e : (a == n) ≡ false = grind (arith, nat_tests) in ap (λ b. b && has) e
 
 pub held_in_io : (device : Device) (a : ℕ) → has_enables device a ≡ true → IsIo device a
 unfolding has_enables
 held_in_io device a h =
     let here = places_in device (enable_places device) a (places_are_apart.each device) h in
     let outside = outside_core device a here.0 in
-    let inside : nat_le a (io_end device) ≡ true = grind (arith, nat_tests, here.1) in
-    (outside.0, (outside.1.0, (outside.1.1.0, (outside.1.1.1, inside))))
+    let inside : nat_le a (io_end device) ≡ true = grind (arith, nat_tests, here.1, devices_are_alike.guarded_in device) in
+    (outside.0, (outside.1, inside))
 
 pub none_above : (device : Device) (a : ℕ) → io_end device < a → has_enables device a ≡ false
-none_above device a lt = by (has_enables device a) refl
-  where
-    by : (b : Bool) → has_enables device a ≡ b → b ≡ false
-    by false e = refl
-    by true e = absurd (let le : a ≤ io_end device = at_most_from_test a (io_end device) (held_in_io device a e).1.1.1.1 in omega (arith, le, lt))
-
--- the fourth case, if the first three tests fail
-pub fourth : {A : Type 0} (p q r : Bool) (x1 x2 x3 x4 : A) → p ≡ false → q ≡ false → r ≡ false → (if p then x1 else (if q then x2 else (if r then x3 else x4))) ≡ x4
-fourth false false false x1 x2 x3 x4 a b c = refl
-fourth true q r x1 x2 x3 x4 a b c = absurd (cc)
-fourth false true r x1 x2 x3 x4 a b c = absurd (cc)
-fourth false false true x1 x2 x3 x4 a b c = absurd (cc)
+none_above device a lt = nothing_is_behind.enables device a (omega (arith, lt, devices_are_alike.guarded_in device))
 
 first_by : {A : Type 0} (b : Bool) (x y : A) → b ≡ true → (if b then x else y) ≡ x
 first_by true x y e = refl
@@ -166,14 +123,14 @@ first_by false x y e = absurd (cc)
 pub io_read : (still : Bool) (m : State) (a input : ℕ) → IsIo m.device a → read still m a input ≡ io_byte m.device still m.enables a input
 unfolding read
 io_read still m a input h =
-    ap (read_behind still m a input) h.0 ∙ fourth (a == SPL) (is_sph m.device a) (a == SREG) _ _ _ _ h.1.0 h.1.1.0 h.1.1.1.0 ∙ first_by (nat_le a (io_end m.device)) _ _ h.1.1.1.1
+    ap (read_behind still m a input) h.0 ∙ byte_is still m a input None h.1.0 ∙ first_by (nat_le a (io_end m.device)) _ _ h.1.1
 
 -- a write of such an address goes to the enable bits
 pub io_written : (device : Device) (pc : ℕ) (k : NodeKey) (s : AbsState) (is_out : Bool) (a : ℕ) (v : AbsByte) → IsIo device a
     → written_at (write_at device pc k s v) is_out a ≡ masks_written device k s a v
 unfolding written_at
 io_written device pc k s is_out a v h =
-    ap (written_behind (write_at device pc k s v) is_out a) h.0 ∙ fourth (a == SPL) (is_sph device a) (a == SREG) _ _ _ _ h.1.0 h.1.1.0 h.1.1.1.0
+    ap (written_behind (write_at device pc k s v) is_out a) h.0 ∙ ap (special_written (write_at device pc k s v) is_out a) h.1.0
 
 held_bit : (device : Device) (still : Bool) (enables a b v input : ℕ) → b < 8 → held_of device a b ≡ Some v → bit_at (io_byte device still enables a input) b ≡ bit_at enables (v - 2)
 unfolding io_byte

@@ -180,9 +180,9 @@ module _ (device : Device) (task : Task) (k : NodeKey) (s : AbsState) where
   row_fits scratch (i.Pop d) fits = quiet_fits task.assumptions k _ (closed_quiet k.sp k.pc (popping (site_at device k s) d) (popping_quiet device k s d))
   row_fits scratch (i.Push r) fits = quiet_fits task.assumptions k _ (closed_quiet k.sp k.pc (pushing (scratch || has_scratch task.assumptions k.pc) (site_at device k s) r) (pushing_quiet device (scratch || has_scratch task.assumptions k.pc) k s r))
   row_fits scratch (i.In d a) fits = quiet_fits task.assumptions k _ (refl, refl)
-  row_fits scratch (i.Out a r) fits = quiet_fits task.assumptions k _ (written_quiet device k.pc (next device k) s true (port a) (value s r))
-  row_fits scratch (i.Cbi a b) fits = quiet_fits task.assumptions k _ (written_quiet device k.pc (next device k) s false (port a) _)
-  row_fits scratch (i.Sbi a b) fits = quiet_fits task.assumptions k _ (written_quiet device k.pc (next device k) s false (port a) _)
+  row_fits scratch (i.Out a r) fits = quiet_fits task.assumptions k _ (written_quiet device k.pc (next device k) s true (port device a) (value s r))
+  row_fits scratch (i.Cbi a b) fits = quiet_fits task.assumptions k _ (written_quiet device k.pc (next device k) s false (port device a) _)
+  row_fits scratch (i.Sbi a b) fits = quiet_fits task.assumptions k _ (written_quiet device k.pc (next device k) s false (port device a) _)
   row_fits scratch i.Ijmp fits = quiet_fits task.assumptions k _ (jumping_quiet (targets_at task.assumptions (site_at device k s)) k s)
   row_fits scratch i.Icall fits = indirect_fits device task.assumptions k (targets_at task.assumptions (site_at device k s)) all_words
   row_fits scratch i.Eijmp fits = quiet_fits task.assumptions k _ (jumping_quiet (far_targets_at task.assumptions (site_at device k s)) k s)
@@ -197,8 +197,8 @@ module _ (device : Device) (task : Task) (k : NodeKey) (s : AbsState) where
       quiet_fits task.assumptions k _ (flag_branch_quiet n k s (wrapped device (near k.pc target)) (further device k 1) _ (branch_quiet k s (flag_at k s n) (wrapped device (near k.pc target)) (further device k 1)))
   row_fits scratch (i.Brbc n target) fits =
       quiet_fits task.assumptions k _ (flag_branch_quiet n k s (further device k 1) (wrapped device (near k.pc target)) _ (branch_quiet k s (tri_not (flag_at k s n)) (wrapped device (near k.pc target)) (further device k 1)))
-  row_fits scratch (i.Sbic a b) fits = quiet_fits task.assumptions k _ (skipping_quiet device task.flash (reading_zero device (reads_masks device task.assumptions) k (port a) b) k s (tri_not (tri_at (read_at device (reads_masks device task.assumptions) k s (port a)).bits b)))
-  row_fits scratch (i.Sbis a b) fits = quiet_fits task.assumptions k _ (skipping_quiet device task.flash k (reading_zero device (reads_masks device task.assumptions) k (port a) b) s (tri_at (read_at device (reads_masks device task.assumptions) k s (port a)).bits b))
+  row_fits scratch (i.Sbic a b) fits = quiet_fits task.assumptions k _ (skipping_quiet device task.flash (reading_zero device (reads_masks device task.assumptions) k (port device a) b) k s (tri_not (tri_at (read_at device (reads_masks device task.assumptions) k s (port device a)).bits b)))
+  row_fits scratch (i.Sbis a b) fits = quiet_fits task.assumptions k _ (skipping_quiet device task.flash k (reading_zero device (reads_masks device task.assumptions) k (port device a) b) s (tri_at (read_at device (reads_masks device task.assumptions) k s (port device a)).bits b))
   row_fits scratch (i.Sbrc r b) fits = quiet_fits task.assumptions k _ (skipping_quiet device task.flash k k s (tri_not (tri_at (bits s r) b)))
   row_fits scratch (i.Sbrs r b) fits = quiet_fits task.assumptions k _ (skipping_quiet device task.flash k k s (tri_at (bits s r) b))
   row_fits scratch i.Nop fits = quiet_fits task.assumptions k _ (refl, refl)

@@ -108,11 +108,11 @@ module _ {may : Bool} (m : State) (o : Origin) (k : NodeKey) (s : AbsState) (at 
   -- A successor with the same stack pointer and slots, of an effect that pushes nothing.
   pub frame_kept : (told : Option PairFacts) (guarded : Bool) (e : Effect) (to : Node) → e.pushes ≡ [] → to.key.sp ≡ k.sp → to.state.slots ≡ s.slots
       → sp_after m.device e.sp e.stores ≡ m.sp → open_after m.device e.is_open e.stores ≡ m.is_open
-      → e.pc ≡ to.key.pc → EnablesAre may (enables_after m.device e.enables e.stores) to.key.masks → flag (sreg_after e.sreg e.stores) 7 ≡ to.key.i → e.delay ≡ to.key.delay
+      → e.pc ≡ to.key.pc → EnablesAre may (enables_after m.device e.enables e.stores) to.key.masks → flag (sreg_after m.device e.sreg e.stores) 7 ≡ to.key.i → e.delay ≡ to.key.delay
       → RegistersStand o to.state.registers (registers_after m.device (with_registers m.registers e.registers) e.stores)
-      → FlagsStand o to.state.flags (sreg_after e.sreg e.stores)
-      → LessHolds (registers_after m.device (with_registers m.registers e.registers) e.stores) to.state.flags.carry (flag (sreg_after e.sreg e.stores) 0)
-      → (HeldAt m told e → HoldsAt to.state.facts (registers_after m.device (with_registers m.registers e.registers) e.stores) (sreg_after e.sreg e.stores))
+      → FlagsStand o to.state.flags (sreg_after m.device e.sreg e.stores)
+      → LessHolds (registers_after m.device (with_registers m.registers e.registers) e.stores) to.state.flags.carry (flag (sreg_after m.device e.sreg e.stores) 0)
+      → (HeldAt m told e → HoldsAt to.state.facts (registers_after m.device (with_registers m.registers e.registers) e.stores) (sreg_after m.device e.sreg e.stores))
       → ArrivesWhere may m o told guarded e to
   frame_kept told guarded e to pushes sp slots sp_is open_is pc enables i delay registers flags less facts =
       record {
@@ -137,11 +137,11 @@ module _ {may : Bool} (m : State) (o : Origin) (k : NodeKey) (s : AbsState) (at 
 
   pub same_frame : (guarded : Bool) (e : Effect) (to : Node) → e.pushes ≡ [] → to.key.sp ≡ k.sp → to.state.slots ≡ s.slots
       → sp_after m.device e.sp e.stores ≡ m.sp → open_after m.device e.is_open e.stores ≡ m.is_open
-      → e.pc ≡ to.key.pc → EnablesAre may (enables_after m.device e.enables e.stores) to.key.masks → flag (sreg_after e.sreg e.stores) 7 ≡ to.key.i → e.delay ≡ to.key.delay
+      → e.pc ≡ to.key.pc → EnablesAre may (enables_after m.device e.enables e.stores) to.key.masks → flag (sreg_after m.device e.sreg e.stores) 7 ≡ to.key.i → e.delay ≡ to.key.delay
       → RegistersStand o to.state.registers (registers_after m.device (with_registers m.registers e.registers) e.stores)
-      → FlagsStand o to.state.flags (sreg_after e.sreg e.stores)
-      → LessHolds (registers_after m.device (with_registers m.registers e.registers) e.stores) to.state.flags.carry (flag (sreg_after e.sreg e.stores) 0)
-      → (HeldAt m s.facts e → HoldsAt to.state.facts (registers_after m.device (with_registers m.registers e.registers) e.stores) (sreg_after e.sreg e.stores))
+      → FlagsStand o to.state.flags (sreg_after m.device e.sreg e.stores)
+      → LessHolds (registers_after m.device (with_registers m.registers e.registers) e.stores) to.state.flags.carry (flag (sreg_after m.device e.sreg e.stores) 0)
+      → (HeldAt m s.facts e → HoldsAt to.state.facts (registers_after m.device (with_registers m.registers e.registers) e.stores) (sreg_after m.device e.sreg e.stores))
       → ArrivesWhere may m o s.facts guarded e to
   same_frame = frame_kept s.facts
 

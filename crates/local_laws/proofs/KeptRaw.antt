@@ -115,9 +115,9 @@ module _ (device : Device) (task : Task) (scratch : Bool) (k : NodeKey) (s : Abs
       kept_pointer false device task (before (i.St p r) s) (pointer_register p) (step_before p) k.pc (next device k) (record (before (i.St p r) s) { registers = pointer_moved (view_by device k) p (before (i.St p r) s) }) (value s r)
       (sixteen (i.St p r)) (none_kept (record (before (i.St p r) s) { registers = pointer_moved (view_by device k) p (before (i.St p r) s) }) (none_before (i.St p r)))
   unsettled_kept (i.Sts a r) = kept_written false device k.pc (at_word k (further device k 2)) (before (i.Sts a r) s) false a (value s r) (sixteen (i.Sts a r)) (kept_before (i.Sts a r))
-  unsettled_kept (i.Out a r) = kept_written false device k.pc (next device k) (before (i.Out a r) s) true (port a) (value s r) (sixteen (i.Out a r)) (kept_before (i.Out a r))
-  unsettled_kept (i.Cbi a b) = kept_written false device k.pc (next device k) (before (i.Cbi a b) s) false (port a) _ (sixteen (i.Cbi a b)) (kept_before (i.Cbi a b))
-  unsettled_kept (i.Sbi a b) = kept_written false device k.pc (next device k) (before (i.Sbi a b) s) false (port a) _ (sixteen (i.Sbi a b)) (kept_before (i.Sbi a b))
+  unsettled_kept (i.Out a r) = kept_written false device k.pc (next device k) (before (i.Out a r) s) true (port device a) (value s r) (sixteen (i.Out a r)) (kept_before (i.Out a r))
+  unsettled_kept (i.Cbi a b) = kept_written false device k.pc (next device k) (before (i.Cbi a b) s) false (port device a) _ (sixteen (i.Cbi a b)) (kept_before (i.Cbi a b))
+  unsettled_kept (i.Sbi a b) = kept_written false device k.pc (next device k) (before (i.Sbi a b) s) false (port device a) _ (sixteen (i.Sbi a b)) (kept_before (i.Sbi a b))
   unsettled_kept (i.Brbs n t) = flag_branch_none n k (before (i.Brbs n t) s) (wrapped device (near k.pc t)) (further device k 1) (flag_at k s n) (wrapped device (near k.pc t)) (further device k 1) (none_before (i.Brbs n t))
   unsettled_kept (i.Brbc n t) = flag_branch_none n k (before (i.Brbc n t) s) (further device k 1) (wrapped device (near k.pc t)) (tri_not (flag_at k s n)) (wrapped device (near k.pc t)) (further device k 1) (none_before (i.Brbc n t))
   unsettled_kept (i.Sbrc r b) = kept_branch false (tri_not (tri_at (value s r).bits b)) k (before (i.Sbrc r b) s) _ _ (kept_before (i.Sbrc r b))
@@ -288,14 +288,14 @@ module _ (device : Device) (task : Task) (scratch : Bool) (k : NodeKey) (s : Abs
       stored_kept (i.Sts a r) tt (kept_written true device k.pc (at_word k (further device k 2)) (before (i.Sts a r) s) false a (value s r) (count (i.Sts a r)) (still false false))
       (λ none. written_each AreLow device (before (i.Sts a r) s) (value s r) (behind_low false false (value s r) none (s_low none r)) k.pc (at_word k (further device k 2)) false a)
   paired_kept (i.Out a r) fits has clean =
-      stored_kept (i.Out a r) tt (kept_written true device k.pc (next device k) (before (i.Out a r) s) true (port a) (value s r) (count (i.Out a r)) (still false false))
-      (λ none. written_each AreLow device (before (i.Out a r) s) (value s r) (behind_low false false (value s r) none (s_low none r)) k.pc (next device k) true (port a))
+      stored_kept (i.Out a r) tt (kept_written true device k.pc (next device k) (before (i.Out a r) s) true (port device a) (value s r) (count (i.Out a r)) (still false false))
+      (λ none. written_each AreLow device (before (i.Out a r) s) (value s r) (behind_low false false (value s r) none (s_low none r)) k.pc (next device k) true (port device a))
   paired_kept (i.Cbi a b) fits has clean =
-      stored_kept (i.Cbi a b) tt (kept_written true device k.pc (next device k) (before (i.Cbi a b) s) false (port a) _ (count (i.Cbi a b)) (still false false))
-      (λ none. written_each AreLow device (before (i.Cbi a b) s) _ (behind_low false false _ none tt) k.pc (next device k) false (port a))
+      stored_kept (i.Cbi a b) tt (kept_written true device k.pc (next device k) (before (i.Cbi a b) s) false (port device a) _ (count (i.Cbi a b)) (still false false))
+      (λ none. written_each AreLow device (before (i.Cbi a b) s) _ (behind_low false false _ none tt) k.pc (next device k) false (port device a))
   paired_kept (i.Sbi a b) fits has clean =
-      stored_kept (i.Sbi a b) tt (kept_written true device k.pc (next device k) (before (i.Sbi a b) s) false (port a) _ (count (i.Sbi a b)) (still false false))
-      (λ none. written_each AreLow device (before (i.Sbi a b) s) _ (behind_low false false _ none tt) k.pc (next device k) false (port a))
+      stored_kept (i.Sbi a b) tt (kept_written true device k.pc (next device k) (before (i.Sbi a b) s) false (port device a) _ (count (i.Sbi a b)) (still false false))
+      (λ none. written_each AreLow device (before (i.Sbi a b) s) _ (behind_low false false _ none tt) k.pc (next device k) false (port device a))
   paired_kept instr fits has clean = refining_kept instr fits has tt clean
 
 -- ---- the node

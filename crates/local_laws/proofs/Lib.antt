@@ -17,6 +17,7 @@ pub mod CoverRows
 pub mod Machine
 pub mod EffectSizes
 pub mod Stays
+pub mod Specials
 pub mod Enables
 pub mod ReadValues
 pub mod PointerReads

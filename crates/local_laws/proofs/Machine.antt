@@ -4,11 +4,11 @@ use Rattle.std.specs.Int.{bit_at}
 use Rattle.std.specs.List.{All}
 use Rattle.std.proofs.lemmas.Nat.Bits.{bit_at-lt}
 use Rattle.std.proofs.lemmas.List.Elements.{All-set}
-use Rattle.avr_model.specs.Devices.{words_of, io_end, size_of, has_sph, sp_count}
+use Rattle.avr_model.specs.Devices.{spl_address, sph_address, sreg_address, words_of, io_end, size_of, has_sph, sp_count}
 use Rattle.avr_model.specs.declared.device.Device.{Device}
 use Rattle.avr_model.specs.declared.effect.Write.{Write}
 use Rattle.avr_model.specs.declared.effect.Effect.{Effect}
-use Rattle.avr_model.specs.State.{State, REGISTERS, SPL, SPH, SREG, register_at, read_behind, is_sph, sram_at, is_sram, byte_in, read, low, high, plus_sp, minus_sp}
+use Rattle.avr_model.specs.State.{State, REGISTERS, register_at, read_behind, is_sph, sram_at, is_sram, byte_in, read, low, high, plus_sp, minus_sp}
 use Rattle.avr_model.specs.Effects.{back_bytes, pushed_from}
 use Rattle.avr_model.specs.Step.{with_registers, register_stored, registers_after, sreg_after, sp_after, open_after, enables_after, after}
 use Rattle.avr_model.specs.Vectors.{enable_count, is_ivsel, io_bit, io_byte}
@@ -54,9 +54,9 @@ chosen : (b : Bool) (bound x y : ℕ) → x < bound → y < bound → (if b then
 chosen true bound x y h g = h
 chosen false bound x y h g = g
 
-sreg_stays : (ws : List Write) (sreg : ℕ) → AreByteWrites ws → sreg < 256 → sreg_after sreg ws < 256
-sreg_stays [] sreg small h = h
-sreg_stays (w ∷ ws) sreg small h = sreg_stays ws _ small.1 (chosen (w.address == SREG) 256 w.byte sreg small.0 h)
+sreg_stays : (device : Device) (ws : List Write) (sreg : ℕ) → AreByteWrites ws → sreg < 256 → sreg_after device sreg ws < 256
+sreg_stays device [] sreg small h = h
+sreg_stays device (w ∷ ws) sreg small h = sreg_stays device ws _ small.1 (chosen (w.address == sreg_address device) 256 w.byte sreg small.0 h)
 
 -- how many numbers a stack pointer holds, with a high byte or without
 abbrev counted : Bool → ℕ
@@ -91,8 +91,8 @@ sp_stays : (device : Device) (ws : List Write) (sp : ℕ) → AreByteWrites ws �
 sp_stays device [] sp small h = h
 sp_stays device (w ∷ ws) sp small h =
     sp_stays device ws _ small.1
-    (chosen (w.address == SPL) (sp_count device) (256 * high sp + w.byte) _ (low_stays (has_sph device) sp w.byte h small.0)
-    (high_stays (has_sph device) (w.address == SPH) sp w.byte h small.0))
+    (chosen (w.address == spl_address device) (sp_count device) (256 * high sp + w.byte) _ (low_stays (has_sph device) sp w.byte h small.0)
+    (high_stays (has_sph device) (w.address == sph_address device) sp w.byte h small.0))
 
 enables_stay : (device : Device) (ws : List Write) (enables : ℕ) → enables < 2 ^ enable_count device → enables_after device enables ws < 2 ^ enable_count device
 enables_stay device [] enables h = h
@@ -109,7 +109,7 @@ after_stays m guarded e h fits banked =
       count_registers = registers.count;
       register_bytes = registers.each;
       banks = banks_after m.device e.stores (with_registers m.registers e.registers) (banks_set m.device e.registers m.registers banked h.banks);
-      sreg_byte = sreg_stays e.stores e.sreg fits.stores fits.sreg;
+      sreg_byte = sreg_stays m.device e.stores e.sreg fits.stores fits.sreg;
       sp_fits = sp_stays m.device e.stores e.sp fits.stores fits.sp;
       enable_bits = enables_stay m.device e.stores e.enables fits.enables;
       below = memory.is;
@@ -158,8 +158,8 @@ read_small m still a input h small = by (register_at m.device a)
     by : (r : Option ℕ) → read_behind still m a input r < 256
     by (Some r) = byte_in_list m.registers r h.register_bytes
     by None =
-        chosen (a == SPL) 256 (low m.sp) _ (omega arith)
+        chosen (a == spl_address m.device) 256 (low m.sp) _ (omega arith)
         (chosen (is_sph m.device a) 256 (high m.sp) _ (high_small (has_sph m.device) m.sp h.sp_fits)
-        (chosen (a == SREG) 256 m.sreg _ h.sreg_byte
+        (chosen (a == sreg_address m.device) 256 m.sreg _ h.sreg_byte
         (chosen (nat_le a (io_end m.device)) 256 (io_byte m.device still m.enables a input) _ (io_small m.device still m.enables a input)
         (chosen (is_sram m.device a) 256 (sram_at m a) input (byte_small m.memory.below m.memory.bytes a h.sram_bytes) small))))

@@ -1,12 +1,14 @@
 -- The value of a byte that is read is monotone.
-use Rattle.std.proofs.Common.{◌≡◌, refl, sym, ap, ◌∙◌, subst, subst₂, ℕ, ◌+◌, ◌-◌, ◌==◌, nat_lt, nat_le, Bool, true, false, List, [], Option, Some, None, length, if◌then◌else◌, slice_set, arith, ◌*◌}
+use Rattle.std.proofs.Common.{◌≡◌, refl, sym, ap, ◌∙◌, subst, subst₂, ℕ, ◌+◌, ◌-◌, nat_lt, nat_le, Bool, true, false, List, [], Option, Some, None, length, if◌then◌else◌, slice_set, arith, ◌*◌}
 use Rattle.std.specs.Int.{from_bool}
 use Rattle.local_rules.specs.Cover.{IsKey}
 use Rattle.abs_alu.proofs.AllLaws.{same_within}
 use Rattle.avr_model.specs.Devices.{Image, words_of, io_end, ramend, device_of}
 use Rattle.avr_model.specs.declared.device.Device.{Device}
 use Rattle.avr_model.specs.Image.{byte_at}
-use Rattle.avr_model.specs.State.{SPL, SREG, register_at, is_sph, low, high}
+use Rattle.avr_model.specs.declared.device.Special.{Special}
+use Rattle.avr_model.specs.declared.device.Special.TheVariants.{Spl, Sph, Sreg}
+use Rattle.avr_model.specs.State.{register_at, special, low, high}
 use Rattle.bit_domain.specs.Tri.{tri_bit}
 use Rattle.bit_domain.specs.TriByte.{byte_any, byte_known, byte_constant}
 use Rattle.bit_domain.specs.Ranges.{ByteSet, IsSetWithin, set_meet}
@@ -33,7 +35,7 @@ use Rattle.node_keys.specs.Keys.{offset_of}
 use Rattle.local_rules.specs.declared.pointers.Pointed.{Pointed}
 use Rattle.local_rules.specs.HighBytes.{view_by}
 use Rattle.local_rules.specs.Registers.{value, bits, with_bits, high_tag_of}
-use Rattle.local_rules.specs.Reads.{closed_low, closed_high, sp_low, sp_high, flags_tag, sreg_value, io_bits, value_of, slot_read, read_behind, read_at, word_of, pair_constant, raised, lowered, pointed, read_number, read_constant, read_both, read_frame, read_pointed, flash_value}
+use Rattle.local_rules.specs.Reads.{closed_low, closed_high, sp_low, sp_high, flags_tag, sreg_value, io_bits, value_of, slot_read, read_special, read_behind, read_at, word_of, pair_constant, raised, lowered, pointed, read_number, read_constant, read_both, read_frame, read_pointed, flash_value}
 use Rattle.local_rules.specs.Local.{loading}
 use Rattle.local_laws.proofs.MonotoneValues.{IsTagOf, IsLess, AreFlagsLess, AreRegistersLess, IsSlotLess, IsStateLess, IsSameWhere, tells_by, none_of, below_any, constant_tells, value_same, bits_less, untagged_less, unknown_same, range_less, known_same, below_unknown, if_less, registers_set}
 use Rattle.local_laws.proofs.MonotoneHigh.{seen_less}
@@ -223,14 +225,17 @@ module _ (device : Device) (k : NodeKey) (at : IsKey device k) (s t : AbsState) 
       (setting_less device k at s t le (slice_set vs d v) (slice_set ws d above.0) s.flags t.flags (registers_set kind vs ws registers d v above.0 above.1.1) le.flags)
 
 module _ (device : Device) (may : Bool) (k : NodeKey) (at : IsKey device k) (s t : AbsState) (le : IsStateLess k.inst.kind (offset_of k.sp) s t) where
+  special_less : (a : ℕ) (x : Option Special) → IsLess k.inst.kind (read_special device may k s a x) (read_special device may k t a x)
+  special_less a (Some Spl) = sp_low_less device k.inst.kind k.sp
+  special_less a (Some Sph) = sp_high_less device k.inst.kind k.sp
+  special_less a (Some Sreg) = sreg_less k s t le.flags
+  special_less a None =
+      if_less k.inst.kind (nat_le a (io_end device)) _ _ _ _ (untagged_less k.inst.kind (io_bits device may k.masks a) (io_bits device may k.masks a) (same_within (io_bits device may k.masks a)))
+      (slot_less device k.inst.kind s t a (slot device k at s t le))
+
   behind_less : (a : ℕ) (x : Option ℕ) → IsLess k.inst.kind (read_behind device may k s a x) (read_behind device may k t a x)
   behind_less a (Some r) = reg device k at s t le r
-  behind_less a None =
-      if_less k.inst.kind (a == SPL) _ _ _ _ (sp_low_less device k.inst.kind k.sp)
-      (if_less k.inst.kind (is_sph device a) _ _ _ _ (sp_high_less device k.inst.kind k.sp)
-      (if_less k.inst.kind (a == SREG) _ _ _ _ (sreg_less k s t le.flags)
-      (if_less k.inst.kind (nat_le a (io_end device)) _ _ _ _ (untagged_less k.inst.kind (io_bits device may k.masks a) (io_bits device may k.masks a) (same_within (io_bits device may k.masks a)))
-      (slot_less device k.inst.kind s t a (slot device k at s t le)))))
+  behind_less a None = special_less a (special device a)
 
   pub read_less : (a : ℕ) → IsLess k.inst.kind (read_at device may k s a) (read_at device may k t a)
   unfolding read_at

@@ -224,10 +224,10 @@ module _ (device : Device) (task : Task) (k : NodeKey) (at : IsKey device k) (s 
   row_less scratch i.Elpm fits = setting_register device k at s t le 0 _ _ far_byte_less
   row_less scratch (i.Pop d) fits = pop_less device k at s t le d
   row_less scratch (i.Push r) fits = push_less device k at s t le (scratch || has_scratch task.assumptions k.pc) r
-  row_less scratch (i.In d a) fits = setting_register device k at s t le d _ _ (read_less device may k at s t le (port a))
-  row_less scratch (i.Out a r) fits = write_less device (next device k) (next_key device k at) s t le k.pc true (port a) (value s r) (value t r) (reg device k at s t le r)
-  row_less scratch (i.Cbi a b) fits = bit_less (port a) b false
-  row_less scratch (i.Sbi a b) fits = bit_less (port a) b true
+  row_less scratch (i.In d a) fits = setting_register device k at s t le d _ _ (read_less device may k at s t le (port device a))
+  row_less scratch (i.Out a r) fits = write_less device (next device k) (next_key device k at) s t le k.pc true (port device a) (value s r) (value t r) (reg device k at s t le r)
+  row_less scratch (i.Cbi a b) fits = bit_less (port device a) b false
+  row_less scratch (i.Sbi a b) fits = bit_less (port device a) b true
   row_less scratch i.Ijmp fits = jump_less device k at s t le task.assumptions
   row_less scratch i.Icall fits = indirect_less device k at s t le task.assumptions
   row_less scratch i.Eijmp fits = far_jump_less device k at s t le task.assumptions
@@ -246,9 +246,9 @@ module _ (device : Device) (task : Task) (k : NodeKey) (at : IsKey device k) (s 
       (branch_less device k at s t le (tri_not (flag_at k s n)) (tri_not (flag_at k t n)) (wrapped device (near k.pc target)) (further device k 1)
       (bits_cover.nots_within (flag_at k s n) (flag_at k t n) (flag_within device k at s t le n)) (wrapped_small device (near k.pc target)) (further_small device k 1))
   row_less scratch (i.Sbic a b) fits =
-      skipping_less device k at s t le task.flash (reading_zero device may k (port a) b) k _ _ (zero_place device k at s t le may (port a) b) (here device k at s t le) (bits_cover.nots_within _ _ (port_bit (port a) b))
+      skipping_less device k at s t le task.flash (reading_zero device may k (port device a) b) k _ _ (zero_place device k at s t le may (port device a) b) (here device k at s t le) (bits_cover.nots_within _ _ (port_bit (port device a) b))
   row_less scratch (i.Sbis a b) fits =
-      skipping_less device k at s t le task.flash k (reading_zero device may k (port a) b) _ _ (here device k at s t le) (zero_place device k at s t le may (port a) b) (port_bit (port a) b)
+      skipping_less device k at s t le task.flash k (reading_zero device may k (port device a) b) _ _ (here device k at s t le) (zero_place device k at s t le may (port device a) b) (port_bit (port device a) b)
   row_less scratch (i.Sbrc r b) fits = skipping_less device k at s t le task.flash k k _ _ (here device k at s t le) (here device k at s t le) (bits_cover.nots_within _ _ (register_bit r b))
   row_less scratch (i.Sbrs r b) fits = skipping_less device k at s t le task.flash k k _ _ (here device k at s t le) (here device k at s t le) (register_bit r b)
   row_less scratch i.Nop fits = on_less device k at s t le

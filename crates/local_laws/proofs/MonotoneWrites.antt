@@ -1,6 +1,6 @@
 -- The effect of a written byte is monotone.
-use Rattle.std.proofs.Common.{◌≡◌, refl, sym, ap, subst, subst₂, ℕ, ◌+◌, ◌<◌, ◌≤◌, ◌==◌, nat_le, ⊎_elim, Bool, true, false, not, List, map, filter, Option, Some, None, if◌then◌else◌, arith, [], ◌∷◌}
-use Rattle.std.proofs.lemmas.Bool.{and_parts, cases_lt}
+use Rattle.std.proofs.Common.{◌≡◌, refl, sym, ap, subst, subst₂, ℕ, ◌+◌, ◌<◌, ◌≤◌, nat_le, ⊎_elim, Bool, true, false, not, List, map, filter, Option, Some, None, if◌then◌else◌, arith, [], ◌∷◌}
+use Rattle.std.proofs.lemmas.Bool.{cases_lt}
 use Rattle.std.proofs.lemmas.Bool.Decides.{nat_tests}
 use Rattle.std.proofs.lemmas.List.{get_or_past}
 use Rattle.std.proofs.lemmas.List.Elements.{Contains-append_cases}
@@ -12,7 +12,9 @@ use Rattle.avr_model.specs.declared.device.Device.{Device}
 use Rattle.avr_model.specs.declared.assumption.Entry.{Entry}
 use Rattle.avr_model.specs.Assumptions.{store_line, is_fixed_site}
 use Rattle.avr_model.specs.Masks.{admits_enables}
-use Rattle.avr_model.specs.State.{SPL, SPH, SREG, register_at, is_sph, low, high, minus16}
+use Rattle.avr_model.specs.declared.device.Special.{Special}
+use Rattle.avr_model.specs.declared.device.Special.TheVariants.{Spl, Sph, Sreg}
+use Rattle.avr_model.specs.State.{register_at, special, low, high, minus16}
 use Rattle.bit_domain.specs.declared.bits.Tri.{Tri}
 use Rattle.bit_domain.specs.declared.bits.Tri.TheVariants.{Zero, One, Any}
 use Rattle.bit_domain.specs.Tri.{IsTriWithin}
@@ -45,14 +47,15 @@ use Rattle.local_rules.specs.Raw.{Raw, moves_to, one, fails}
 use Rattle.local_rules.specs.HighBytes.{view_by}
 use Rattle.local_rules.specs.Registers.{bits}
 use Rattle.local_rules.specs.Permitted.{permits_number}
-use Rattle.local_rules.specs.Writes.{known_high, tagged_high, high_part, opening, root_closing, frame_closing, tag_closing, closing_offset, closing, is_entry_flags, flags_written, with_i, sreg_written, masks_written, hulled, register_written, put_flags, written_behind, written_at, reaches, fixed_write, listed_writes, is_own_slot, may_wake, waking, pointer_write}
+use Rattle.local_laws.proofs.Specials.{has_high}
+use Rattle.local_rules.specs.Writes.{known_high, tagged_high, high_part, opening, root_closing, frame_closing, tag_closing, closing_offset, closing, is_entry_flags, flags_written, with_i, sreg_written, masks_written, hulled, register_written, put_flags, special_written, written_behind, written_at, reaches, fixed_write, listed_writes, is_own_slot, may_wake, waking, pointer_write}
 use Rattle.abs_state.specs.Formed.{TagFits}
 use Rattle.local_rules.specs.Cover.{HighFitsKind, IsKey}
 use Rattle.local_laws.proofs.Members.{each_of}
 use Rattle.local_laws.proofs.MonotonePermits.{and_more, has_more, IsPairWithin, permits_more}
 use Rattle.local_laws.proofs.MonotoneValues.{IsTagOf, IsLess, AreFlagsLess, AreSlotsLess, IsSlotLess, IsStateLess, IsSameWhere, tells_by, tag_tells, free_less, constant_is, constant_tells, bit_within, registers_set, ended_both, forgetting_both}
 use Rattle.local_laws.proofs.MonotoneBanks.{stored_less}
-use Rattle.local_laws.proofs.MonotoneRaw.{IsKeyPlace, LeadsLess, nodes_at, met_left, met_right, fails_less, if_leads, if_leads_where, several_less, one_less, choose, choose_more, both_less, filtered_less}
+use Rattle.local_laws.proofs.MonotoneRaw.{IsKeyPlace, LeadsLess, nodes_at, met_left, met_right, fails_less, if_leads, several_less, one_less, choose, choose_more, both_less, filtered_less}
 use Rattle.local_rules.specs.Site.{Task}
 use Rattle.local_rules.specs.Writes.{write_at}
 use Rattle.local_rules.specs.Reads.{pointed}
@@ -222,18 +225,20 @@ module _ (device : Device) (k : NodeKey) (at : IsKey device k) (s t : AbsState) 
         facts = le.facts;
       })))
 
+  special_less : (pc : ℕ) (is_out : Bool) (a : ℕ) (v w : AbsByte) → IsLess k.inst.kind v w → (x : Option Special) → special device a ≡ x
+      → LeadsLess device k.inst (special_written (write_at device pc k s v) is_out a x) (special_written (write_at device pc k t w) is_out a x)
+  special_less pc is_out a v w h (Some Spl) here = closing_less device k at s t le pc _ _ (closing_tells device k.inst.kind k.sp v w h)
+  special_less pc is_out a v w h (Some Sph) here = opening_less k at s t le pc (has_high device a here) _ _ (high_tells k.inst.kind v w h) (λ x. high_fits k.inst.kind v x h.good)
+  special_less pc is_out a v w h (Some Sreg) here =
+      sreg_less k at (put_flags s (flags_written v)) (put_flags t (flags_written w))
+      (record { registers = le.registers; flags = written_flags k.inst.kind v w h; slots = le.slots; facts = ended_both (λ r. false) true true s.facts t.facts le.facts }) is_out (tri_at v.bits 7) (tri_at w.bits 7)
+      (bit_within v.bits w.bits 7 (omega arith) h.within.bits)
+  special_less pc is_out a v w h None here = masks_less a v w h
+
   behind_less : (pc : ℕ) (is_out : Bool) (a : ℕ) (v w : AbsByte) → IsLess k.inst.kind v w → (x : Option ℕ)
       → LeadsLess device k.inst (written_behind (write_at device pc k s v) is_out a x) (written_behind (write_at device pc k t w) is_out a x)
   behind_less pc is_out a v w h (Some r) = register_less r v w h
-  behind_less pc is_out a v w h None =
-      if_leads k.inst (a == SPL) _ _ _ _ (closing_less device k at s t le pc _ _ (closing_tells device k.inst.kind k.sp v w h))
-      (if_leads_where k.inst (is_sph device a) _ _ _ _
-      (λ here. opening_less k at s t le pc (and_parts (a == SPH) (has_sph device) here).1 _ _ (high_tells k.inst.kind v w h) (λ x. high_fits k.inst.kind v x h.good))
-      (if_leads k.inst (a == SREG) _ _ _ _
-      (sreg_less k at (put_flags s (flags_written v)) (put_flags t (flags_written w))
-      (record { registers = le.registers; flags = written_flags k.inst.kind v w h; slots = le.slots; facts = ended_both (λ r. false) true true s.facts t.facts le.facts }) is_out (tri_at v.bits 7) (tri_at w.bits 7)
-      (bit_within v.bits w.bits 7 (omega arith) h.within.bits))
-      (masks_less a v w h)))
+  behind_less pc is_out a v w h None = special_less pc is_out a v w h (special device a) refl
 
   pub write_less : (pc : ℕ) (is_out : Bool) (a : ℕ) (v w : AbsByte) → IsLess k.inst.kind v w → LeadsLess device k.inst (written_at (write_at device pc k s v) is_out a) (written_at (write_at device pc k t w) is_out a)
   unfolding written_at

@@ -16,7 +16,9 @@ use Rattle.avr_model.specs.Assumptions.{is_fixed_site, is_frame, has_scratch, st
 use Rattle.avr_model.specs.Image.{word_at}
 use Rattle.avr_model.specs.Table.{length_of}
 use Rattle.avr_model.specs.Sites.{is_scratch}
-use Rattle.avr_model.specs.State.{SPL, SREG, register_at, is_sph}
+use Rattle.avr_model.specs.declared.device.Special.{Special}
+use Rattle.avr_model.specs.declared.device.Special.TheVariants.{Spl, Sph, Sreg}
+use Rattle.avr_model.specs.State.{register_at, special}
 use Rattle.avr_model.specs.Text.{far, near}
 use Rattle.bit_domain.specs.declared.bits.Tri.{Tri}
 use Rattle.bit_domain.specs.declared.bits.Tri.TheVariants.{Zero, One, Any}
@@ -43,7 +45,7 @@ use Rattle.local_rules.specs.declared.local.NodeFault.TheVariants.{UnresolvedJum
 use Rattle.local_rules.specs.Raw.{Raw, nowhere, one, fails, moves_to, enters, all_of, at_word, off_table, next, further, untracked_if, too_deep_if}
 use Rattle.local_rules.specs.FrameLines.{binary_at}
 use Rattle.local_rules.specs.Registers.{bits, carry_bit, before, going_by, interrupts_row, flag_row}
-use Rattle.local_rules.specs.Writes.{opening, closing, with_i, sreg_written, written_behind, written_at, fixed_write, listed_writes, may_wake, waking, pointer_write, high_part, closing_offset, flags_written, put_flags, reaches}
+use Rattle.local_rules.specs.Writes.{opening, closing, with_i, sreg_written, special_written, written_behind, written_at, fixed_write, listed_writes, may_wake, waking, pointer_write, high_part, closing_offset, flags_written, put_flags, reaches}
 use Rattle.local_rules.specs.Flow.{branch_by, where_carry, going_where, carry_branch, flag_branch, skipping, jumping, at_closed, pushing, popping, making_room, is_half_written, indirect_call, relative_call, returning, targets_at, far_targets_at, ret_exit, reti_exit}
 use Rattle.local_rules.specs.Local.{loading, pointer_moved, row_of, plain_row, row_by, row_at, row_in, cut_branch, cut_skip, paired_branch, paired_row, paired_binary, refined_nodes, refining, refined_if, storing, fetched, is_hung, picks, picking, picked_row, split_site, splitting, raw}
 use Rattle.local_laws.specs.Laws.{OpenPairsStay}
@@ -228,13 +230,16 @@ module _ (k : NodeKey) where
   unfolding written_at
   stay_written device pc s is_out a v = behind (register_at device a)
     where
+      behind_special : (x : Option Special) → FromKey k (special_written (write_at device pc k s v) is_out a x)
+      behind_special (Some Spl) = stay_closing device (closing_offset device k.inst.kind k.sp v) s pc
+      behind_special (Some Sph) = stay_opening (high_part k.inst.kind v) s pc
+      behind_special (Some Sreg) = stay_sreg (tri_at v.bits 7) (put_flags s (flags_written v)) is_out
+      behind_special None =
+          each_in_map (λ m. record { key = record k { masks = m }; state = s }) (IsStaying at) (splits device k.masks a v.bits) (λ m i. itself k.sp)
+
       behind : (r : Option ℕ) → FromKey k (written_behind (write_at device pc k s v) is_out a r)
       behind (Some r) = same _
-      behind None =
-          stay_if at (a == SPL) _ _ (stay_closing device (closing_offset device k.inst.kind k.sp v) s pc)
-          (stay_if at (is_sph device a) _ _ (stay_opening (high_part k.inst.kind v) s pc)
-          (stay_if at (a == SREG) _ _ (stay_sreg (tri_at v.bits 7) (put_flags s (flags_written v)) is_out)
-          (each_in_map (λ m. record { key = record k { masks = m }; state = s }) (IsStaying at) (splits device k.masks a v.bits) (λ m i. itself k.sp))))
+      behind None = behind_special (special device a)
 
   stay_fixed : (device : Device) (a : Option ℕ) (pc : ℕ) (s : AbsState) (v : AbsByte) → FromKey k (fixed_write a (write_at device pc k s v))
   stay_fixed device None pc s v = stay_none at
@@ -314,8 +319,8 @@ module _ (device : Device) (task : Task) (scratch : Bool) (k : NodeKey) where
   row_stays s (i.Rcall target) = stay_relative place device scratch k s (wrapped device (far k.pc target))
   row_stays s (i.Brbs m target) = stay_branch place m k s _ _ _ held (stay_ways place _ k k s _ _ held held)
   row_stays s (i.Brbc m target) = stay_branch place m k s _ _ _ held (stay_ways place _ k k s _ _ held held)
-  row_stays s (i.Sbic a b) = stay_ways place _ (zeroing task.assumptions (site_at device k s) (port a) b) k s _ _ held held
-  row_stays s (i.Sbis a b) = stay_ways place _ k (zeroing task.assumptions (site_at device k s) (port a) b) s _ _ held held
+  row_stays s (i.Sbic a b) = stay_ways place _ (zeroing task.assumptions (site_at device k s) (port device a) b) k s _ _ held held
+  row_stays s (i.Sbis a b) = stay_ways place _ k (zeroing task.assumptions (site_at device k s) (port device a) b) s _ _ held held
   row_stays s (i.Sbrc r b) = stay_ways place _ k k s _ _ held held
   row_stays s (i.Sbrs r b) = stay_ways place _ k k s _ _ held held
   row_stays s i.Nop = stay_one place _ _ held

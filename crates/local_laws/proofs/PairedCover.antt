@@ -128,7 +128,7 @@ module _ {may : Bool} (image : Image) (are : AreWords image) (m : State) (o : Or
     reached =
         let none = no_stores image may m b1 b2 instr is in (
           sym (ap (registers_after m.device (with_registers m.registers effect.registers)) none),
-          sym (ap (sreg_after effect.sreg) none),
+          sym (ap (sreg_after m.device effect.sreg) none),
         )
 
     arrives_refined : (to : Node) (n : ℕ) → IsFormed to.state n → ArrivesAt may m o guarded effect to

@@ -321,8 +321,8 @@ module _ (device : Device) (task : Task) (scratch : Bool) (k : NodeKey) (s : Abs
   row_leaves (i.Call t) is = leaves_calling _ s (is_half_written k.sp) k.pc _ (leaves_none _ s)
   row_leaves (i.Rjmp t) is = leaves_same _ s _
   row_leaves (i.Rcall t) is = leaves_relative _ s device scratch k (wrapped device (far k.pc t))
-  row_leaves (i.Sbic a b) is = leaves_branch _ s (tri_not (tri_at (read_at device (reads_masks device task.assumptions) k s (port a)).bits b)) (reading_zero device (reads_masks device task.assumptions) k (port a) b) k _ _
-  row_leaves (i.Sbis a b) is = leaves_branch _ s (tri_at (read_at device (reads_masks device task.assumptions) k s (port a)).bits b) k (reading_zero device (reads_masks device task.assumptions) k (port a) b) _ _
+  row_leaves (i.Sbic a b) is = leaves_branch _ s (tri_not (tri_at (read_at device (reads_masks device task.assumptions) k s (port device a)).bits b)) (reading_zero device (reads_masks device task.assumptions) k (port device a) b) k _ _
+  row_leaves (i.Sbis a b) is = leaves_branch _ s (tri_at (read_at device (reads_masks device task.assumptions) k s (port device a)).bits b) k (reading_zero device (reads_masks device task.assumptions) k (port device a) b) _ _
   row_leaves i.Nop is = leaves_same _ s _
   row_leaves i.Sleep is = leaves_same _ s _
   row_leaves i.Break is = leaves_same _ s _

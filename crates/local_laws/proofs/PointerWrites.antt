@@ -13,7 +13,7 @@ use Rattle.avr_model.specs.declared.device.Device.{Device}
 use Rattle.avr_model.specs.Devices.{io_end, device_of}
 use Rattle.avr_model.specs.Masks.{reads_masks, enables_barred, is_unlisted_site, admits_enables, is_flagged_write}
 use Rattle.avr_model.specs.Sreg.{flag}
-use Rattle.avr_model.specs.State.{State, REGISTERS, register_at, pair, SPL, SREG, is_sph, low, high, plus16, minus16}
+use Rattle.avr_model.specs.State.{State, REGISTERS, register_at, special, pair, low, high, plus16, minus16}
 use Rattle.avr_model.specs.Effects.{set}
 use Rattle.avr_model.specs.Step.{with_registers, flagged_write}
 use Rattle.avr_model.specs.Vectors.{has_enables, is_core, is_protected, written_enables}
@@ -38,7 +38,8 @@ use Rattle.local_rules.specs.Permitted.{may_be, is_in_interval, permits_bytes, p
 use Rattle.local_rules.specs.Writes.{written_at, reaches, fixed_write, listed_writes, is_own_slot, may_wake, waking, pointer_write}
 use Rattle.local_laws.proofs.Bare.{InBareFrame}
 use Rattle.local_laws.proofs.Landing.{ArrivesWhere}
-use Rattle.local_laws.proofs.Enables.{outside_core, none_above}
+use Rattle.local_laws.proofs.Enables.{none_above}
+use Rattle.local_laws.proofs.Specials.{outside_core, sreg_written_is}
 use Rattle.local_laws.proofs.Permitted.{has_where_may}
 use Rattle.local_laws.proofs.PointerReads.{number_is, frame_is}
 use Rattle.local_laws.proofs.SplitMembers.{AreSplitsWritten}
@@ -51,14 +52,10 @@ use Rattle.abs_state.specs.declared.values.AbsFlags.{AbsFlags}
 
 pub record IsElsewhere (device : Device) (a : ℕ) : Type 0 where
   pub beyond : register_at device a ≡ None
-  pub not_low : (a == SPL) ≡ false
-  pub not_high : is_sph device a ≡ false
-  pub not_sreg : (a == SREG) ≡ false
+  pub none : special device a ≡ None
 
 elsewhere_is : (device : Device) (a : ℕ) → is_core device a ≡ false → IsElsewhere device a
-elsewhere_is device a h =
-    let outside = outside_core device a h in
-    record { beyond = outside.0; not_low = outside.1.0; not_high = outside.1.1.0; not_sreg = outside.1.1.1 }
+elsewhere_is device a h = let outside = outside_core device a h in record { beyond = outside.0; none = outside.1 }
 
 -- ---- what isn't flagged
 
@@ -158,10 +155,10 @@ module _ {may : Bool} (m : State) (o : Origin) (k : NodeKey) (s : AbsState) (at 
       → ArrivesWhere may m o told guarded (effect a) (record { key = record key { masks = masks }; state = state })
   elsewhere_written a masks free enables =
       let is = elsewhere_is m.device a free in
-      elsewhere m o k s at guarded pc pc' pc_is writes registers stand less told told_fits false a byte masks registers s.flags.carry told (carries_are_ordered.same s.flags.carry) is.not_low is.not_high is.not_sreg
+      elsewhere m o k s at guarded pc pc' pc_is writes registers stand less told told_fits false a byte masks registers s.flags.carry told (carries_are_ordered.same s.flags.carry) is.none
       enables (changes_none m o k s at guarded pc pc' pc_is writes registers stand less told told_fits false a byte is.beyond)
       (less_still m o k s at guarded pc pc' pc_is writes registers stand less told told_fits false a byte is.beyond)
-      (facts_still m o k s at guarded pc pc' pc_is writes registers stand less told told_fits false a byte is.beyond is.not_sreg)
+      (facts_still m o k s at guarded pc pc' pc_is writes registers stand less told told_fits false a byte is.beyond (sreg_written_is m.device a byte m.sreg None is.none))
 
   nothing_written : (a : ℕ) → is_core m.device a ≡ false → EnablesAre may (written_enables m.device m.enables a byte) k.masks → ReachesNode may m o told k guarded (effect a) (one key state)
   nothing_written a free enables =

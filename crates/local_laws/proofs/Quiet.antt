@@ -6,7 +6,9 @@ use Rattle.avr_model.specs.Devices.{Image, size_of, back_of}
 use Rattle.avr_model.specs.declared.device.Device.{Device}
 use Rattle.avr_model.specs.declared.assumption.Entry.{Entry}
 use Rattle.avr_model.specs.Assumptions.{is_fixed_site}
-use Rattle.avr_model.specs.State.{SPL, SREG, register_at, is_sph}
+use Rattle.avr_model.specs.declared.device.Special.{Special}
+use Rattle.avr_model.specs.declared.device.Special.TheVariants.{Spl, Sph, Sreg}
+use Rattle.avr_model.specs.State.{register_at, special}
 use Rattle.bit_domain.specs.declared.bits.Tri.{Tri}
 use Rattle.bit_domain.specs.declared.bits.Tri.TheVariants.{Zero, One, Any}
 use Rattle.bit_domain.specs.TriByte.{tri_at}
@@ -21,7 +23,7 @@ use Rattle.local_rules.specs.declared.local.CallSite.{CallSite}
 use Rattle.local_rules.specs.Raw.{Raw, untracked_if, too_deep_if}
 use Rattle.local_rules.specs.Registers.{carry_bit, going_by, interrupts_row, flag_row}
 use Rattle.local_rules.specs.declared.computed.Computed.{Computed}
-use Rattle.local_rules.specs.Writes.{opening, closing, sreg_written, written_behind, written_at, fixed_write, may_wake, waking, pointer_write, high_part, closing_offset, flags_written, put_flags}
+use Rattle.local_rules.specs.Writes.{opening, closing, sreg_written, special_written, written_behind, written_at, fixed_write, may_wake, waking, pointer_write, high_part, closing_offset, flags_written, put_flags}
 use Rattle.local_rules.specs.Flow.{branch, branch_by, where_carry, going_where, carry_branch, flag_branch, skipping, jumping, at_closed, pushing, popping, making_room}
 use Rattle.local_rules.specs.Local.{loading}
 use Rattle.local_laws.specs.Laws.{LeadsToWords, AscendByEntry}
@@ -112,12 +114,15 @@ pub written_quiet : (device : Device) (pc : ℕ) (k : NodeKey) (s : AbsState) (i
 unfolding written_at
 written_quiet device pc k s is_out a v = behind (register_at device a)
   where
+    special_quiet : (x : Option Special) → Quiet (special_written (write_at device pc k s v) is_out a x)
+    special_quiet (Some Spl) = closing_quiet device (closing_offset device k.inst.kind k.sp v) k s pc
+    special_quiet (Some Sph) = opening_quiet (high_part k.inst.kind v) k s pc
+    special_quiet (Some Sreg) = sreg_quiet (tri_at v.bits 7) k (put_flags s (flags_written v)) is_out
+    special_quiet None = (refl, refl)
+
     behind : (r : Option ℕ) → Quiet (written_behind (write_at device pc k s v) is_out a r)
     behind (Some r) = (refl, refl)
-    behind None =
-        if_quiet (a == SPL) _ _ (closing_quiet device (closing_offset device k.inst.kind k.sp v) k s pc)
-        (if_quiet (is_sph device a) _ _ (opening_quiet (high_part k.inst.kind v) k s pc)
-        (if_quiet (a == SREG) _ _ (sreg_quiet (tri_at v.bits 7) k (put_flags s (flags_written v)) is_out) (refl, refl)))
+    behind None = special_quiet (special device a)
 
 fixed_quiet : (device : Device) (a : Option ℕ) (pc : ℕ) (k : NodeKey) (s : AbsState) (v : AbsByte) → Quiet (fixed_write a (write_at device pc k s v))
 fixed_quiet device None pc k s v = (refl, refl)

@@ -1,5 +1,5 @@
 -- The value of a read byte holds of the byte that the machine reads.
-use Rattle.std.proofs.Common.{◌≡◌, refl, sym, ◌∙◌, ap, subst, ℕ, ◌+◌, ◌-◌, ◌%◌, ◌<◌, ◌≤◌, ⊎_elim, Bool, true, false, if◌then◌else◌, ◌==◌, ◌&&◌, nat_le, length, Option, Some, None, arith, leb-true}
+use Rattle.std.proofs.Common.{◌≡◌, refl, sym, ◌∙◌, ap, subst, ℕ, ◌+◌, ◌-◌, ◌%◌, ◌<◌, ◌≤◌, ⊎_elim, Bool, true, false, if◌then◌else◌, ◌&&◌, nat_le, length, Option, Some, None, arith, leb-true}
 use Rattle.std.proofs.lemmas.Bool.{cases_lt}
 use Rattle.std.proofs.lemmas.Bool.Decides.{nat_tests}
 use Rattle.std.proofs.lemmas.Nat.Bits.{bit_at-lt}
@@ -13,7 +13,9 @@ use Rattle.avr_model.specs.Devices.{io_end, ramend, has_sph}
 use Rattle.avr_model.specs.declared.device.Device.{Device}
 use Rattle.avr_model.specs.Sreg.{flag}
 use Rattle.avr_model.specs.Vectors.{enable_of, held_of, has_enables, is_ivsel, io_bit, io_byte, kept_byte}
-use Rattle.avr_model.specs.State.{State, register_at, read_behind as machine_behind, read, sram_at, byte_in, is_live, is_sram, SPL, SREG, is_sph, low, high, minus16}
+use Rattle.avr_model.specs.declared.device.Special.{Special}
+use Rattle.avr_model.specs.declared.device.Special.TheVariants.{Spl, Sph, Sreg}
+use Rattle.avr_model.specs.State.{State, register_at, special, read_behind as machine_behind, read, sram_at, byte_in, is_live, is_sram, low, high, minus16}
 use Rattle.vector_table.proofs.AllLaws.{enables_are_vectors, numbers_are_their_bits}
 use Rattle.bit_domain.specs.declared.bits.Tri.{Tri}
 use Rattle.bit_domain.specs.declared.bits.Tri.TheVariants.{Zero}
@@ -37,9 +39,10 @@ use Rattle.node_keys.specs.declared.keys.SpForm.{SpForm}
 use Rattle.node_keys.specs.declared.keys.SpForm.TheVariants.{Closed, Open}
 use Rattle.node_keys.specs.Place.{EnablesAre, SpIs}
 use Rattle.local_rules.specs.Registers.{with_bits}
-use Rattle.local_rules.specs.Reads.{sp_low, sp_high, flags_tag, sreg_value, enable_read, io_tri, free_tri, io_bits, kept_bits, value_of, slot_read, read_behind, read_at}
+use Rattle.local_rules.specs.Reads.{sp_low, sp_high, flags_tag, sreg_value, enable_read, io_tri, free_tri, io_bits, kept_bits, value_of, slot_read, read_special, read_behind, read_at}
 use Rattle.local_laws.proofs.Bare.{InBareFrame}
-use Rattle.local_laws.proofs.Enables.{bit_permits, vector_small, none_behind}
+use Rattle.local_laws.proofs.Enables.{bit_permits, vector_small}
+use Rattle.local_laws.proofs.Specials.{none_behind, special_byte, byte_is}
 use Rattle.local_laws.proofs.Frame.{register_stands}
 use Rattle.local_laws.proofs.Memory.{inside_if_live}
 
@@ -233,10 +236,18 @@ module _ {may : Bool} (m : State) (o : Origin) (k : NodeKey) (s : AbsState) (at 
   unfolding read read_at
   read_stands a input lt = by (register_at m.device a)
     where
+      fits : m.sp < 65536
+      fits = sp_small (has_sph m.device) m.sp at.machine.sp_fits
+
+      special_stands : (x : Option Special) → ByteStands o (read_special m.device may k s a x) (special_byte may m a input x)
+      special_stands (Some Spl) = low_stands m.device o at.base_word m.is_open m.sp fits k.inst.kind k.sp at.root at.place.sp
+      special_stands (Some Sph) = high_stands m.device o at.base_word m.is_open m.sp fits k.inst.kind k.sp at.root at.place.sp
+      special_stands (Some Sreg) = sreg_stands
+      special_stands None = by_test o (nat_le a (io_end m.device)) _ _ _ _ (io_stands a input) (kind_slot k.inst.kind a input lt at.root)
+
+      by_special : (x : Option Special) → special m.device a ≡ x → ByteStands o (read_special m.device may k s a x) (machine_behind may m a input None)
+      by_special x here = subst (ByteStands o (read_special m.device may k s a x)) (sym (byte_is may m a input x here)) (special_stands x)
+
       by : (r : Option ℕ) → ByteStands o (read_behind m.device may k s a r) (machine_behind may m a input r)
       by (Some r) = register_stands m o k s at r
-      by None =
-          by_test o (a == SPL) _ _ _ _ (low_stands m.device o at.base_word m.is_open m.sp (sp_small (has_sph m.device) m.sp at.machine.sp_fits) k.inst.kind k.sp at.root at.place.sp)
-          (by_test o (is_sph m.device a) _ _ _ _ (high_stands m.device o at.base_word m.is_open m.sp (sp_small (has_sph m.device) m.sp at.machine.sp_fits) k.inst.kind k.sp at.root at.place.sp)
-          (by_test o (a == SREG) _ _ _ _ sreg_stands
-          (by_test o (nat_le a (io_end m.device)) _ _ _ _ (io_stands a input) (kind_slot k.inst.kind a input lt at.root))))
+      by None = by_special (special m.device a) refl

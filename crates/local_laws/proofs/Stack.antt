@@ -4,11 +4,11 @@ use Rattle.std.proofs.lemmas.Bool.Decides.{nat_tests}
 use Rattle.std.proofs.lemmas.List.{append_assoc, append-nil}
 use Rattle.basics.specs.Items.{first_in}
 use Rattle.avr_model.proofs.AllLaws.{devices_are_alike}
-use Rattle.avr_model.specs.Devices.{io_end, size_of, ramend, back_of, has_sph, sp_count, wrapped}
+use Rattle.avr_model.specs.Devices.{spl_address, sreg_address, io_end, size_of, ramend, back_of, has_sph, sp_count, wrapped}
 use Rattle.avr_model.specs.declared.device.Device.{Device}
 use Rattle.avr_model.specs.declared.effect.Effect.{Effect}
 use Rattle.avr_model.specs.Sreg.{flag}
-use Rattle.avr_model.specs.State.{State, Memory, register, sram_at, is_sram, is_live, plus_sp, minus_sp, low, high, read, read_behind, SPL, SREG, is_sph}
+use Rattle.avr_model.specs.State.{State, Memory, register, sram_at, is_sram, is_live, plus_sp, minus_sp, low, high, read, read_behind, is_sph}
 use Rattle.avr_model.specs.Effects.{further, calling, back_bytes, pushed_from, push_effect, pop_effect}
 use Rattle.avr_model.specs.Step.{after, memory_after, all_inside}
 use Rattle.sp_domain.specs.declared.slots.Slot.{Slot}
@@ -31,7 +31,7 @@ use Rattle.local_rules.specs.Reads.{value_of}
 use Rattle.local_rules.specs.Flow.{if_room, pushed_slot, pushing, popping, making_room, at_closed, relative_call}
 use Rattle.local_laws.proofs.Bare.{InBareFrame}
 use Rattle.local_laws.proofs.Landing.{FollowsWhere}
-use Rattle.local_laws.proofs.Enables.{none_behind}
+use Rattle.local_laws.proofs.Specials.{none_behind}
 use Rattle.local_laws.proofs.Frame.{only, register_stands, set_one, next_is}
 use Rattle.local_laws.proofs.Memory.{inside_if_live, pushed_byte, pushed_live}
 use Rattle.local_laws.proofs.Less.{Spares, less_set}
@@ -85,7 +85,7 @@ freed o memory (suc n) slots h =
 
 -- the byte of an address in SRAM
 in_sram : (device : Device) (a l h f i b x : ℕ) → is_sram device a ≡ true
-    → (if a == SPL then l else (if is_sph device a then h else (if a == SREG then f else (if nat_le a (io_end device) then i else (if is_sram device a then b else x))))) ≡ b
+    → (if a == spl_address device then l else (if is_sph device a then h else (if a == sreg_address device then f else (if nat_le a (io_end device) then i else (if is_sram device a then b else x))))) ≡ b
 in_sram device a l h f i b x inside = grind (arith, nat_tests, devices_are_alike.least_io device)
 
 live_read : (still : Bool) (m : State) (a input : ℕ) → m.memory.below ≡ io_end m.device → length m.memory.live ≡ size_of m.device → is_live m.memory a ≡ true → read still m a input ≡ sram_at m a
