@@ -13,7 +13,7 @@ ghost use Rattle.local_rules.specs.Flow.{words_on, z_with, reading_zero};
 
 use crate::reads::read_at;
 use abs_state::AbsState;
-use avr_model::device::{Device, IO};
+use avr_model::device::Device;
 use avr_model::instruction::{Base, Bit, LowPort, Register, Six};
 use bit_domain::{Tri, TriByte};
 use local_rows::registers::{bits, pair};
@@ -30,10 +30,10 @@ pub fn further(device: Device, key: &NodeKey, words: u16) -> u32
 }
 
 /// The data address of an I/O address.
-pub fn port(address: Six) -> u16
-    ensures { result ≡ effects.port address }
+pub fn port(device: Device, address: Six) -> u16
+    ensures { result ≡ effects.port device address }
 {
-    address.get() + IO
+    address.get() + device.io_base()
 }
 
 /// A bit of an I/O address, which `sbic` and `sbis` test. `may` says whether the key has what may be enabled.
@@ -45,18 +45,17 @@ pub fn port_bit(
     address: LowPort,
     bit: Bit,
 ) -> Tri
-    ensures { result ≡ tri_at (reads.read_at device may key.now state.now (effects.port address)).bits bit }
+    ensures { result ≡ tri_at (reads.read_at device may key.now state.now (effects.port device address)).bits bit }
 {
-    read_at(device, may, key, state, port(address.widened()))
-        .bits
-        .bit(bit.get() as u8)
+    let read = read_at(device, may, key, state, port(device, address.widened()));
+    read.bits.bit(bit.get() as u8)
 }
 
 /// The key after this bit of an I/O address reads 0. If `may`, the key has what may be enabled, and the vector of a held bit is removed.
 pub fn reading_zero(device: Device, may: bool, key: &NodeKey, address: LowPort, bit: Bit) -> NodeKey
-    ensures { result ≡ reading_zero device may key.now (effects.port address) bit }
+    ensures { result ≡ reading_zero device may key.now (effects.port device address) bit }
 {
-    let vector = held_of(device, port(address.widened()), bit.get() as u8);
+    let vector = held_of(device, port(device, address.widened()), bit.get() as u8);
     NodeKey {
         masks: without(device, may, vector, key.masks),
         ..*key

@@ -8,7 +8,7 @@ ghost use Rattle.local_rules.specs.Reads.{enable_read, io_tri, free_tri, io_bits
 
 use crate::stack_pointer::sp_bytes;
 use abs_state::{AbsByte, AbsState};
-use avr_model::device::{Device, SPH, SPL, SREG};
+use avr_model::device::{Device, Special};
 use bit_domain::{Tri, TriByte};
 use local_rows::bits::tri_of;
 use local_rows::registers::value_at;
@@ -105,13 +105,13 @@ pub fn read_at(device: Device, may: bool, key: &NodeKey, state: &AbsState, addre
     if let Some(r) = device.register_at(address) {
         return value_at(&state.registers, r);
     }
-    match address {
-        SPL => sp_bytes(device, key.inst.kind, key.sp).0,
-        SPH if device.has_sph() => sp_bytes(device, key.inst.kind, key.sp).1,
-        SREG => sreg_value(key, state),
-        _ if address <= device.io_end() => {
+    match device.special(address) {
+        Some(Special::Spl) => sp_bytes(device, key.inst.kind, key.sp).0,
+        Some(Special::Sph) => sp_bytes(device, key.inst.kind, key.sp).1,
+        Some(Special::Sreg) => sreg_value(key, state),
+        None if address <= device.io_end() => {
             AbsByte::untagged(io_bits(device, may, key.masks, address))
         }
-        _ => slot_read(device, key.inst.kind, state, address),
+        None => slot_read(device, key.inst.kind, state, address),
     }
 }
