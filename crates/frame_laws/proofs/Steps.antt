@@ -273,7 +273,7 @@ module _ (live : LiveBytesStay) (task : Task) (f : RankedFamily) (sound : IsSoun
       same_registers = ap₂ (λ rs ws. registers_after m.device (with_registers m.registers rs) ws) is.registers is.stores
 
       same_sreg : returned_state.sreg ≡ e.sreg
-      same_sreg = ap (sreg_after e.sreg) is.stores
+      same_sreg = ap (sreg_after m.device e.sreg) is.stores
 
       raised_sp : returned_state.sp ≡ plus_sp m.device m.sp (back_of m.device)
       raised_sp = ap₂ (sp_after m.device) is.sp is.stores
