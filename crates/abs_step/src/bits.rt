@@ -26,9 +26,9 @@ pub fn bit_row(
     bit: Bit,
     on: bool,
 ) -> Result<(), NodeFault>
-    ensures { Adds nodes.old nodes.new result (rows.bit_row (site_of site.now) (effects.port i) bit on) }
+    ensures { Adds nodes.old nodes.new result (rows.bit_row (site_of site.now) (effects.port site.now.device i) bit on) }
 {
-    let address = port(i.widened());
+    let address = port(site.device, i.widened());
     let bits = kept_bits(site.device, site.key.masks, address).with(bit.get() as u8, tri_of(on));
     let write = ByteWrite {
         device: site.device,

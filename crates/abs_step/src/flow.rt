@@ -83,7 +83,7 @@ pub(crate) fn port_skip(
     bit: Bit,
     on: bool,
 ) -> Result<(), NodeFault>
-    ensures { Adds nodes.old nodes.new result (bit_skip (task_of site.now) (site_of site.now) (port address) bit on) }
+    ensures { Adds nodes.old nodes.new result (bit_skip (task_of site.now) (site_of site.now) (port site.now.device address) bit on) }
 {
     let may = site.assumptions.reads_masks(site.device);
     let is_one = port_bit(site.device, may, site.key, site.state, address, bit);

@@ -16,7 +16,7 @@ use crate::moves::Moves;
 use crate::site::ByteWrite;
 use crate::successors::{add_copy, add_two, changed, copied};
 use abs_state::{AbsFlags, AbsState, Registers, end_facts, hull_written};
-use avr_model::device::{RAMPZ, REGISTERS, SPH, SPL, SREG};
+use avr_model::device::{RAMPZ, REGISTERS, Special};
 use bit_domain::Tri;
 use local_reads::banks::stored_value;
 use local_reads::stack_pointer::{closing_offset, high_part};
@@ -220,15 +220,13 @@ pub fn written_at(
         return register_written(nodes, alloc, write, r);
     }
     let (inst, sp) = (&write.key.inst, write.key.sp);
-    match address {
-        SPL => {
+    match write.device.special(address) {
+        Some(Special::Spl) => {
             let offset = closing_offset(write.device, inst.kind, sp, write.value);
             closing(nodes, alloc, offset, write)
         }
-        SPH if write.device.has_sph() => {
-            opening(nodes, alloc, high_part(inst.kind, write.value), write)
-        }
-        SREG => flags_set(nodes, alloc, write, is_out),
-        _ => masks_written(nodes, alloc, write, address),
+        Some(Special::Sph) => opening(nodes, alloc, high_part(inst.kind, write.value), write),
+        Some(Special::Sreg) => flags_set(nodes, alloc, write, is_out),
+        None => masks_written(nodes, alloc, write, address),
     }
 }

@@ -19,7 +19,7 @@ tri_is false = refl
 pub returns : goal.returns
 returns c =
     let site = c.args.site.now in
-    let at = c.port-address.ensures ∙ ap port c.widened.ensures in
+    let at = c.port-address.ensures ∙ ap (port site.device) c.widened.ensures in
     let kept = c.kept_bits.ensures ∙ ap (kept_bits site.device site.key.now.masks) at in
     let bits = c.with-bits.ensures ∙ (λ p. byte_with (kept p) (c.get.ensures.value p) ((c.tri_of.ensures ∙ tri_is c.args.on) p)) in
     let value = c.untagged.ensures ∙ ap untagged bits in
