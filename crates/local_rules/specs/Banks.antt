@@ -1,5 +1,5 @@
 -- RAMPZ and EIND, the registers 32 and 33: what they hold of a byte, and RAMPZ behind `elpm`. Source: the data sheets; the tags: own.
-use Rattle.std.specs.Prelude.{ℕ, ◌+◌, ◌*◌, ◌==◌, Bool, nat_lt, if◌then◌else◌, Option, Some, None}
+use Rattle.std.specs.Prelude.{ℕ, ◌+◌, ◌*◌, ◌==◌, nat_lt, if◌then◌else◌, Option, Some, None}
 use Rattle.std.specs.Int.{bit_at}
 use Rattle.avr_model.specs.declared.device.Device.{Device}
 use Rattle.avr_model.specs.State.{RAMPZ, bank_most, kept_of}

@@ -1,6 +1,6 @@
 -- High bytes without SPH. Each address from the base down to the stack pointer is below 0x100 there, so the high byte of base - k is 0
 -- where k is at most the offset. So behind an instruction no byte has the tag of a high byte. Source: own.
-use Rattle.std.specs.Prelude.{ℕ, Bool, true, false, nat_le, if◌then◌else◌, List, [], ◌∷◌, flat_map, Option, Some, None}
+use Rattle.std.specs.Prelude.{ℕ, nat_le, if◌then◌else◌, List, [], ◌∷◌, flat_map, Option, Some, None}
 use Rattle.sp_domain.specs.declared.tags.Tag.{Tag}
 use Rattle.sp_domain.specs.declared.tags.Tag.TheVariants as tag
 use Rattle.abs_state.specs.declared.values.AbsByte.{AbsByte}
