@@ -27,7 +27,7 @@ use Rattle.assumption_files.specs.Spelling.{word_address_text, number_words, jum
 -- ---- the numbers of an entry fit their digits
 
 io_small : (a : ℕ) → is_io a ≡ true → a < 16 ^ 4
-io_small a h = let small = ltb-true a 0x0200 h in omega (arith, small)
+io_small a h = let small = ltb-true a 0x1005 h in omega (arith, small)
 
 word_fits : (d : Device) (a : ℕ) → is_word_of d a ≡ true → a < 16 ^ word_digits d
 word_fits d a h = let small = ltb-true a (limit_of d) h in let fits = devices_are_alike.in_digits d in omega (arith, small, fits)

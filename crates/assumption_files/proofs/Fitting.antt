@@ -1,17 +1,17 @@
 -- What a device's texts admit, a list may have.
-use Rattle.std.proofs.Common.{◌≡◌, ◌∙◌, refl, sym, ap, ap₂, ℕ, suc, ◌<◌, ◌≤◌, ◌&&◌, ◌||◌, Bool, true, false, List, [], ◌∷◌, length, arith, ◌⊎◌, inl, inr, eqb}
-use Rattle.std.specs.Prelude.{nat_le, nat_lt, ◌==◌}
-use Rattle.std.specs.List.{All, list_all, list_any}
-use Rattle.std.proofs.lemmas.Bool.{and_parts, and_from, cases_Bool, eqb-true}
+use Rattle.std.proofs.Common.{◌≡◌, ◌∙◌, refl, sym, ap, ap₂, ℕ, ◌<◌, ◌≤◌, ◌&&◌, Bool, true, false, List, [], ◌∷◌, length, arith, ◌⊎◌, inl, inr, ⊎_elim}
+use Rattle.std.specs.Prelude.{nat_le}
+use Rattle.std.specs.List.{list_all}
+use Rattle.std.proofs.lemmas.Bool.{and_parts, and_from, or_from, cases_lt}
 use Rattle.std.proofs.lemmas.Bool.Decides.{nat_tests}
 use Rattle.avr_model.specs.declared.device.Device.{Device}
-use Rattle.avr_model.specs.declared.rows.EnablePlace.{EnablePlace}
 use Rattle.avr_model.specs.declared.assumption.Entry.{Entry}
 use Rattle.avr_model.specs.declared.assumption.Entry.TheVariants.{Pairs, Masks, Jump, Store, Prove, Free, Never, Frame, Recur, Scratch}
 use Rattle.avr_model.specs.State.{SIZE}
-use Rattle.avr_model.specs.Devices.{io_end, depth_of, has_sph, has_elpm, has_eijmp}
-use Rattle.avr_model.specs.Vectors.{enable_places, has_enables, is_core, is_protected, is_vector}
-use Rattle.avr_model.proofs.AllLaws.{devices_are_alike, places_are_apart}
+use Rattle.avr_model.specs.Devices.{guarded_end, depth_of}
+use Rattle.avr_model.specs.Vectors.{is_protected}
+use Rattle.avr_model.proofs.AllLaws.{devices_are_alike, nothing_is_behind}
+use Rattle.basics.specs.Booleans.{never_both}
 use Rattle.vector_table.specs.Entries.{fits_device, is_word, is_word_of, is_io, ascends}
 use Rattle.assumption_files.specs.Reading.{is_entry_of}
 
@@ -20,37 +20,13 @@ word_of_list d a h =
     let most = devices_are_alike.most_limit d in
     grind (arith, nat_tests)
 
--- the byte of each enable bit is in I/O
-abbrev AreInIo : Device → List EnablePlace → Type 0
-AreInIo d rows = All (λ (p : EnablePlace). (is_vector d p.vector ≡ true) × ((is_core d p.address ≡ false) × ((p.address ≤ io_end d) × (p.mask < 256)))) rows
-
-some_enable : (d : Device) (rows : List EnablePlace) (a : ℕ) → AreInIo d rows → list_any (λ (p : EnablePlace). eqb p.address a) rows ≡ true → a ≤ io_end d
-some_enable d [] a h e = cc
-some_enable d (p ∷ rows) a h e = elim (cases_Bool (eqb p.address a)) [
-  | inl same ↦
-      let here = (h 0 p (omega arith)).1.1.0 in
-      let is = eqb-true p.address a same in
-      omega (arith, here, is)
-  | inr other ↦ some_enable d rows a (λ k q lt. h (suc k) q (omega arith)) (rw other at e)
-]
-
-or_false : (b : Bool) → b ≡ (b || false)
-or_false true = refl
-or_false false = refl
-
-core_io : (high elpm eijmp : Bool) (a : ℕ)
-    → (nat_lt a 0x20 || ((a == 0x5D) || ((a == 0x5F) || ((high && (a == 0x5E)) || ((elpm && (a == 0x5B)) || (eijmp && (a == 0x5C))))))) ≡ true → is_io a ≡ true
-core_io high elpm eijmp a h = grind (arith, nat_tests, h)
-
+-- only guarded addresses are protected
 protected_io : (d : Device) (a : ℕ) → is_protected d a ≡ true → is_io a ≡ true
-unfolding has_enables
-protected_io d a h = elim (cases_Bool (has_enables d a)) [
-  | inl held ↦
-      let small = some_enable d (enable_places d) a (places_are_apart.each d) held in
-      let most = devices_are_alike.most_io d in
-      grind (arith, nat_tests)
-  | inr none ↦ core_io (has_sph d) (has_elpm d) (has_eijmp d) a (let rest : (is_core d a || false) ≡ true = rw none at h in or_false (is_core d a) ∙ rest)
-]
+protected_io d a h =
+    ⊎_elim
+    (λ (behind : guarded_end d < a). absurd (never_both (is_protected d a) h (or_from _ _ (nothing_is_behind.core d a behind) (nothing_is_behind.enables d a behind))))
+    (λ (within : a ≤ guarded_end d). let most : a < 0x1005 = omega (arith, within, devices_are_alike.most_guarded d) in grind (arith, nat_tests))
+    (cases_lt (guarded_end d) a)
 
 all_more : (p q : ℕ → Bool) → ((n : ℕ) → p n ≡ true → q n ≡ true) → (ns : List ℕ) → list_all p ns ≡ true → list_all q ns ≡ true
 all_more p q more [] h = refl
