@@ -15,7 +15,7 @@ use Rattle.avr_model.specs.declared.instruction.Instr.TheVariants as i
 use Rattle.avr_model.specs.Assumptions.{is_never, is_fixed_site}
 use Rattle.avr_model.specs.Masks.{is_flagged_write}
 use Rattle.avr_model.specs.declared.rows.Ivsel.{Ivsel}
-use Rattle.avr_model.specs.Devices.{device_row, io_end, ramend, device_of}
+use Rattle.avr_model.specs.Devices.{device_row, guarded_end, io_end, ramend, device_of}
 use Rattle.avr_model.specs.Sites.{instruction_at}
 use Rattle.avr_model.specs.State.{State, is_live}
 use Rattle.avr_model.specs.Vectors.{vector_word}
@@ -33,7 +33,7 @@ use Rattle.clear_laws.specs.StepLaws.{PlacesHaveCauses}
 use Rattle.clear_laws.proofs.Below.{any_found, found_below}
 use Rattle.clear_laws.proofs.Kept.{Holding}
 use Rattle.clear_laws.proofs.Told.{clear_nodes_are_told}
-use Rattle.clear_laws.proofs.Unflagged.{IsStore, flagged_by_write, writes, may_move_if, cut_if_deep, by_instruction, inside, IsTaken, taken_here}
+use Rattle.clear_laws.proofs.Unflagged.{IsStore, flagged_by_write, flagged_within, writes, may_move_if, cut_if_deep, by_instruction, inside, IsTaken, taken_here}
 use Rattle.bit_domain.specs.declared.bytes.TriByte.{TriByte}
 use Rattle.local_rules.specs.Cover.{effect_by}
 use Rattle.local_rules.specs.Site.{Task, masks_by}
@@ -171,7 +171,7 @@ module _ (task : Task) (f : RankedFamily) (n : Node) where
     unflagged : (a : ℕ) → may_write n.state instr a ≡ true → a ≤ below → is_flagged_address task (store_at n.key.pc n.state instr) a ≡ false
     unflagged a may low =
         never (is_flagged_address task (store_at n.key.pc n.state instr) a)
-        (λ flagged. never_both _ (any_found (may_write_protected task (store_at n.key.pc n.state instr)) a (below + 1) (omega (arith, low)) (and_from _ _ flagged may)) free)
+        (λ flagged. never_both _ (any_found (may_write_protected task (store_at n.key.pc n.state instr)) a (guarded_end (device_of task.flash) + 1) (flagged_within task (store_at n.key.pc n.state instr) a flagged) (and_from _ _ flagged may)) free)
 
     harmless_address : (a : ℕ) → a < 65536 → may_write n.state instr a ≡ true → is_address_harmless task f.bound (store_at n.key.pc n.state instr) a ≡ true
     harmless_address a small may =
@@ -349,7 +349,7 @@ module _ (task : Task) (f : RankedFamily) where
         → may_move task may.node.key may.node.state instr ≡ v → may_write_some_protected task (store_at pc may.node.state instr) ≡ p → HasCause task f pc
     by_tests instr is direct plain true p moves some = inr (inr (inr (caused (λ (n : Node) y. may_move task n.key n.state y) instr is moves)))
     by_tests instr is direct plain false true moves some =
-        let found = found_below (may_write_protected task (store_at pc may.node.state instr)) (io_end (device_of task.flash) + 1) some in
+        let found = found_below (may_write_protected task (store_at pc may.node.state instr)) (guarded_end (device_of task.flash) + 1) some in
         inl (found.0, caused (λ (n : Node) y. may_write_protected task (store_at pc n.state y) found.0) instr is found.1.1)
     by_tests instr is direct plain false false moves some =
         let uncut = never (calls_cut task may.node.key may.node.state instr) (λ cut. never_both (is_call instr) (cut_calls task may.node.key may.node.state instr cut) plain) in

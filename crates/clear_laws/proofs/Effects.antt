@@ -96,12 +96,12 @@ module _ (device : Device) (k : NodeKey) where
   whole_relative true s target h = whole_at k.sp k.pc _ h
   whole_relative false s target h = whole_by k.sp k.pc _ h
 
-port_low : (device : Device) (a : ℕ) → a < 64 → port a ≤ io_end device
+port_low : (device : Device) (a : ℕ) → a < 64 → port device a ≤ io_end device
 port_low device a h = omega (arith, devices_are_alike.least_io device)
 
 -- IVSEL is in I/O, beyond the reach of `cbi` and `sbi`
-low_port : (device : Device) (a byte : ℕ) → a < 32 → sets_ivsel device (port a) byte ≡ true → ⊥
-low_port device a byte low sets = let high = (ivsel_there device (port a) byte sets).0 in omega (arith, low, high)
+low_port : (device : Device) (a byte : ℕ) → a < 32 → sets_ivsel device (port device a) byte ≡ true → ⊥
+low_port device a byte low sets = let high = (ivsel_there device (port device a) byte sets).0 in omega (arith, low, high)
 
 ivsel_low : (device : Device) (a byte : ℕ) → sets_ivsel device a byte ≡ true → a ≤ io_end device
 ivsel_low device a byte sets = (ivsel_there device a byte sets).1
@@ -190,9 +190,9 @@ module _ {followed may : Bool} (task : Task) (m : State) (o : Origin) (k : NodeK
   does_by (i.Pop d) fits = nothing refl refl
   does_by (i.Push r) fits = pushing _ refl refl (whole_at k.sp k.pc _) refl refl refl
   does_by (i.In d a) fits = nothing refl refl
-  does_by (i.Out a r) fits = to_port (port a) _ (port_low m.device a fits) refl (λ on sets. (equals_itself (port a), holds r)) refl refl
-  does_by (i.Cbi a b) fits = to_port (port a) _ (port_low m.device a (omega (arith, fits))) refl (λ on sets. absurd (low_port m.device a _ fits sets)) refl refl
-  does_by (i.Sbi a b) fits = to_port (port a) _ (port_low m.device a (omega (arith, fits))) refl (λ on sets. absurd (low_port m.device a _ fits sets)) refl refl
+  does_by (i.Out a r) fits = to_port (port m.device a) _ (port_low m.device a fits) refl (λ on sets. (equals_itself (port m.device a), holds r)) refl refl
+  does_by (i.Cbi a b) fits = to_port (port m.device a) _ (port_low m.device a (omega (arith, fits))) refl (λ on sets. absurd (low_port m.device a _ fits sets)) refl refl
+  does_by (i.Sbi a b) fits = to_port (port m.device a) _ (port_low m.device a (omega (arith, fits))) refl (λ on sets. absurd (low_port m.device a _ fits sets)) refl refl
   does_by i.Ijmp fits = nothing refl refl
   does_by i.Icall fits =
       entering _ (no_indirect_moves m.device k (targets_at task.assumptions (site_at m.device k t))) refl (whole_indirect m.device k (targets_at task.assumptions (site_at m.device k t))) refl refl refl

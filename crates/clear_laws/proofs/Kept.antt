@@ -64,7 +64,7 @@ open_is : (base : ℕ) (is_open : Bool) (sp offset : ℕ) (h : High) (form : SpF
 open_is base is_open sp offset h form e is = (subst (SpIs base is_open sp) e is).0
 
 few_live : (n : State) → IsMachine n → n.memory.below + length n.memory.live < 33280
-few_live n machine = omega (arith, machine.below, machine.count_live, devices_are_alike.most_bytes n.device, devices_are_alike.most_io n.device)
+few_live n machine = omega (arith, machine.below, machine.count_live, devices_are_alike.most_ramend n.device)
 
 module _ (task : Task) (f : RankedFamily) (sound : IsSoundFamily task f) where
   -- if the running frame's stack pointer is whole

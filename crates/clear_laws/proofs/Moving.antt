@@ -1,13 +1,13 @@
 -- Writes that set IVSEL.
-use Rattle.std.proofs.Common.{◌≡◌, refl, sym, ap, ◌∙◌, ℕ, ◌≤◌, ◌==◌, Bool, true, false, ◌&&◌, ◌||◌, List, [], Option, Some, None, eqb-true, arith}
+use Rattle.std.proofs.Common.{◌≡◌, refl, sym, ap, ◌∙◌, ℕ, ◌+◌, ◌≤◌, ◌==◌, Bool, true, false, ◌&&◌, ◌||◌, List, [], Option, Some, None, eqb-true, arith}
 use Rattle.std.specs.Int.{bit_at}
 use Rattle.std.proofs.lemmas.Bool.{and_parts, and_from}
 use Rattle.basics.specs.Numbers.{equals_itself}
-use Rattle.avr_model.proofs.AllLaws.{ivsel_is_apart}
+use Rattle.avr_model.proofs.AllLaws.{devices_are_alike, ivsel_is_apart}
 use Rattle.avr_model.specs.declared.device.Device.{Device}
 use Rattle.avr_model.specs.declared.rows.Ivsel.{Ivsel}
 use Rattle.avr_model.specs.declared.effect.Write.{Write}
-use Rattle.avr_model.specs.Devices.{device_row, io_end}
+use Rattle.avr_model.specs.Devices.{device_row, io_base, io_end}
 use Rattle.avr_model.specs.Vectors.{is_bit_of, is_ivsel, sets_bit_of, sets_ivsel}
 use Rattle.avr_model.specs.Effects.{set}
 use Rattle.avr_model.specs.Step.{moves_vectors}
@@ -42,8 +42,11 @@ set_there : (device : Device) (a byte : ℕ) → sets_ivsel device a byte ≡ tr
 unfolding sets_ivsel
 set_there device a byte h = set_at_place (device_row device).ivsel a byte h
 
-pub ivsel_there : (device : Device) (a byte : ℕ) → sets_ivsel device a byte ≡ true → (0x40 ≤ a) × (a ≤ io_end device)
-ivsel_there device a byte h = let t = set_there device a byte h in ivsel_is_apart.reach device a t.place.bit (bit_there device a byte t)
+pub ivsel_there : (device : Device) (a byte : ℕ) → sets_ivsel device a byte ≡ true → (io_base device + 0x20 ≤ a) × (a ≤ io_end device)
+ivsel_there device a byte h =
+    let t = set_there device a byte h in
+    let reach = ivsel_is_apart.reach device a t.place.bit (bit_there device a byte t) in
+    (reach.0, omega (arith, reach.1, devices_are_alike.guarded_in device))
 
 -- ---- the test for instructions
 

@@ -1,16 +1,14 @@
 -- No step at a clear node is flagged. What each step writes.
 use Rattle.std.proofs.Common.{◌≡◌, ◌≢◌, refl, sym, ap, ap₂, ◌∙◌, subst, ℕ, ◌+◌, ◌*◌, ◌-◌, ◌<◌, ◌≤◌, ◌==◌, Bool, true, false, not, ◌&&◌, ◌||◌, nat_le, nat_lt, ◌⊎◌, inl, inr, ⊎_elim, if◌then◌else◌, List, [], ◌∷◌, ◌++◌, Option, Some, None, arith}
 use Rattle.std.specs.List.{list_any}
-use Rattle.std.proofs.lemmas.Bool.Decides.{nat_tests}
 use Rattle.std.proofs.lemmas.Bool.{false_from_ne_true as never, and_from, and_left, and_parts, or_cases, or_from, or_left, or_parts, or_right, not-true, cases_lt}
 use Rattle.basics.specs.Booleans.{never_both, left_of_and}
 use Rattle.basics.specs.Numbers.{less_from_test, at_most_from_test}
 use Rattle.frame_laws.proofs.AllLaws.{vector_small}
-use Rattle.avr_model.proofs.AllLaws.{devices_are_alike}
+use Rattle.avr_model.proofs.AllLaws.{devices_are_alike, nothing_is_behind}
 use Rattle.avr_model.specs.declared.assumption.Entry.{Entry}
 use Rattle.avr_model.specs.declared.device.Device.{Device}
 use Rattle.avr_model.specs.declared.rows.EnablePlace.{EnablePlace}
-use Rattle.avr_model.specs.declared.rows.Row.{Row}
 use Rattle.avr_model.specs.declared.instruction.Instr.{Instr}
 use Rattle.avr_model.specs.declared.instruction.Instr.TheVariants as i
 use Rattle.avr_model.specs.declared.choice.Choice.{Choice}
@@ -20,10 +18,10 @@ use Rattle.avr_model.specs.declared.effect.Effect.{Effect}
 use Rattle.avr_model.specs.declared.effect.Write.{Write}
 use Rattle.avr_model.specs.Assumptions.{jump_line, store_line, is_never, is_fixed_site, lists}
 use Rattle.avr_model.specs.Masks.{reads_masks, is_barred, enables_barred, admits_enables, is_flagged_write}
-use Rattle.avr_model.specs.Devices.{device_row, io_end, ramend, has_sph, wrapped, eind_most, device_of}
+use Rattle.avr_model.specs.Devices.{guarded_end, io_end, ramend, has_sph, wrapped, eind_most, device_of}
 use Rattle.avr_model.specs.Sites.{instruction_at, is_scratch}
 use Rattle.avr_model.specs.State.{State, Memory, EIND, REGISTERS, is_live, i_flag, register, pair, low, high}
-use Rattle.avr_model.specs.Vectors.{enable_places, has_enables, is_core_of, is_core, is_protected, is_enabled, vector_word, watchdog}
+use Rattle.avr_model.specs.Vectors.{enable_places, has_enables, is_core, is_protected, is_enabled, vector_word, watchdog}
 use Rattle.avr_model.specs.Effects.{set, way_back, extended_word}
 use Rattle.avr_model.specs.Step.{Illegal, Overflow, Flagged, after, all_inside, live_write, flagged_write, protected_write, unless_listed, unlisted_transfer, is_call, deep_call, first_of, refused_transfer, moves_vectors, is_pointer_store, is_indirect, is_refused, is_guarding, flag_by, flagged_or, may_take, entering, never_target, take, go}
 use Rattle.bit_domain.specs.declared.bytes.TriByte.{TriByte}
@@ -41,7 +39,7 @@ use Rattle.abs_state.specs.Stands.{ByteStands}
 use Rattle.local_rules.specs.Registers.{value, bits, before}
 use Rattle.local_rules.specs.Local.{row_of, is_hung}
 use Rattle.local_rules.specs.Permitted.{may_be}
-use Rattle.local_laws.proofs.AllLaws.{open_pairs_hang, above_if_live, bare_frame, enabled_too, none_above, has_where_may, pair_permitted}
+use Rattle.local_laws.proofs.AllLaws.{open_pairs_hang, above_if_live, bare_frame, enabled_too, has_where_may, pair_permitted}
 use Rattle.edge_rules.specs.Families.{RankedFamily, IsSoundFamily}
 use Rattle.edge_rules.specs.Frames.{Frame, Runs}
 use Rattle.clear_laws.specs.Aims.{Aim, permits_number, may_write, aim_of}
@@ -59,7 +57,7 @@ use Rattle.clear_laws.proofs.Steps.{whole_sp, way_below}
 use Rattle.clear_laws.proofs.Kept.{Holding}
 use Rattle.local_rules.specs.Cover.{effect_by}
 use Rattle.local_rules.specs.Site.{Task, site_at, masks_by}
-use Rattle.clear_laws.specs.Clear.{store_at}
+use Rattle.clear_laws.specs.Clear.{Store, store_at}
 
 -- ---- the three cases
 
@@ -144,25 +142,6 @@ module _ (task : Task) (instr : Instr) (pc : ℕ) where
       (never (is_pointer_store instr && not (is_fixed_site task.flash task.assumptions pc) && is_flagged_write (device_of task.flash) task.assumptions pc a byte)
       (λ h. never_both _ (flagged_by_write s a byte has h) free))
 
-neither : (a b : Bool) → a ≡ false → b ≡ false → (a || b) ≡ false
-neither false b h g = g
-neither true b h g = absurd (cc)
-
-above_one : (has : Bool) (a n : ℕ) → n < a → (has && (a == n)) ≡ false
-above_one true a n lt = grind (arith, nat_tests)
-above_one false a n lt = refl
-
-above_core : (row : Row) (a : ℕ) → 0x5F < a → is_core_of row a ≡ false
-above_core row a lt =
-    neither _ _ (grind (arith, nat_tests))
-    (neither _ _ (above_one true a 0x5D (omega (arith, lt)))
-    (neither _ _ (above_one true a 0x5F lt)
-    (neither _ _ (above_one row.has_sph a 0x5E (omega (arith, lt)))
-    (neither _ _ (above_one row.has_elpm a 0x5B (omega (arith, lt))) (above_one row.has_eijmp a 0x5C (omega (arith, lt)))))))
-
-no_core : (device : Device) (a : ℕ) → io_end device < a → is_core device a ≡ false
-no_core device a lt = above_core (device_row device) a (omega (arith, lt, devices_are_alike.least_io device))
-
 -- an address that enables no vector enables no barred one
 none_barred : (ps : List EnablePlace) (a : ℕ) (p q : EnablePlace → Bool) → list_any (λ (x : EnablePlace). x.address == a) ps ≡ false
     → list_any (λ (x : EnablePlace). (x.address == a) && p x && q x) ps ≡ false
@@ -171,16 +150,27 @@ none_barred (x ∷ ps) a p q none =
     let parts = or_parts (x.address == a) (list_any (λ (x : EnablePlace). x.address == a) ps) none in
     or_from _ _ (and_left ((x.address == a) && p x) (q x) (and_left (x.address == a) (p x) parts.0)) (none_barred ps a p q parts.1)
 
-no_barred : (device : Device) (A : List Entry) (a : ℕ) (value : TriByte) → io_end device < a → may_enable_barred device A a value ≡ false
+no_barred : (device : Device) (A : List Entry) (a : ℕ) (value : TriByte) → guarded_end device < a → may_enable_barred device A a value ≡ false
 unfolding may_enable_barred has_enables
-no_barred device A a value lt = none_barred (enable_places device) a (λ (x : EnablePlace). may_enable value x) (λ (x : EnablePlace). is_barred device A x.vector) (none_above device a lt)
+no_barred device A a value lt = none_barred (enable_places device) a (λ (x : EnablePlace). may_enable value x) (λ (x : EnablePlace). is_barred device A x.vector) (nothing_is_behind.enables device a lt)
 
-pub unguarded : (device : Device) (A : List Entry) (site : ℕ) (value : TriByte) (a : ℕ) → io_end device < a → is_guarded device A site value a ≡ false
+unguarded : (device : Device) (A : List Entry) (site : ℕ) (value : TriByte) (a : ℕ) → guarded_end device < a → is_guarded device A site value a ≡ false
 unguarded device A site value a lt = by (admits_enables device A site)
   where
     by : (b : Bool) → (if b then is_core device a || may_enable_barred device A a value else is_protected device a && not (lists (store_line A site) a)) ≡ false
-    by true = or_from _ _ (no_core device a lt) (no_barred device A a value lt)
-    by false = and_left _ _ (or_from _ _ (no_core device a lt) (none_above device a lt))
+    by true = or_from _ _ (nothing_is_behind.core device a lt) (no_barred device A a value lt)
+    by false = and_left _ _ (or_from _ _ (nothing_is_behind.core device a lt) (nothing_is_behind.enables device a lt))
+
+-- a write is flagged as protected only within the guarded addresses
+pub flagged_within : (task : Task) (store : Store) (a : ℕ) → is_flagged_address task store a ≡ true → a < guarded_end (device_of task.flash) + 1
+flagged_within task store a h =
+    ⊎_elim (λ lt. lt)
+    (λ over.
+    absurd
+    (never_both (is_guarded (device_of task.flash) task.assumptions store.pc (stored_bits store.state store.instr) a)
+    (and_parts (is_pointer_store store.instr && not (is_fixed_site task.flash task.assumptions store.pc)) _ h).1
+    (unguarded (device_of task.flash) task.assumptions store.pc (stored_bits store.state store.instr) a (omega (arith, over)))))
+    (cases_lt a (guarded_end (device_of task.flash) + 1))
 
 and_false : (a b c : Bool) → c ≡ false → (a && b && c) ≡ false
 and_false a b c h = grind arith
@@ -259,7 +249,7 @@ module _ (task : Task) (f : RankedFamily) (sound : IsSoundFamily task f) (m : St
   low_base = base_inside task f m.memory gs k.inst g.origin runs.left
 
   top_small : top < 33280
-  top_small = omega (arith, devices_are_alike.most_bytes (device_of task.flash), devices_are_alike.most_io (device_of task.flash))
+  top_small = devices_are_alike.most_ramend (device_of task.flash)
 
   -- bytes at a whole stack pointer and below it aren't live
   sp_dead : IsSpWhole k.sp → is_live m.memory m.sp ≡ false
@@ -280,7 +270,7 @@ module _ (task : Task) (f : RankedFamily) (sound : IsSoundFamily task f) (m : St
 
   -- nothing is protected above I/O
   high_free : (instr : Instr) (a : ℕ) → below < a → is_flagged_address task (store_at k.pc g.node.state instr) a ≡ false
-  high_free instr a lt = and_false (is_pointer_store instr) (not (is_fixed_site task.flash task.assumptions k.pc)) _ (unguarded (device_of task.flash) task.assumptions k.pc (stored_bits g.node.state instr) a lt)
+  high_free instr a lt = and_false (is_pointer_store instr) (not (is_fixed_site task.flash task.assumptions k.pc)) _ (unguarded (device_of task.flash) task.assumptions k.pc (stored_bits g.node.state instr) a (omega (arith, lt, devices_are_alike.guarded_in (device_of task.flash))))
 
   -- a harmless address
   abbrev under : ℕ → Bool

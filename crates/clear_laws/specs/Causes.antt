@@ -5,7 +5,7 @@ use Rattle.avr_model.specs.declared.choice.Flag.TheVariants.{Live, Protected, Tr
 use Rattle.avr_model.specs.declared.device.Device.{Device}
 use Rattle.avr_model.specs.declared.instruction.Instr.{Instr}
 use Rattle.avr_model.specs.Bits.{any_below}
-use Rattle.avr_model.specs.Devices.{io_end, ramend, device_of}
+use Rattle.avr_model.specs.Devices.{guarded_end, ramend, device_of}
 use Rattle.avr_model.specs.Sites.{instruction_at}
 use Rattle.avr_model.specs.Step.{is_indirect}
 use Rattle.pair_domain.specs.Facts.{is_followed}
@@ -23,9 +23,9 @@ use Rattle.local_rules.specs.Site.{Task}
 abbrev pub may_write_protected : Task → Store → ℕ → Bool
 may_write_protected task store a = is_flagged_address task store a && may_write store.state store.instr a
 
--- some address may be flagged as protected; all such are below SRAM
+-- some address may be flagged as protected; none beyond the last guarded one is
 abbrev pub may_write_some_protected : Task → Store → Bool
-may_write_some_protected task store = any_below (io_end (device_of task.flash) + 1) (may_write_protected task store)
+may_write_some_protected task store = any_below (guarded_end (device_of task.flash) + 1) (may_write_protected task store)
 
 -- the store may reach an address that the stack can have by the bound: one of the last of SRAM
 abbrev pub may_write_stack : Device → ℕ → AbsState → Instr → Bool

@@ -102,7 +102,7 @@ pub data IsHarmless (task : Task) (f : RankedFamily) (n : Node) (instr : Instr) 
 -- The byte of the instruction may go to this address: `out` and `sts` write theirs, `st` and `std` what the pointer permits, unless it is
 -- known to be a slot of the running frame.
 abbrev pub may_reach : Device → NodeKey → AbsState → Instr → ℕ → Bool
-may_reach device k s (i.Out p r) a = port p == a
+may_reach device k s (i.Out p r) a = port device p == a
 may_reach device k s (i.Sts x r) a = x == a
 may_reach device k s (i.Std b q r) a = may_write s (i.Std b q r) a && not (is_own_slot (pointed (view_by device k) s (base_register b) q).frame (offset_of k.sp))
 may_reach device k s (i.St p r) a = may_write s (i.St p r) a && not (is_own_slot (pointed (view_by device k) s (pointer_register p) (step_before p)).frame (offset_of k.sp))
