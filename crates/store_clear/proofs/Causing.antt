@@ -16,7 +16,7 @@ use Rattle.avr_model.specs.declared.instruction.Instr.{Instr}
 use Rattle.avr_model.specs.Sites.{instruction_at}
 use Rattle.avr_model.specs.Step.{is_pointer_store, is_indirect, is_call}
 use Rattle.avr_model.specs.Assumptions.{is_fixed_site}
-use Rattle.avr_model.specs.Devices.{io_end, device_of}
+use Rattle.avr_model.specs.Devices.{guarded_end, device_of}
 use Rattle.abs_state.specs.declared.state.AbsState.{AbsState}
 use Rattle.node_keys.specs.declared.keys.NodeKey.{NodeKey}
 use Rattle.local_rules.specs.declared.local.Node.{Node}
@@ -26,7 +26,7 @@ use Rattle.certificate.specs.Claims.{Claim}
 use Rattle.certificate.specs.Valid.{family_of}
 use Rattle.clear_laws.specs.Clear.{IsClear, MayBeFlagged, is_transfer_listed, calls_cut, may_move, stored_bits, is_guarded, is_flagged_address}
 use Rattle.clear_laws.specs.Causes.{may_write_protected, may_write_live, IsCause}
-use Rattle.clear_laws.proofs.AllLaws.{not_listed, unlisted_goes, unguarded}
+use Rattle.clear_laws.proofs.AllLaws.{not_listed, unlisted_goes, flagged_within}
 use Rattle.clear_laws.specs.Reach.{is_on}
 use Rattle.clear_laws.specs.declared.slots.Condition.{Condition}
 use Rattle.clear_laws.specs.declared.place.FlaggedPlace.{FlaggedPlace}
@@ -77,7 +77,7 @@ module _ (task : Task) (nodes : List Node) (conditions : List Condition) (pc : �
 
   -- a node with this key has a condition left and is at the word, and a store there may write this address
   abbrev From : NodeKey → AbsState → Condition → ℕ → Type 0
-  From k s ask a = (is_unclear_at pc k ask ≡ true) × IsProtectedBelow task (store_at pc s instr) (io_end (device_of task.flash) + 1) a
+  From k s ask a = (is_unclear_at pc k ask ≡ true) × IsProtectedBelow task (store_at pc s instr) (guarded_end (device_of task.flash) + 1) a
 
   pub nodes_none : (marks : List Bool) → AreMarkedBeside (At 0) marks marks
   nodes_none marks = marks_none (At 0) marks (λ a t. let lt = t.1.below in omega (arith, lt))
@@ -110,10 +110,10 @@ module _ (task : Task) (nodes : List Node) (conditions : List Condition) (pc : �
 
   module _ (at : ℕ) (n : Node) (k : NodeKey) (s : AbsState) (ask : Condition) (old mid : List Bool) (is : slice_get nodes at ≡ Some n) (key : n.key ≡ k) (state : n.state ≡ s)
       (same : condition_at conditions at ≡ ask) (so : AreMarkedBeside (At at) old mid) where
-    pub nodes_marked : (new : List Bool) → is_unclear_at pc k ask ≡ true → AreMarkedBeside (IsProtectedBelow task (store_at pc s instr) (io_end (device_of task.flash) + 1)) mid new → AreMarkedBeside (At (at + 1)) old new
+    pub nodes_marked : (new : List Bool) → is_unclear_at pc k ask ≡ true → AreMarkedBeside (IsProtectedBelow task (store_at pc s instr) (guarded_end (device_of task.flash) + 1)) mid new → AreMarkedBeside (At (at + 1)) old new
     nodes_marked new e one =
         nodes_more at n k s ask old mid new is key state same so
-        (marks_as (IsProtectedBelow task (store_at pc s instr) (io_end (device_of task.flash) + 1)) (From k s ask) mid new (λ a t. (e, t)) (λ a t. t.1) one)
+        (marks_as (IsProtectedBelow task (store_at pc s instr) (guarded_end (device_of task.flash) + 1)) (From k s ask) mid new (λ a t. (e, t)) (λ a t. t.1) one)
 
   -- those that come next
   pub nodes_skipped : (start at : ℕ) (old new : List Bool) → IsNextAsk nodes conditions pc start at → AreMarkedBeside (At start) old new → AreMarkedBeside (At at) old new
@@ -248,15 +248,9 @@ module _ (task : Task) (c : Claim) (nodes : List Node) (conditions : List Condit
         moves = (λ h. absurd (never_true h), λ cause. absurd (none_without (λ n y. to_ivsel n y) is cause));
       }
 
-  -- only addresses below SRAM are guarded
-  protected_small : (s : AbsState) (instr : Instr) (a : ℕ) → may_write_protected task (store_at pc s instr) a ≡ true → a < io_end (device_of task.flash) + 1
-  protected_small s instr a h =
-      ⊎_elim (λ lt. lt)
-      (λ over.
-      absurd
-      (never_both (is_guarded (device_of task.flash) task.assumptions pc (stored_bits s instr) a)
-      (and_parts (is_pointer_store instr && not (is_fixed_site task.flash task.assumptions pc)) _ (left_of_and (is_flagged_address task (store_at pc s instr) a) _ h)).1
-      (unguarded (device_of task.flash) task.assumptions pc (stored_bits s instr) a (omega (arith, over))))) (cases_lt a (io_end (device_of task.flash) + 1))
+  -- only guarded addresses are flagged
+  protected_small : (s : AbsState) (instr : Instr) (a : ℕ) → may_write_protected task (store_at pc s instr) a ≡ true → a < guarded_end (device_of task.flash) + 1
+  protected_small s instr a h = flagged_within task (store_at pc s instr) a (left_of_and (is_flagged_address task (store_at pc s instr) a) _ h)
 
   module _ (instr : Instr) (is : instruction_at task.flash pc ≡ Some instr) (protected : List ℕ) (live moves : Bool)
       (exact : (a : ℕ) → Contains protected a ↔ IsProtectedAt task nodes conditions pc instr (length conditions) a) (sorted : IsStrictlySortedBy nat_cmp protected)

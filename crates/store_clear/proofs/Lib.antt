@@ -1,5 +1,4 @@
 pub mod Marks
-pub mod Io
 pub mod Scans
 pub mod Harmless
 pub mod Lists

@@ -1,7 +1,7 @@
 -- The causes at a word, node by node. Definitions for the contracts of internal functions.
 use Rattle.std.specs.Prelude.{ℕ, ◌+◌, ◌≡◌, ◌<◌, ◌==◌, ◌&&◌, ◌↔◌, Bool, true, not, List, [], map, Some, Contains, slice_get}
 use Rattle.avr_model.specs.declared.instruction.Instr.{Instr}
-use Rattle.avr_model.specs.Devices.{io_end, device_of}
+use Rattle.avr_model.specs.Devices.{guarded_end, device_of}
 use Rattle.node_keys.specs.declared.keys.NodeKey.{NodeKey}
 use Rattle.local_rules.specs.declared.local.Node.{Node}
 use Rattle.edge_rules.specs.Families.{RankedFamily}
@@ -23,9 +23,9 @@ use Rattle.store_clear.specs.declared.causes.Other.TheVariants.{Live, Moves}
 abbrev pub IsProtectedBelow : Task → Store → ℕ → ℕ → Type 0
 IsProtectedBelow task store count a = (a < count) × (may_write_protected task store a ≡ true)
 
--- so it may an address that is protected, all of which are below SRAM
+-- so it may an address that is protected, all of which are guarded ones
 abbrev pub IsProtectedWrite : Task → Store → ℕ → Type 0
-IsProtectedWrite task store a = IsProtectedBelow task store (io_end (device_of task.flash) + 1) a
+IsProtectedWrite task store a = IsProtectedBelow task store (guarded_end (device_of task.flash) + 1) a
 
 -- at each of these words a step may be flagged
 abbrev pub MayAllBeFlagged : Task → RankedFamily → List ℕ → Type 0
@@ -47,7 +47,7 @@ pub record PassesBelow (nodes : List Node) (conditions : List Condition) (pc : �
   pub passes : test node ≡ true
 
 abbrev pub IsProtectedAt : Task → List Node → List Condition → ℕ → Instr → ℕ → ℕ → Type 0
-IsProtectedAt task nodes conditions pc instr count a = (a < io_end (device_of task.flash) + 1) × PassesBelow nodes conditions pc (λ (n : Node). may_write_protected task (store_at pc n.state instr) a) count
+IsProtectedAt task nodes conditions pc instr count a = (a < guarded_end (device_of task.flash) + 1) × PassesBelow nodes conditions pc (λ (n : Node). may_write_protected task (store_at pc n.state instr) a) count
 
 -- a store at the node may write a pushed byte, or IVSEL may be set there
 abbrev pub may_happen : Task → ℕ → Other → ℕ → Instr → Node → Bool

@@ -3,7 +3,7 @@
 ghost use Rattle.std.specs.Prelude.{ℕ, ◌+◌, ◌≡◌, ◌≤◌, ◌↔◌, ◌||◌, true, length, Contains, IfOk};
 ghost use Rattle.std.specs.List.Sorted.{IsStrictlySortedBy};
 ghost use Rattle.std.specs.Ordering.{nat_cmp};
-ghost use Rattle.avr_model.specs.Devices.{device_of, io_end, size_of};
+ghost use Rattle.avr_model.specs.Devices.{device_of, guarded_end, size_of};
 ghost use Rattle.avr_model.specs.Step as steps;
 ghost use Rattle.certificate.specs.Valid.{family_of};
 ghost use Rattle.clear_laws.specs.Clear.{MayBeFlagged};
@@ -40,12 +40,11 @@ struct WordSite<'a> {
 }
 
 // Marks the addresses that a store may write and that are flagged as protected.
-#[tactic(auto, using(crate::proofs::Io::most_io))]
 fn mark_addresses(store: &GivenStore<'_, '_>, marks: &mut [bool])
-    requires { length marks.old ≡ io_end (device_of store.now.flash.now) + 1 }
+    requires { length marks.old ≡ guarded_end (device_of store.now.flash.now) + 1 }
     ensures { AreMarkedBeside (IsProtectedWrite (task_in store.now) (store_of store.now)) marks.old marks.new }
 {
-    for address in 0..store.flash.device().io_end() + 1 {
+    for address in 0..store.flash.device().guarded_end() + 1 {
         if may_write_protected(store, address) {
             marks[usize::from(address)] = true;
         }
@@ -56,7 +55,7 @@ fn mark_addresses(store: &GivenStore<'_, '_>, marks: &mut [bool])
 fn mark_nodes(task: &Task<'_>, told: &ListedNodes<'_>, site: &WordSite<'_>, marks: &mut [bool])
     requires same { length told.now.conditions.now ≡ length told.now.nodes.now }
     requires chain { IsAskChain told.now.nodes.now told.now.conditions.now site.now.pc site.now.first site.now.later.now }
-    requires all { length marks.old ≡ io_end (device_of task.now.flash.now) + 1 }
+    requires all { length marks.old ≡ guarded_end (device_of task.now.flash.now) + 1 }
     ensures { AreMarkedBeside (IsProtectedAt (task_of task.now) told.now.nodes.now told.now.conditions.now site.now.pc site.now.instr.now (length told.now.conditions.now)) marks.old marks.new }
 {
     let _count = told.nodes.count();
@@ -87,7 +86,7 @@ fn protected_of(
     ensures exact { IfOk result (λ list. (a : ℕ) → Contains list a ↔ IsProtectedAt (task_of task.now) told.now.nodes.now told.now.conditions.now site.now.pc site.now.instr.now (length told.now.conditions.now) a) }
     ensures ascending { IfOk result (λ list. IsStrictlySortedBy nat_cmp list) }
 {
-    let count = usize::from(task.flash.device().io_end()) + 1;
+    let count = usize::from(task.flash.device().guarded_end()) + 1;
     let mut marks = vec![in task.alloc; false; count]?;
     mark_nodes(task, told, site, marks.as_mut_slice());
     addresses(task.alloc, &marks)

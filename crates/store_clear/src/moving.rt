@@ -37,7 +37,7 @@ fn may_reach(device: Device, key: &NodeKey, state: &AbsState, instr: &Instr, add
     ensures { result ≡ may_reach device key.now state.now instr.now address }
 {
     match instr {
-        Instr::Out(at, _) => port(*at) == address,
+        Instr::Out(at, _) => port(device, *at) == address,
         Instr::Sts(only, _) => *only == address,
         Instr::Std(base, q, _) => {
             let view = SpView::of(device, key);

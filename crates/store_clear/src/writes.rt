@@ -46,11 +46,10 @@ pub(crate) fn may_write_protected(store: &GivenStore<'_, '_>, address: u16) -> b
 }
 
 // Whether some data address is so.
-#[tactic(auto, using(crate::proofs::Io::most_io))]
 fn may_write_some_protected(store: &GivenStore<'_, '_>) -> bool
     ensures { result ≡ may_write_some_protected (task_in store.now) (store_of store.now) }
 {
-    for address in 0..store.flash.device().io_end() + 1 {
+    for address in 0..store.flash.device().guarded_end() + 1 {
         if may_write_protected(store, address) {
             return true;
         }

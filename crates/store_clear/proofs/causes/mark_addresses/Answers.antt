@@ -1,5 +1,5 @@
 use Rattle.std.proofs.Common.{◌∙◌, ◌+◌, ◌<◌, ℕ, List, Bool, true, set, ap, subst, sym, length, arith}
-use Rattle.avr_model.specs.Devices.{io_end}
+use Rattle.avr_model.specs.Devices.{guarded_end}
 use Rattle.store_clear.specs.Takes.{AreMarkedBeside}
 use Rattle.store_clear.specs.Causing.{IsProtectedBelow}
 use Rattle.store_clear.proofs.Causing.{addresses_none, addresses_more, addresses_same}
@@ -14,7 +14,7 @@ pub loop-address-preserved : goal.loop-address-preserved
 loop-address-preserved c =
     let task = task_in c.args.store.now in
     let n = c.loop-address.address in
-    let lt : n < length c.loop-address.marks = omega (arith, c.loop-address-test.true, c.loop-address.invariant.same, c.requires, ap io_end c.device.ensures) in
+    let lt : n < length c.loop-address.marks = omega (arith, c.loop-address-test.true, c.loop-address.invariant.same, c.requires, ap guarded_end c.device.ensures) in
     elim c.if-may_write_protected.branch [
       | then-may_write_protected w ↦
           subst (λ (xs : List Bool). AreMarkedBeside (IsProtectedBelow task (store_of c.args.store.now) (n + 1)) c.args.marks.now xs)
