@@ -1,5 +1,5 @@
 -- Writes that set IVSEL.
-use Rattle.std.proofs.Common.{◌≡◌, ◌∙◌, sym, ap, refl, inl, inr, ℕ, ◌<◌, ◌≤◌, ◌==◌, ◌&&◌, ◌||◌, Bool, true, false, List, length, Option, Some, None, arith}
+use Rattle.std.proofs.Common.{◌≡◌, ◌∙◌, sym, ap, refl, inl, inr, ℕ, ◌+◌, ◌<◌, ◌≤◌, ◌==◌, ◌&&◌, ◌||◌, Bool, true, false, List, length, Option, Some, None, arith}
 use Rattle.std.specs.Prelude.{slice_index_or, slice_set}
 use Rattle.std.proofs.lemmas.Bool.{cases_Bool, cases_eq, and_parts, and_from, eq-eqb, ne_eqb}
 use Rattle.std.proofs.lemmas.List.{get_or-set_same, get_or-set_other}
@@ -8,7 +8,7 @@ use Rattle.avr_model.specs.declared.device.Device.{Device}
 use Rattle.avr_model.specs.declared.rows.Ivsel.{Ivsel}
 use Rattle.avr_model.specs.declared.assumption.Entry.{Entry}
 use Rattle.avr_model.specs.declared.effect.Write.{Write}
-use Rattle.avr_model.specs.Devices.{Image, device_row, device_of}
+use Rattle.avr_model.specs.Devices.{Image, device_row, device_of, io_base, guarded_end}
 use Rattle.avr_model.specs.Vectors.{is_core, is_bit_of, is_ivsel, sets_bit_of, sets_ivsel}
 use Rattle.avr_model.specs.Step.{moves_vectors}
 use Rattle.avr_model.proofs.AllLaws.{devices_are_alike, ivsel_is_apart}
@@ -37,11 +37,11 @@ unfolding has_ivsel
 at_itself d s is = ap (λ (o : Option Ivsel). is_at o s.address) is ∙ eq-eqb s.address s.address refl
 
 -- its address has room in the table of marks
-pub address_small : (d : Device) (s : Ivsel) → (device_row d).ivsel ≡ Some s → s.address < 512
+pub address_small : (d : Device) (s : Ivsel) → (device_row d).ivsel ≡ Some s → s.address < 4101
 address_small d s is =
     let b = has_there d s.address (at_itself d s is) in
     let reach = (ivsel_is_apart.reach d s.address b.0 b.1).1 in
-    let most = devices_are_alike.most_io d in
+    let most = devices_are_alike.most_guarded d in
     omega (arith, reach, most)
 
 or_true : (b : Bool) → true ≡ (b || true)
@@ -53,7 +53,7 @@ or_false true = refl
 or_false false = refl
 
 -- the address is marked, and no other
-pub marked_there : (d : Device) (s : Ivsel) (marks : List Bool) → (device_row d).ivsel ≡ Some s → length marks ≡ 512 → (a : ℕ)
+pub marked_there : (d : Device) (s : Ivsel) (marks : List Bool) → (device_row d).ivsel ≡ Some s → length marks ≡ 4101 → (a : ℕ)
     → slice_index_or (slice_set marks s.address true) a false ≡ (slice_index_or marks a false || has_ivsel d a)
 unfolding has_ivsel
 marked_there d s marks is count a =
@@ -91,23 +91,20 @@ pub moves : (image : Image) (A : List Entry) (w : Write) → sets_ivsel (device_
 unfolding moves_vectors
 moves image A w h = set_and (is_still image A) (sets_ivsel (device_of image) w.address w.byte) h
 
-outside : (d : Device) (a byte : ℕ) → (0x40 ≤ a → a < 0x0200 → ⊥) → false ≡ sets_ivsel d a byte
+outside : (d : Device) (a byte : ℕ) → (io_base d + 0x20 ≤ a → a ≤ guarded_end d → ⊥) → false ≡ sets_ivsel d a byte
 outside d a byte out = elim (cases_Bool (sets_ivsel d a byte)) [
   | inl set ↦
       let b = sets_there d a byte set in
       let reach = ivsel_is_apart.reach d a b.0 b.1 in
-      let most = devices_are_alike.most_io d in
-      let least = reach.0 in
-      let within = reach.1 in
-      absurd (out least (omega (arith, within, most)))
+      absurd (out reach.0 reach.1)
   | inr none ↦ sym none
 ]
 
-pub none_below : (d : Device) (a byte : ℕ) → a < 0x40 → false ≡ sets_ivsel d a byte
+pub none_below : (d : Device) (a byte : ℕ) → a < io_base d + 0x20 → false ≡ sets_ivsel d a byte
 none_below d a byte lt = outside d a byte (λ least most. omega (arith, lt, least))
 
-pub none_behind : (d : Device) (a byte : ℕ) → 0x0200 ≤ a → false ≡ sets_ivsel d a byte
-none_behind d a byte le = outside d a byte (λ least most. omega (arith, le, most))
+pub none_behind : (d : Device) (a byte : ℕ) → guarded_end d < a → false ≡ sets_ivsel d a byte
+none_behind d a byte lt = outside d a byte (λ least most. omega (arith, lt, most))
 
 pub none_core : (d : Device) (a byte : ℕ) → is_core d a ≡ true → false ≡ sets_ivsel d a byte
 none_core d a byte core = elim (cases_Bool (sets_ivsel d a byte)) [

@@ -37,22 +37,22 @@ st_answer image entries m instr b1 b2 p r is =
     (stored_answer image entries m (i.St p r) (store_effect m p r) (protected_at image entries m.pc (record { address = pointed p (pair m (pointer_register p)); byte = register m r })) refl refl refl (pointer_protected image entries m.pc (i.St p r) (store_effect m p r) _ refl refl))
 
 pub out_answer : (image : Image) (entries : List Entry) (m : State) (instr : Instr) (b1 b2 : ℕ) (a r : ℕ) → instr ≡ i.Out a r
-    → store_answer m None (moves_at image entries (record { address = port a; byte = register m r })) (out_effect m (port a) (register m r)) ≡ answer_to image entries m instr (effect_of image (is_still image entries) m instr b1 b2)
+    → store_answer m None (moves_at image entries (record { address = port m.device a; byte = register m r })) (out_effect m (port m.device a) (register m r)) ≡ answer_to image entries m instr (effect_of image (is_still image entries) m instr b1 b2)
 out_answer image entries m instr b1 b2 a r is =
-    subst (λ x. store_answer m None (moves_at image entries (record { address = port a; byte = register m r })) (out_effect m (port a) (register m r)) ≡ answer_to image entries m x (effect_of image (is_still image entries) m x b1 b2)) (sym is)
-    (stored_answer image entries m (i.Out a r) (out_effect m (port a) (register m r)) None refl refl refl (none_protected image entries m.pc (i.Out a r) (out_effect m (port a) (register m r)) refl))
+    subst (λ x. store_answer m None (moves_at image entries (record { address = port m.device a; byte = register m r })) (out_effect m (port m.device a) (register m r)) ≡ answer_to image entries m x (effect_of image (is_still image entries) m x b1 b2)) (sym is)
+    (stored_answer image entries m (i.Out a r) (out_effect m (port m.device a) (register m r)) None refl refl refl (none_protected image entries m.pc (i.Out a r) (out_effect m (port m.device a) (register m r)) refl))
 
 pub cbi_answer : (image : Image) (entries : List Entry) (m : State) (instr : Instr) (b1 b2 : ℕ) (a b : ℕ) → instr ≡ i.Cbi a b
-    → store_answer m None (moves_at image entries (record { address = port a; byte = with_bit (kept_byte m.device m.enables (port a)) b false })) (bit_effect m (port a) b false) ≡ answer_to image entries m instr (effect_of image (is_still image entries) m instr b1 b2)
+    → store_answer m None (moves_at image entries (record { address = port m.device a; byte = with_bit (kept_byte m.device m.enables (port m.device a)) b false })) (bit_effect m (port m.device a) b false) ≡ answer_to image entries m instr (effect_of image (is_still image entries) m instr b1 b2)
 cbi_answer image entries m instr b1 b2 a b is =
-    subst (λ x. store_answer m None (moves_at image entries (record { address = port a; byte = with_bit (kept_byte m.device m.enables (port a)) b false })) (bit_effect m (port a) b false) ≡ answer_to image entries m x (effect_of image (is_still image entries) m x b1 b2)) (sym is)
-    (stored_answer image entries m (i.Cbi a b) (bit_effect m (port a) b false) None refl refl refl (none_protected image entries m.pc (i.Cbi a b) (bit_effect m (port a) b false) refl))
+    subst (λ x. store_answer m None (moves_at image entries (record { address = port m.device a; byte = with_bit (kept_byte m.device m.enables (port m.device a)) b false })) (bit_effect m (port m.device a) b false) ≡ answer_to image entries m x (effect_of image (is_still image entries) m x b1 b2)) (sym is)
+    (stored_answer image entries m (i.Cbi a b) (bit_effect m (port m.device a) b false) None refl refl refl (none_protected image entries m.pc (i.Cbi a b) (bit_effect m (port m.device a) b false) refl))
 
 pub sbi_answer : (image : Image) (entries : List Entry) (m : State) (instr : Instr) (b1 b2 : ℕ) (a b : ℕ) → instr ≡ i.Sbi a b
-    → store_answer m None (moves_at image entries (record { address = port a; byte = with_bit (kept_byte m.device m.enables (port a)) b true })) (bit_effect m (port a) b true) ≡ answer_to image entries m instr (effect_of image (is_still image entries) m instr b1 b2)
+    → store_answer m None (moves_at image entries (record { address = port m.device a; byte = with_bit (kept_byte m.device m.enables (port m.device a)) b true })) (bit_effect m (port m.device a) b true) ≡ answer_to image entries m instr (effect_of image (is_still image entries) m instr b1 b2)
 sbi_answer image entries m instr b1 b2 a b is =
-    subst (λ x. store_answer m None (moves_at image entries (record { address = port a; byte = with_bit (kept_byte m.device m.enables (port a)) b true })) (bit_effect m (port a) b true) ≡ answer_to image entries m x (effect_of image (is_still image entries) m x b1 b2)) (sym is)
-    (stored_answer image entries m (i.Sbi a b) (bit_effect m (port a) b true) None refl refl refl (none_protected image entries m.pc (i.Sbi a b) (bit_effect m (port a) b true) refl))
+    subst (λ x. store_answer m None (moves_at image entries (record { address = port m.device a; byte = with_bit (kept_byte m.device m.enables (port m.device a)) b true })) (bit_effect m (port m.device a) b true) ≡ answer_to image entries m x (effect_of image (is_still image entries) m x b1 b2)) (sym is)
+    (stored_answer image entries m (i.Sbi a b) (bit_effect m (port m.device a) b true) None refl refl refl (none_protected image entries m.pc (i.Sbi a b) (bit_effect m (port m.device a) b true) refl))
 
 pub push_row : (image : Image) (entries : List Entry) (m : State) (instr : Instr) (b1 b2 : ℕ) (r : ℕ) → instr ≡ i.Push r
     → push_answer (not (is_scratch image m.pc || has_scratch entries m.pc)) m None (set m.sp (register m r)) (minus_sp m.device m.sp 1) (further m 1) ≡ answer_to image entries m instr (effect_of image (is_still image entries) m instr b1 b2)

@@ -14,7 +14,7 @@ use Rattle.avr_machine.proofs.Unheld.{IsSound}
 
 -- the addresses of the first k places are marked
 pub record AreMarked (ps : List EnablePlace) (k : ℕ) (marks : List Bool) : Type 0 where
-  pub count : length marks ≡ 512
+  pub count : length marks ≡ 4101
   pub each : (a : ℕ) → slice_index_or marks a false ≡ list_any (λ (p : EnablePlace). p.address == a) (take k ps)
 
 none_marked : (n a : ℕ) → slice_index_or (replicate n false) a false ≡ false
@@ -23,11 +23,11 @@ none_marked n a = elim (cases_lt a n) [
   | inr le ↦ get_or_past (replicate n false) a false (let e = length-replicate {A = Bool} n false in omega (arith, e, le))
 ]
 
-pub unmarked : (ps : List EnablePlace) (marks : List Bool) → marks ≡ replicate 512 false → AreMarked ps 0 marks
+pub unmarked : (ps : List EnablePlace) (marks : List Bool) → marks ≡ replicate 4101 false → AreMarked ps 0 marks
 unmarked ps marks is =
     record {
-      count = ap length is ∙ length-replicate 512 false;
-      each = λ a. ap (λ (t : List Bool). slice_index_or t a false) is ∙ none_marked 512 a;
+      count = ap length is ∙ length-replicate 4101 false;
+      each = λ a. ap (λ (t : List Bool). slice_index_or t a false) is ∙ none_marked 4101 a;
     }
 
 or_true : (b : Bool) → true ≡ (b || true)
@@ -39,14 +39,14 @@ or_false true = refl
 or_false false = refl
 
 -- the address of a place has room in the table
-pub address_small : (d : Device) (ps : List EnablePlace) (k address : ℕ) (e : EnablePlace) → ps ≡ enable_places d → k < length ps → address ≡ (get_or ps k e).address → address < 512
+pub address_small : (d : Device) (ps : List EnablePlace) (k address : ℕ) (e : EnablePlace) → ps ≡ enable_places d → k < length ps → address ≡ (get_or ps k e).address → address < 4101
 address_small d ps k address e is lt from =
     let sound : IsSound d (get_or ps k e) = All-get_or (IsSound d) ps k e lt (subst (All (IsSound d)) (sym is) (places_are_apart.each d)) in
-    let most = devices_are_alike.most_io d in
+    let most = devices_are_alike.most_guarded d in
     let le = sound.1.1.0 in
     omega (arith, most, le, from)
 
-pub marked_too : (ps : List EnablePlace) (k address : ℕ) (marks : List Bool) (e : EnablePlace) → k < length ps → address ≡ (get_or ps k e).address → address < 512
+pub marked_too : (ps : List EnablePlace) (k address : ℕ) (marks : List Bool) (e : EnablePlace) → k < length ps → address ≡ (get_or ps k e).address → address < 4101
     → AreMarked ps k marks → AreMarked ps (k + 1) (slice_set marks address true)
 marked_too ps k address marks e lt is small so_far =
     record {

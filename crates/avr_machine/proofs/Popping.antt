@@ -4,11 +4,14 @@ use Rattle.std.specs.Int.Bits.{bit_and}
 use Rattle.std.proofs.lemmas.Nat.{and_mask}
 use Rattle.avr_model.specs.declared.device.Device.{Device}
 use Rattle.avr_model.specs.declared.effect.Write.{Write}
-use Rattle.avr_model.specs.Devices.{back_of, has_sph, sp_count, wrapped}
+use Rattle.avr_model.specs.Devices.{io_base, back_of, has_sph, sp_count, wrapped}
 use Rattle.avr_model.specs.State.{State, plus_sp, minus_sp, read}
 use Rattle.avr_model.specs.Effects.{back_bytes, pushed_from, way_back, popped_from, popped_word, going_to, returning}
 use Rattle.avr_model.specs.Step.{after}
 use Rattle.avr_model.proofs.AllLaws.{devices_are_alike}
+
+pub most_base : (d : Device) (base : ℕ) → base ≡ io_base d → base ≤ 0x20
+most_base d base is = let most = devices_are_alike.most_base d in omega (arith, is, most)
 
 pub least_back : (d : Device) (back : ℕ) → back ≡ back_of d → 2 ≤ back
 least_back d back is = let least = devices_are_alike.least_back d in omega (arith, is, least)

@@ -11,22 +11,12 @@ use Rattle.vector_table.proofs.AllLaws as tables
 use Rattle.avr_model.specs.declared.device.Device.{Device}
 use Rattle.avr_model.specs.declared.rows.EnablePlace.{EnablePlace}
 use Rattle.avr_model.specs.Bits.{number_of}
-use Rattle.avr_model.specs.Devices.{io_end, has_sph, has_elpm, has_eijmp}
+use Rattle.avr_model.specs.Devices.{guarded_end}
 use Rattle.avr_model.specs.Vectors.{enable_places, enable_count, has_enables, enable_place_at, written_enable, written_enables, with_enable, io_bit, io_byte, kept_byte, is_vector, is_core, is_protected}
-use Rattle.avr_model.proofs.AllLaws.{devices_are_alike, places_are_apart}
-
--- places are in I/O
-none_above : (io : ℕ) (P : EnablePlace → Type 0) → ((p : EnablePlace) → P p → p.address ≤ io) → (ps : List EnablePlace) (a : ℕ) → io < a → All P ps → list_any (λ (p : EnablePlace). p.address == a) ps ≡ false
-none_above io P in_io [] a above all = refl
-none_above io P in_io (p ∷ ps) a above all =
-    rw (ne_eqb p.address a (λ same. let le = in_io p (All-head P p ps all) in absurd (omega arith))) (none_above io P in_io ps a above (All-tail P p ps all))
+use Rattle.avr_model.proofs.AllLaws.{nothing_is_behind}
 
 abbrev pub IsSound : Device → EnablePlace → Type 0
-IsSound device p = (is_vector device p.vector ≡ true) × ((is_core device p.address ≡ false) × ((p.address ≤ io_end device) × (p.mask < 256)))
-
-pub none_in_sram : (device : Device) (a : ℕ) → io_end device < a → has_enables device a ≡ false
-unfolding has_enables
-none_in_sram device a above = none_above (io_end device) (IsSound device) (λ p h. h.1.1.0) (enable_places device) a above (places_are_apart.each device)
+IsSound device p = (is_vector device p.vector ≡ true) × ((is_core device p.address ≡ false) × ((p.address ≤ guarded_end device) × (p.mask < 256)))
 
 -- every bit of the byte there is the input's
 pub free_byte : (device : Device) (still : Bool) (enables address input : ℕ) → input < 256 → (has_enables device address || has_ivsel device address) ≡ false
@@ -51,17 +41,8 @@ enables_stay device enables address byte small none =
     let same : (k : ℕ) → bit_at enables k ≡ f k = λ k i. written_enable (sym (enables_are_vectors.none device (k + 2) address here) i) byte (bit_at enables k) in
     numbers_are_their_bits.same (enable_count device) enables f small (λ k lt. same k)
 
-core_above : (high elpm eijmp : Bool) (a : ℕ) → 0x5F < a
-    → (nat_lt a 0x20 || ((a == 0x5D) || ((a == 0x5F) || ((high && (a == 0x5E)) || ((elpm && (a == 0x5B)) || (eijmp && (a == 0x5C))))))) ≡ false
-core_above high elpm eijmp a above = grind (arith, nat_tests)
-
-core_below : (device : Device) (a : ℕ) → 0x5F < a → is_core device a ≡ false
-core_below device a above = core_above (has_sph device) (has_elpm device) (has_eijmp device) a above
-
-pub none_protected : (device : Device) (a : ℕ) → io_end device < a → is_protected device a ≡ false
-none_protected device a above =
-    let least = devices_are_alike.least_io device in
-    ap (λ (b : Bool). b || has_enables device a) (core_below device a (omega arith)) ∙ none_in_sram device a above
+pub none_protected : (device : Device) (a : ℕ) → guarded_end device < a → is_protected device a ≡ false
+none_protected device a behind = ap (λ (b : Bool). b || has_enables device a) (nothing_is_behind.core device a behind) ∙ nothing_is_behind.enables device a behind
 
 -- enable bits stay few
 pub written_small : (device : Device) (x enables address byte : ℕ) → x ≡ written_enables device enables address byte → x < 2 ^ enable_count device

@@ -1,16 +1,16 @@
 //! A device with marks of the data addresses at which its vectors are enabled or moved, and with the shape of its stack.
 
-ghost use Rattle.std.specs.Prelude.{◌≡◌, ◌≤◌, ◌+◌, ◌||◌, ℕ, false, slice_index_or};
-ghost use Rattle.avr_model.specs.Devices.{back_of, has_sph, sp_count};
-ghost use Rattle.avr_model.specs.State.{plus_sp, minus_sp};
+ghost use Rattle.std.specs.Prelude.{◌≡◌, ◌==◌, ◌<◌, ◌≤◌, ◌+◌, ◌||◌, ℕ, false, slice_index_or, IfSome};
+ghost use Rattle.avr_model.specs.Devices.{io_base, back_of, has_sph, sp_count, sreg_address};
+ghost use Rattle.avr_model.specs.State.{REGISTERS, register_at, special, plus_sp, minus_sp};
 ghost use Rattle.avr_model.specs.Vectors.{has_enables};
 ghost use Rattle.vector_table.specs.Moving.{has_ivsel};
 
-use avr_model::device::Device;
+use avr_model::device::{Device, EIND, GUARDED, RAMPZ, Special};
 use std::marker::Model;
 
-// The data addresses that may have a mark: I/O of every device ends below.
-const MARKS: usize = 512;
+// The data addresses that may have a mark.
+const MARKS: usize = GUARDED as usize;
 
 /// A device with a mark for each data address that has an enable bit or IVSEL, and with the numbers of its stack, so that few look-ups go
 /// through the tables. Seen as the device.
@@ -18,6 +18,8 @@ const MARKS: usize = 512;
 pub struct MarkedDevice {
     device: Device,
     marks: [bool; MARKS],
+    // The data address of I/O address 0.
+    base: u16,
     back: u8,
     // The greatest stack pointer: a mask of stack pointers.
     top: u16,
@@ -26,7 +28,7 @@ pub struct MarkedDevice {
 impl Model for MarkedDevice {
     ghost use Rattle.std.specs.Prelude.{ℕ, ◌≡◌, ◌+◌, ◌||◌, false, slice_index_or};
     ghost use Rattle.avr_model.specs.declared.device.Device.{Device};
-    ghost use Rattle.avr_model.specs.Devices.{back_of, sp_count};
+    ghost use Rattle.avr_model.specs.Devices.{io_base, back_of, sp_count};
     ghost use Rattle.avr_model.specs.Vectors.{has_enables};
     ghost use Rattle.vector_table.specs.Moving.{has_ivsel};
 
@@ -34,7 +36,7 @@ impl Model for MarkedDevice {
 
     ghost view = { λ m. m.device };
 
-    ghost invariant = { λ m. ((a : ℕ) → slice_index_or m.marks a false ≡ (has_enables m.device a || has_ivsel m.device a)) × (m.back ≡ back_of m.device) × (m.top + 1 ≡ sp_count m.device) };
+    ghost invariant = { λ m. ((a : ℕ) → slice_index_or m.marks a false ≡ (has_enables m.device a || has_ivsel m.device a)) × (m.base ≡ io_base m.device) × (m.back ≡ back_of m.device) × (m.top + 1 ≡ sp_count m.device) };
 }
 
 // Marks the address of IVSEL, too.
@@ -67,6 +69,7 @@ impl MarkedDevice {
         MarkedDevice {
             device,
             marks,
+            base: device.io_base(),
             back: device.back(),
             top: greatest_sp(device),
         }
@@ -78,6 +81,7 @@ impl MarkedDevice {
     {
         self.device = other.device;
         self.marks = other.marks;
+        self.base = other.base;
         self.back = other.back;
         self.top = other.top;
     }
@@ -88,6 +92,59 @@ impl MarkedDevice {
         ensures { result ≡ self.now }
     {
         self.device
+    }
+
+    /// The data address of I/O address 0, at most 0x20.
+    #[tactic(auto, using(crate::proofs::Popping::most_base))]
+    #[inline(always)]
+    pub fn io_base(&self) -> u16
+        ensures exact { result ≡ io_base self.now }
+        ensures most { result ≤ 0x20 }
+    {
+        self.base
+    }
+
+    /// The register at a data address: r0 to r31 where they have data addresses, RAMPZ or EIND.
+    #[inline(always)]
+    pub fn register_at(&self, address: u16) -> Option<u16>
+        ensures exact { result ≡ register_at self.now address }
+        ensures small { IfSome result (λ r. r < REGISTERS) }
+    {
+        let base = self.io_base();
+        if address < base {
+            Some(address)
+        } else if address == base + 0x3B && self.device.has_elpm() {
+            Some(RAMPZ)
+        } else if address == base + 0x3C && self.device.has_eijmp() {
+            Some(EIND)
+        } else {
+            None
+        }
+    }
+
+    /// What a data address is of the stack pointer and the status register.
+    #[inline(always)]
+    pub fn special(&self, address: u16) -> Option<Special>
+        ensures { result ≡ special self.now address }
+    {
+        let base = self.io_base();
+        if address == base + 0x3D {
+            Some(Special::Spl)
+        } else if address == base + 0x3E && self.has_sph() {
+            Some(Special::Sph)
+        } else if address == base + 0x3F {
+            Some(Special::Sreg)
+        } else {
+            None
+        }
+    }
+
+    /// Whether a data address is the status register's.
+    #[inline(always)]
+    pub fn is_sreg(&self, address: u16) -> bool
+        ensures { result ≡ (address == sreg_address self.now) }
+    {
+        address == self.io_base() + 0x3F
     }
 
     /// The number of bytes in which a word address is pushed, 2 or 3.

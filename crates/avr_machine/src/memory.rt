@@ -50,7 +50,7 @@ impl Model for Memory {
 
     ghost view = { λ m. record { below = m.below; bytes = take m.size m.bytes; live = take m.size m.live } };
 
-    ghost invariant = { λ m. (m.below ≤ 0x1FF) × (m.size ≤ 32768) × (take m.floor m.live ≡ replicate m.floor false) };
+    ghost invariant = { λ m. (m.below ≤ 0x77FF) × (m.size ≤ 32768) × (take m.floor m.live ≡ replicate m.floor false) };
 }
 
 impl Memory {

@@ -17,7 +17,7 @@ use crate::processor::Processor;
 use crate::transfers::pointed;
 use avr_decode::pointer_register;
 use avr_model::choice::StepResult;
-use avr_model::device::{I, IO, SREG};
+use avr_model::device::I;
 use avr_model::effect::Write;
 use avr_model::instruction::Pointer;
 
@@ -88,17 +88,17 @@ impl Processor {
     fn turns_on(&self, address: u16, byte: u8) -> bool
         ensures { result ≡ delay_of_out self.now address byte }
     {
-        address == SREG && has_bit(byte, I) && !self.flag(I)
+        self.device.is_sreg(address) && has_bit(byte, I) && !self.flag(I)
     }
 
     /// `out`. If it sets I, one more instruction executes before any interrupt (own for `out`).
     pub fn output(&mut self, firmware: &Firmware<'_>, address: u16, r: u16) -> StepResult
         requires address { address < 64 }
         requires r { r < 32 }
-        ensures answer { result ≡ result_of (store_answer self.old None (moves_at firmware.now.flash.now firmware.now.assumptions.now (record { address = port address; byte = register self.old r })) (out_effect self.old (port address) (register self.old r))) }
-        ensures state { self.new ≡ state_after self.old (store_answer self.old None (moves_at firmware.now.flash.now firmware.now.assumptions.now (record { address = port address; byte = register self.old r })) (out_effect self.old (port address) (register self.old r))) }
+        ensures answer { result ≡ result_of (store_answer self.old None (moves_at firmware.now.flash.now firmware.now.assumptions.now (record { address = port self.old.device address; byte = register self.old r })) (out_effect self.old (port self.old.device address) (register self.old r))) }
+        ensures state { self.new ≡ state_after self.old (store_answer self.old None (moves_at firmware.now.flash.now firmware.now.assumptions.now (record { address = port self.old.device address; byte = register self.old r })) (out_effect self.old (port self.old.device address) (register self.old r))) }
     {
-        let address = IO + address;
+        let address = self.port(address);
         let byte = self.register(r);
         let next = self.further(1);
         let delay = self.turns_on(address, byte);
@@ -116,10 +116,10 @@ impl Processor {
     ) -> StepResult
         requires address { address < 64 }
         requires index { index < 8 }
-        ensures answer { result ≡ result_of (store_answer self.old None (moves_at firmware.now.flash.now firmware.now.assumptions.now (record { address = port address; byte = with_bit (kept_byte self.old.device self.old.enables (port address)) index on })) (bit_effect self.old (port address) index on)) }
-        ensures state { self.new ≡ state_after self.old (store_answer self.old None (moves_at firmware.now.flash.now firmware.now.assumptions.now (record { address = port address; byte = with_bit (kept_byte self.old.device self.old.enables (port address)) index on })) (bit_effect self.old (port address) index on)) }
+        ensures answer { result ≡ result_of (store_answer self.old None (moves_at firmware.now.flash.now firmware.now.assumptions.now (record { address = port self.old.device address; byte = with_bit (kept_byte self.old.device self.old.enables (port self.old.device address)) index on })) (bit_effect self.old (port self.old.device address) index on)) }
+        ensures state { self.new ≡ state_after self.old (store_answer self.old None (moves_at firmware.now.flash.now firmware.now.assumptions.now (record { address = port self.old.device address; byte = with_bit (kept_byte self.old.device self.old.enables (port self.old.device address)) index on })) (bit_effect self.old (port self.old.device address) index on)) }
     {
-        let address = IO + address;
+        let address = self.port(address);
         let byte = with_bit(self.kept_byte(address), index, on);
         let onward = Onward {
             pc: self.further(1),
