@@ -1,11 +1,12 @@
 -- The list of words at which a step may be flagged is unique.
-use Rattle.std.proofs.Common.{◌≡◌, refl, sym, ap, ap₂, ◌∙◌, subst, ℕ, ◌<◌, ⊎_elim, Bool, true, false, List, [], ◌∷◌, map, Contains, arith}
+use Rattle.std.proofs.Common.{◌≡◌, refl, sym, ap, ap₂, ◌∙◌, subst, ℕ, ◌<◌, ⊎_elim, Bool, true, false, List, [], ◌∷◌, map, Option, Some, None, Contains, arith}
 use Rattle.std.specs.Prelude.{◌↔◌}
 use Rattle.std.specs.List.{AllByRecursion}
 use Rattle.std.specs.List.Sorted.{IsStrictlySortedBy}
 use Rattle.std.specs.Ordering.{nat_cmp}
 use Rattle.std.specs.declared.cmp.Ordering.TheVariants.{Less}
 use Rattle.std.proofs.lemmas.Bool.Decides.{nat_tests}
+use Rattle.std.proofs.lemmas.Option.{same_Some}
 use Rattle.basics.specs.Items.{none_in, first_in, further_in, first_or_further, contained_at}
 use Rattle.avr_model.specs.Devices.{Image}
 use Rattle.basics.specs.Lists.{same_head_and_tail}
@@ -18,6 +19,9 @@ use Rattle.clear_laws.specs.Clear.{IsClear, MayBeFlagged, MayBeTaken}
 use Rattle.clear_laws.specs.Causes.{MayWriteLive, MayGoUnlisted, MayMove}
 use Rattle.clear_laws.specs.declared.verdict.ClearVerdict.TheVariants.{Clear, Unclear}
 use Rattle.clear_laws.specs.declared.place.FlaggedPlace.{FlaggedPlace}
+use Rattle.clear_laws.specs.declared.stores.PointerNumbers.{PointerNumbers}
+use Rattle.clear_laws.specs.declared.stores.PointerPair.{PointerPair}
+use Rattle.clear_laws.specs.Pointers.{pointer_of, MayHoldNumber, AreNumbersAt, IsPointerAt}
 use Rattle.clear_laws.specs.Verdict.{AreAllClear, IsFirstUnclear, AreSites, AreNevers}
 use Rattle.clear_laws.specs.Places.{word_of, IsPlaceOf}
 use Rattle.clear_laws.specs.ListLaws.{SitesAreOne, PlacesAreOne, NeversAreOne, ClearWhereNoSites}
@@ -78,21 +82,56 @@ same_test P false false h g = refl
 same_test P true false h g = sym (g.1 (h.0 refl))
 same_test P false true h g = h.1 (g.0 refl)
 
-abbrev flagged_place : ℕ → List ℕ → Bool → Bool → Bool → FlaggedPlace
-flagged_place word protected live transfer moves = record { word = word; protected = protected; live = live; transfer = transfer; moves = moves }
+abbrev pointer_numbers : PointerPair → ℕ → ℕ → PointerNumbers
+pointer_numbers p first last = record { pair = p; numbers = record { first = first; last = last } }
+
+abbrev flagged_place : ℕ → List ℕ → Bool → Bool → Bool → Option PointerNumbers → FlaggedPlace
+flagged_place word protected live transfer moves pointer =
+    record { word = word; protected = protected; live = live; transfer = transfer; moves = moves; pointer = pointer }
 
 module _ (task : Task) (f : RankedFamily) where
+  -- the pointer is that of the one instruction there
+  one_pair : (pc : ℕ) (p q : PointerPair) (m n : ℕ) → MayHoldNumber task f pc p m → MayHoldNumber task f pc q n → p ≡ q
+  one_pair pc p q m n h k =
+      let instr : h.instr ≡ k.instr = same_Some h.instr k.instr (sym h.instruction ∙ k.instruction) in
+      same_Some p q (sym h.pointer ∙ ap pointer_of instr ∙ k.pointer)
+
+  same_numbers : (pc : ℕ) (x y : PointerNumbers) → AreNumbersAt task f pc x → AreNumbersAt task f pc y → x ≡ y
+  same_numbers pc x y h k =
+      let pair : x.pair ≡ y.pair = one_pair pc x.pair y.pair x.numbers.first y.numbers.first h.first k.first in
+      let to : (n : ℕ) → MayHoldNumber task f pc x.pair n → MayHoldNumber task f pc y.pair n = λ n. subst (λ p. MayHoldNumber task f pc p n) pair in
+      let from : (n : ℕ) → MayHoldNumber task f pc y.pair n → MayHoldNumber task f pc x.pair n = λ n. subst (λ p. MayHoldNumber task f pc p n) (sym pair) in
+      let least_x = h.least y.numbers.first (from y.numbers.first k.first) in
+      let least_y = k.least x.numbers.first (to x.numbers.first h.first) in
+      let greatest_x = h.greatest y.numbers.last (from y.numbers.last k.last) in
+      let greatest_y = k.greatest x.numbers.last (to x.numbers.last h.last) in
+      let first : x.numbers.first ≡ y.numbers.first = omega (arith, least_x, least_y) in
+      let last : x.numbers.last ≡ y.numbers.last = omega (arith, greatest_x, greatest_y) in
+      ap (λ (p : PointerPair). pointer_numbers p x.numbers.first x.numbers.last) pair ∙ ap (λ n. pointer_numbers y.pair n x.numbers.last) first
+      ∙ ap (λ n. pointer_numbers y.pair y.numbers.first n) last
+
+  one_pointer : (pc : ℕ) (x y : Option PointerNumbers) → IsPointerAt task f pc x → IsPointerAt task f pc y → x ≡ y
+  one_pointer pc None None h k = refl
+  one_pointer pc None (Some y) h k = absurd (h y.pair y.numbers.first k.first)
+  one_pointer pc (Some x) None h k = absurd (k x.pair x.numbers.first h.first)
+  one_pointer pc (Some x) (Some y) h k = ap (λ (p : PointerNumbers). Some p) (same_numbers pc x y h k)
+
   one_place : (x y : FlaggedPlace) → x.word ≡ y.word → IsPlaceOf task f x → IsPlaceOf task f y → x ≡ y
   one_place x y e h k =
-      let here : IsPlaceOf task f (flagged_place x.word y.protected y.live y.transfer y.moves) = subst (λ w. IsPlaceOf task f (flagged_place w y.protected y.live y.transfer y.moves)) (sym e) k in
+      let here : IsPlaceOf task f (flagged_place x.word y.protected y.live y.transfer y.moves y.pointer) =
+      subst (λ w. IsPlaceOf task f (flagged_place w y.protected y.live y.transfer y.moves y.pointer)) (sym e) k in
       let protected : x.protected ≡ y.protected =
       same_lists x.protected y.protected h.ascending here.ascending (λ a m. (here.protected a).1 ((h.protected a).0 m)) (λ a m. (h.protected a).1 ((here.protected a).0 m)) in
       let live : x.live ≡ y.live = same_test (MayWriteLive task f x.word) x.live y.live h.live here.live in
       let transfer : x.transfer ≡ y.transfer = same_test (MayGoUnlisted task f x.word) x.transfer y.transfer h.transfer here.transfer in
       let moves : x.moves ≡ y.moves = same_test (MayMove task f x.word) x.moves y.moves h.moves here.moves in
-      ap (λ w. flagged_place w x.protected x.live x.transfer x.moves) e ∙ ap (λ l. flagged_place y.word l x.live x.transfer x.moves) protected
-      ∙ ap (λ t. flagged_place y.word y.protected t x.transfer x.moves) live ∙ ap (λ t. flagged_place y.word y.protected y.live t x.moves) transfer
-      ∙ ap (λ t. flagged_place y.word y.protected y.live y.transfer t) moves
+      let pointer : x.pointer ≡ y.pointer = one_pointer x.word x.pointer y.pointer h.pointer here.pointer in
+      ap (λ w. flagged_place w x.protected x.live x.transfer x.moves x.pointer) e
+      ∙ ap (λ l. flagged_place y.word l x.live x.transfer x.moves x.pointer) protected
+      ∙ ap (λ t. flagged_place y.word y.protected t x.transfer x.moves x.pointer) live
+      ∙ ap (λ t. flagged_place y.word y.protected y.live t x.moves x.pointer) transfer
+      ∙ ap (λ t. flagged_place y.word y.protected y.live y.transfer t x.pointer) moves
+      ∙ ap (λ t. flagged_place y.word y.protected y.live y.transfer y.moves t) pointer
 
   same_places : (xs ys : List FlaggedPlace) → map word_of xs ≡ map word_of ys → ((p : FlaggedPlace) → Contains xs p → IsPlaceOf task f p)
       → ((p : FlaggedPlace) → Contains ys p → IsPlaceOf task f p) → xs ≡ ys

@@ -2,6 +2,7 @@ pub mod Held
 pub mod Aims
 pub mod Clear
 pub mod Causes
+pub mod Pointers
 pub mod StepLaws
 pub mod Reach
 pub mod Needs

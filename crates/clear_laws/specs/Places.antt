@@ -11,19 +11,21 @@ use Rattle.certificate.specs.Claims.{Claim}
 use Rattle.certificate.specs.Valid.{family_of}
 use Rattle.clear_laws.specs.Causes.{MayWriteProtected, MayWriteLive, MayGoUnlisted, MayMove}
 use Rattle.clear_laws.specs.declared.place.FlaggedPlace.{FlaggedPlace}
+use Rattle.clear_laws.specs.Pointers.{IsPointerAt}
 use Rattle.clear_laws.specs.Verdict.{AreSites}
 use Rattle.local_rules.specs.Site.{Task}
 
 abbrev pub word_of : FlaggedPlace → ℕ
 word_of place = place.word
 
--- exactly the causes at its word, by some node of the family that isn't clear
+-- exactly the causes at its word, by some node of the family that isn't clear; and the numbers of its pointer, by all nodes there
 pub record IsPlaceOf (task : Task) (f : RankedFamily) (place : FlaggedPlace) : Type 0 where
   pub ascending : IsStrictlySortedBy nat_cmp place.protected
   pub protected : (a : ℕ) → Contains place.protected a ↔ MayWriteProtected task f place.word a
   pub live : (place.live ≡ true) ↔ MayWriteLive task f place.word
   pub transfer : (place.transfer ≡ true) ↔ MayGoUnlisted task f place.word
   pub moves : (place.moves ≡ true) ↔ MayMove task f place.word
+  pub pointer : IsPointerAt task f place.word place.pointer
 
 -- exactly the words at which some node of the certificate isn't clear, once each and ascending, with their causes
 pub record ArePlaces (task : Task) (c : Claim) (places : List FlaggedPlace) : Type 0 where

@@ -1,5 +1,6 @@
 //! A word at which a step may be flagged, with its causes.
 
+use crate::stores::PointerNumbers;
 use avr_model::listed::Listed;
 
 /// A word address at which a step may be flagged, with the causes.
@@ -15,4 +16,6 @@ pub struct FlaggedPlace {
     pub transfer: bool,
     /// Whether IVSEL may be set.
     pub moves: bool,
+    /// The numbers that the pointer of a store, jump or call may have there, by all nodes; None without a pointer or a number.
+    pub pointer: Option<PointerNumbers>,
 }

@@ -1,4 +1,4 @@
-//! The address of a store.
+//! The address of a store, and the numbers of a pointer.
 
 /// Addresses from the first to the last.
 #[derive(Clone, Copy)]
@@ -27,4 +27,24 @@ pub struct Aim {
     pub reach: Reach,
     /// Its slot of the running frame, if it is known.
     pub slot: Option<u16>,
+}
+
+/// A register pair through which an instruction stores, jumps or calls.
+#[derive(Clone, Copy)]
+pub enum PointerPair {
+    /// r26 and r27.
+    X,
+    /// r28 and r29.
+    Y,
+    /// r30 and r31.
+    Z,
+}
+
+/// The numbers that a pointer may have.
+#[derive(Clone, Copy)]
+pub struct PointerNumbers {
+    /// Its register pair.
+    pub pair: PointerPair,
+    /// From the least to the greatest of them.
+    pub numbers: Span,
 }
