@@ -1,5 +1,5 @@
 -- Causes at a word, node by node.
-use Rattle.std.proofs.Common.{◌≡◌, refl, sym, ap, ap₂, ◌∙◌, subst, ℕ, ◌+◌, ◌<◌, ◌⊎◌, inl, inr, ⊎_elim, ◌==◌, ◌&&◌, ◌||◌, Bool, true, false, not, List, [], ◌∷◌, ◌++◌, length, take, get_or, set, replicate, Some, None, slice_get, Contains, eqb-true, arith}
+use Rattle.std.proofs.Common.{◌≡◌, refl, sym, ap, ap₂, ◌∙◌, subst, ℕ, ◌+◌, ◌<◌, ◌⊎◌, inl, inr, ⊎_elim, ◌==◌, ◌&&◌, ◌||◌, Bool, true, false, not, List, [], ◌∷◌, ◌++◌, length, take, get_or, set, replicate, Option, Some, None, slice_get, Contains, eqb-true, arith}
 use Rattle.std.specs.Prelude.{◌↔◌}
 use Rattle.std.specs.List.Sorted.{IsStrictlySortedBy}
 use Rattle.std.specs.Ordering.{nat_cmp}
@@ -30,9 +30,11 @@ use Rattle.clear_laws.proofs.AllLaws.{not_listed, unlisted_goes, flagged_within}
 use Rattle.clear_laws.specs.Reach.{is_on}
 use Rattle.clear_laws.specs.declared.slots.Condition.{Condition}
 use Rattle.clear_laws.specs.declared.place.FlaggedPlace.{FlaggedPlace}
+use Rattle.clear_laws.specs.declared.stores.PointerNumbers.{PointerNumbers}
 use Rattle.clear_laws.specs.Places.{word_of, IsPlaceOf, ArePlaces}
 use Rattle.clear_laws.specs.Verdict.{AreSites}
 use Rattle.store_clear.specs.Conditions.{condition_at, is_discharged, HasConditionsLeft, places_of}
+use Rattle.store_clear.specs.Pointers.{IsPointerOf}
 use Rattle.store_clear.specs.Takes.{AreMarkedBeside}
 use Rattle.store_clear.specs.Causing.{IsProtectedBelow, is_unclear_at, PassesBelow, IsProtectedAt, may_happen, HappensAt, ArePlacesOf}
 use Rattle.store_clear.specs.declared.causes.Other.{Other}
@@ -237,7 +239,7 @@ module _ (task : Task) (c : Claim) (nodes : List Node) (conditions : List Condit
   abbrev to_ivsel : Node → Instr → Bool
   to_ivsel n y = may_move task n.key n.state y
 
-  pub nothing_there : instruction_at task.flash pc ≡ None → IsPlaceOf task f (record { word = pc; protected = []; live = false; transfer = false; moves = false })
+  pub nothing_there : instruction_at task.flash pc ≡ None → IsPlaceOf task f (record { word = pc; protected = []; live = false; transfer = false; moves = false; pointer = None })
   unfolding IsStrictlySortedBy
   nothing_there is =
       record {
@@ -246,6 +248,7 @@ module _ (task : Task) (c : Claim) (nodes : List Node) (conditions : List Condit
         live = (λ h. absurd (never_true h), λ cause. absurd (none_without (λ n y. onto_live n y) is cause));
         transfer = (λ h. absurd (never_true h), λ cause. absurd (none_without (λ n y. unlisted n y) is cause));
         moves = (λ h. absurd (never_true h), λ cause. absurd (none_without (λ n y. to_ivsel n y) is cause));
+        pointer = λ p n h. let no : None ≡ Some h.instr = sym is ∙ h.instruction in cc;
       }
 
   -- only guarded addresses are flagged
@@ -255,8 +258,9 @@ module _ (task : Task) (c : Claim) (nodes : List Node) (conditions : List Condit
   module _ (instr : Instr) (is : instruction_at task.flash pc ≡ Some instr) (protected : List ℕ) (live moves : Bool)
       (exact : (a : ℕ) → Contains protected a ↔ IsProtectedAt task nodes conditions pc instr (length conditions) a) (sorted : IsStrictlySortedBy nat_cmp protected)
       (alive : (live ≡ true) ↔ HappensAt task c.bound Live nodes conditions pc instr (length conditions))
-      (moving : (moves ≡ true) ↔ HappensAt task c.bound Moves nodes conditions pc instr (length conditions)) (site : MayBeFlagged task f pc) where
-    pub place_given : IsPlaceOf task f (record { word = pc; protected = protected; live = live; transfer = is_indirect instr || is_call instr; moves = moves })
+      (moving : (moves ≡ true) ↔ HappensAt task c.bound Moves nodes conditions pc instr (length conditions)) (site : MayBeFlagged task f pc)
+      (pointer : Option PointerNumbers) (numbered : IsPointerOf nodes pc instr pointer) where
+    pub place_given : IsPlaceOf task f (record { word = pc; protected = protected; live = live; transfer = is_indirect instr || is_call instr; moves = moves; pointer = pointer })
     place_given =
         record {
           ascending = sorted;
@@ -290,6 +294,7 @@ module _ (task : Task) (c : Claim) (nodes : List Node) (conditions : List Condit
             λ h. cause_from instr is (λ n y. to_ivsel n y) (moving.0 h),
             λ cause. moving.1 (cause_to instr is (λ n y. to_ivsel n y) cause),
           );
+          pointer = numbered task f is refl;
         }
 
 -- ---- all words

@@ -9,6 +9,7 @@ pub mod Told
 pub mod Marked
 pub mod Taken
 pub mod Linked
+pub mod Spans
 pub mod Causing
 pub mod Sites
 pub mod Ivsel

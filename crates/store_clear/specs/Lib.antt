@@ -6,3 +6,5 @@ pub mod Conditions
 pub mod Takes
 pub mod Causing
 pub mod ByWord
+pub mod Pointers
+pub mod Numbered

@@ -12,6 +12,8 @@ ghost use Rattle.store_clear.specs.Conditions.{HasConditionsLeft};
 ghost use Rattle.store_clear.specs.Takes.{AreMarkedBeside};
 ghost use Rattle.store_clear.specs.Causing.{IsProtectedAt, may_happen, HappensAt, ArePlacesOf, IsProtectedWrite, MayAllBeFlagged};
 ghost use Rattle.store_clear.specs.ByWord.{AreLinked, IsAskChain};
+ghost use Rattle.store_clear.specs.Pointers.{AreAllNever};
+ghost use Rattle.store_clear.specs.Numbered.{IsEveryNode};
 ghost use Rattle.family_edges.specs.Tasks.{task_of};
 ghost use Rattle.store_clear.specs.Stores.{task_in, store_of};
 
@@ -19,6 +21,7 @@ use crate::by_word::{ByWord, by_word};
 use crate::guards::Guard;
 use crate::listing::ListedNodes;
 use crate::moving::may_move;
+use crate::pointers::{EveryNode, pointer_at};
 use crate::store::GivenStore;
 use crate::words::addresses;
 use crate::writes::{may_write_live, may_write_protected};
@@ -26,6 +29,7 @@ use avr_model::instruction::Instr;
 use avr_model::listed::Listed;
 use certificate::Certificate;
 use clear_laws::FlaggedPlace;
+use clear_laws::slots::Condition;
 use family_edges::Task;
 use node_keys::NodeKey;
 use std::alloc::AllocError;
@@ -164,15 +168,17 @@ fn is_transfer(instr: &Instr) -> bool
     }
 }
 
-// The causes at a word at which some node isn't clear.
+// The causes at a word at which some node isn't clear, and the numbers of its pointer.
 fn place_at(
     task: &Task<'_>,
     certificate: &Certificate,
     told: &ListedNodes<'_>,
     links: &ByWord,
+    every: &EveryNode<'_>,
     pc: u32,
 ) -> Result<FlaggedPlace, AllocError>
     requires linked { AreLinked told.now.nodes.now told.now.conditions.now 0 links.now.first.items links.now.later.items }
+    requires every { IsEveryNode told.now.nodes.now every.now }
     requires small { certificate.now.bound ≤ size_of (device_of task.now.flash.now) }
     requires told { HasConditionsLeft (task_of task.now) certificate.now told.now.nodes.now told.now.conditions.now }
     requires site { MayBeFlagged (task_of task.now) (family_of certificate.now told.now.nodes.now) pc }
@@ -186,6 +192,7 @@ fn place_at(
             live: false,
             transfer: false,
             moves: false,
+            pointer: None,
         }),
         Some(instr) => {
             let _count = told.nodes.count();
@@ -205,6 +212,7 @@ fn place_at(
                 live,
                 transfer: is_transfer(&instr),
                 moves,
+                pointer: pointer_at(every, pc, &instr),
             })
         }
     }
@@ -216,9 +224,11 @@ fn places_by(
     certificate: &Certificate,
     told: &ListedNodes<'_>,
     links: &ByWord,
+    every: &EveryNode<'_>,
     sites: &[u32],
 ) -> Result<Listed<FlaggedPlace>, AllocError>
     requires linked { AreLinked told.now.nodes.now told.now.conditions.now 0 links.now.first.items links.now.later.items }
+    requires every { IsEveryNode told.now.nodes.now every.now }
     requires small { certificate.now.bound ≤ size_of (device_of task.now.flash.now) }
     requires told { HasConditionsLeft (task_of task.now) certificate.now told.now.nodes.now told.now.conditions.now }
     requires sites { MayAllBeFlagged (task_of task.now) (family_of certificate.now told.now.nodes.now) sites.now }
@@ -226,13 +236,61 @@ fn places_by(
 {
     let mut list = Listed::empty(task.alloc);
     for site in sites {
-        let place = place_at(task, certificate, told, links, *site)?;
+        let place = place_at(task, certificate, told, links, every, *site)?;
         list.push(place)?;
     }
     Ok(list)
 }
 
-// The same, with the nodes linked by their words first.
+// The same, with the nodes that aren't clear linked by their words first.
+fn places_among(
+    task: &Task<'_>,
+    certificate: &Certificate,
+    told: &ListedNodes<'_>,
+    every: &EveryNode<'_>,
+    sites: &[u32],
+) -> Result<Listed<FlaggedPlace>, AllocError>
+    requires every { IsEveryNode told.now.nodes.now every.now }
+    requires small { certificate.now.bound ≤ size_of (device_of task.now.flash.now) }
+    requires told { HasConditionsLeft (task_of task.now) certificate.now told.now.nodes.now told.now.conditions.now }
+    requires sites { MayAllBeFlagged (task_of task.now) (family_of certificate.now told.now.nodes.now) sites.now }
+    ensures { IfOk result (ArePlacesOf (task_of task.now) (family_of certificate.now told.now.nodes.now) sites.now) }
+{
+    let links = by_word(task.alloc, told)?;
+    let list = places_by(task, certificate, told, &links, every, sites);
+    drop(links);
+    list
+}
+
+// The same, with all nodes linked by their words, by conditions that leave none out.
+fn places_with(
+    task: &Task<'_>,
+    certificate: &Certificate,
+    told: &ListedNodes<'_>,
+    conditions: &[Condition],
+    sites: &[u32],
+) -> Result<Listed<FlaggedPlace>, AllocError>
+    requires never { AreAllNever told.now.nodes.now conditions.now }
+    requires small { certificate.now.bound ≤ size_of (device_of task.now.flash.now) }
+    requires told { HasConditionsLeft (task_of task.now) certificate.now told.now.nodes.now told.now.conditions.now }
+    requires sites { MayAllBeFlagged (task_of task.now) (family_of certificate.now told.now.nodes.now) sites.now }
+    ensures { IfOk result (ArePlacesOf (task_of task.now) (family_of certificate.now told.now.nodes.now) sites.now) }
+{
+    let all = ListedNodes {
+        nodes: told.nodes,
+        conditions,
+    };
+    let links = by_word(task.alloc, &all)?;
+    let every = EveryNode {
+        told: all,
+        links: &links,
+    };
+    let list = places_among(task, certificate, told, &every, sites);
+    drop(links);
+    list
+}
+
+// The causes at each of these words, each of which has a node that isn't clear, and the numbers of pointers, for which each node counts.
 pub(crate) fn places_at(
     task: &Task<'_>,
     certificate: &Certificate,
@@ -244,8 +302,9 @@ pub(crate) fn places_at(
     requires sites { MayAllBeFlagged (task_of task.now) (family_of certificate.now told.now.nodes.now) sites.now }
     ensures { IfOk result (ArePlacesOf (task_of task.now) (family_of certificate.now told.now.nodes.now) sites.now) }
 {
-    let links = by_word(task.alloc, told)?;
-    let list = places_by(task, certificate, told, &links, sites);
-    drop(links);
+    let _count = told.nodes.count();
+    let conditions = vec![in task.alloc; Condition::Never; told.conditions.len()]?;
+    let list = places_with(task, certificate, told, conditions.as_slice(), sites);
+    drop(conditions);
     list
 }

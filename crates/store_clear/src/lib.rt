@@ -1,6 +1,6 @@
 //! Which nodes of a certificate may flag a step: the least of them, and the words of all, with the causes at each word. `aims` to `writes`
 //! have the addresses of one node's store, and the slots that it requires to hold no live byte. `reach` and `spreading` follow slots along
-//! edges. `discharging` and `listing` find the nodes whose requirements hold. `words` to `causes` collect words and causes. Source: own.
+//! edges. `discharging` and `listing` find the nodes whose requirements hold. `pointers` has the numbers of pointers. `words` to `causes` collect words and causes. Source: own.
 #![tactic(auto)]
 
 mod aims;
@@ -14,6 +14,7 @@ mod listing;
 mod moving;
 mod need;
 mod numbers;
+mod pointers;
 mod reach;
 mod spreading;
 mod store;
