@@ -9,7 +9,7 @@ use Rattle.line_reading.specs.Appending.{with_text}
 use Rattle.flash_image.specs.Naming.{Named, least_name, SayTheSame}
 use Rattle.reports.specs.Report.{name_word}
 use Rattle.clear_laws.specs.declared.place.FlaggedPlace.{FlaggedPlace}
-use Rattle.replies.specs.Places.{name_or, name_up_to, place_words, place_line, place_text, never_text, count_line, word_where, address_text, first_addresses, protected_words, cause_words, why_line}
+use Rattle.replies.specs.Places.{name_or, name_up_to, place_words, place_line, place_text, never_text, count_line, word_where, address_text, first_addresses, protected_words, cause_words, pointer_words, why_line}
 use Rattle.replies.specs.Headline.{PlacesSayTheSame, CausesSayTheSame}
 use Rattle.avr_model.specs.Devices.{Image, device_of}
 
@@ -55,7 +55,7 @@ same_places image names others bound sites nevers same =
 
 same_why : (image : Image) (names others : List Named) (place : FlaggedPlace) → SayTheSame names others → why_line image names place ≡ why_line image others place
 same_why image names others place same =
-    ap (λ (o : Option (List ℕ)). (place_words image place.word ++ codes "in" ∷ name_word o ∷ []) ++ cause_words place) (same_up names others place.word same)
+    ap (λ (o : Option (List ℕ)). (place_words image place.word ++ codes "in" ∷ name_word o ∷ []) ++ (cause_words place ++ pointer_words place.pointer)) (same_up names others place.word same)
 
 same_whys : (image : Image) (names others : List Named) (places : List FlaggedPlace) → SayTheSame names others → map (why_line image names) places ≡ map (why_line image others) places
 same_whys image names others [] same = refl
@@ -106,8 +106,11 @@ pub four_written : (a b c d : List (List ℕ)) (w v u x y : Written) → v ≡ w
     → y ≡ with_words w (a ++ (b ++ (c ++ d)))
 four_written a b c d w v u x y e f g h = three_written a b (c ++ d) w v u y e f (h ∙ ap (λ (z : Written). with_words z d) g ∙ sym (words_append u c d))
 
-pub why_written : (image : Image) (names : List Named) (place : FlaggedPlace) (pc : ℕ) (w v u : Written) → pc ≡ place.word → v ≡ with_words w (place_line image names pc) → u ≡ with_words v (cause_words place)
-    → u ≡ with_words w (why_line image names place)
-why_written image names place pc w v u same e f =
-    f ∙ ap (λ (x : Written). with_words x (cause_words place)) (e ∙ ap (λ p. with_words w (place_line image names p)) same)
-    ∙ sym (words_append w (place_line image names place.word) (cause_words place))
+pub pointer_written : (letter first last : List ℕ) (w v u x : Written) → v ≡ with_word w letter → u ≡ with_word v first → x ≡ with_word u last → x ≡ with_words w (letter ∷ first ∷ last ∷ [])
+pointer_written letter first last w v u x e f g =
+    g ∙ ap (λ (y : Written). with_word y last) (f ∙ ap (λ (y : Written). with_word y first) e)
+
+pub why_written : (image : Image) (names : List Named) (place : FlaggedPlace) (pc : ℕ) (w v u x : Written) → pc ≡ place.word → v ≡ with_words w (place_line image names pc) → u ≡ with_words v (cause_words place)
+    → x ≡ with_words u (pointer_words place.pointer) → x ≡ with_words w (why_line image names place)
+why_written image names place pc w v u x same e f g =
+    three_written (place_line image names place.word) (cause_words place) (pointer_words place.pointer) w v u x (e ∙ ap (λ p. with_words w (place_line image names p)) same) f g

@@ -6,6 +6,9 @@ use Rattle.text_base.specs.Lines.{line}
 use Rattle.flash_image.specs.Naming.{Named, least_name}
 use Rattle.reports.specs.Report.{name_word}
 use Rattle.clear_laws.specs.declared.place.FlaggedPlace.{FlaggedPlace}
+use Rattle.clear_laws.specs.declared.stores.PointerNumbers.{PointerNumbers}
+use Rattle.clear_laws.specs.declared.stores.PointerPair.{PointerPair}
+use Rattle.clear_laws.specs.declared.stores.PointerPair.TheVariants as pair
 use Rattle.replies.specs.Texts.{told, instruction_told}
 use Rattle.avr_model.specs.declared.device.Device.{Device}
 use Rattle.avr_model.specs.Devices.{Image, device_of}
@@ -80,9 +83,19 @@ cause_words place =
     protected_words place.protected
     ++ (word_where place.live (codes "live") ++ (word_where place.transfer (codes "transfer") ++ word_where place.moves (codes "moves")))
 
--- a word with its causes
+abbrev pub pair_text : PointerPair → List ℕ
+pair_text pair.X = codes "X"
+pair_text pair.Y = codes "Y"
+pair_text pair.Z = codes "Z"
+
+-- the register pair of the pointer, and the least and the greatest number that it may have
+abbrev pub pointer_words : Option PointerNumbers → List (List ℕ)
+pointer_words None = []
+pointer_words (Some p) = pair_text p.pair ∷ address_text p.numbers.first ∷ address_text p.numbers.last ∷ []
+
+-- a word with its causes, and the numbers of its pointer
 abbrev pub why_line : Image → List Named → FlaggedPlace → List (List ℕ)
-why_line image names place = place_line image names place.word ++ cause_words place
+why_line image names place = place_line image names place.word ++ (cause_words place ++ pointer_words place.pointer)
 
 abbrev pub why_text : Image → List Named → ℕ → List FlaggedPlace → List ℕ → List ℕ
 why_text image names bound places nevers =

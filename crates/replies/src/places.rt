@@ -6,11 +6,12 @@ ghost use Rattle.flash_image.specs.Naming.{least_name};
 ghost use Rattle.text_base.specs.Lines.{line};
 ghost use Rattle.text_base.specs.Writing.{with_words, with_end};
 ghost use Rattle.line_reading.specs.Appending.{with_text};
-ghost use Rattle.replies.specs.Places.{clear_text, place_words, unclear_text, name_up_to, place_line, place_text, never_text, count_line, premises_text, address_text, protected_words, word_where, cause_words, why_line, why_text};
+ghost use Rattle.replies.specs.Places.{clear_text, place_words, unclear_text, name_up_to, place_line, place_text, never_text, count_line, premises_text, address_text, protected_words, word_where, cause_words, pair_text, pointer_words, why_line, why_text};
 
 use crate::causes::put_instruction;
 use crate::texts::{ended, put_address, put_number, put_two_and_number};
 use clear_laws::FlaggedPlace;
+use clear_laws::stores::{PointerNumbers, PointerPair};
 use flash_image::{Device, Flash, Names};
 use line_reading::laws::appending_laws;
 use reports::write_name;
@@ -224,6 +225,34 @@ fn write_causes(out: &mut LineWriter, place: &FlaggedPlace) -> Result<(), AllocE
     write_where(out, place.moves, b"moves")
 }
 
+fn pair_text(pair: PointerPair) -> &'static [u8]
+    ensures { result.now ≡ pair_text pair }
+{
+    match pair {
+        PointerPair::X => b"X",
+        PointerPair::Y => b"Y",
+        PointerPair::Z => b"Z",
+    }
+}
+
+// Writes the register pair of a pointer, and the least and the greatest number that it may have.
+#[tactic(auto, using(crate::proofs::Sites::pointer_written))]
+fn write_pointer(
+    out: &mut LineWriter,
+    pointer: Option<PointerNumbers>,
+) -> Result<(), AllocError>
+    ensures { OnOk result (out.new ≡ with_words out.old (pointer_words pointer)) }
+{
+    match pointer {
+        None => Ok(()),
+        Some(PointerNumbers { pair, numbers }) => {
+            out.word(pair_text(pair))?;
+            out.hex(u32::from(numbers.first), 4)?;
+            out.hex(u32::from(numbers.last), 4)
+        }
+    }
+}
+
 // Writes the lines of places with their causes. If they ascend, each search continues from the one before.
 fn write_whys(
     out: &mut LineWriter,
@@ -240,12 +269,13 @@ fn write_whys(
         reached = reach(program.names, reached, place.word);
         put_named(out, alloc, program, reached)?;
         write_causes(out, place)?;
+        write_pointer(out, place.pointer)?;
         out.end_line()?;
     }
     Ok(())
 }
 
-/// The text of the places, with their causes after their names.
+/// The text of the places, with their causes after their names, and then the numbers of their pointers.
 pub fn why_text(
     alloc: Global,
     program: &Program<'_>,

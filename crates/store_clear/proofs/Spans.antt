@@ -74,6 +74,14 @@ module _ (p : ℕ → Bool) where
   fails_down at next high one so fails n le lt =
       ⊎_elim (λ (above : at < n). so n (omega (arith, above, one)) lt) (λ (same : n ≤ at). ap p (let e : n ≡ at = omega (arith, same, le) in e) ∙ fails) (cases_lt at n)
 
+  pub first_here : (low high end at : ℕ) → low ≤ at → at < high → at ≤ end → FailsBetween p low end → p at ≡ true → IsFirstOf p low high at
+  first_here low high end at above below so none is =
+      record { above = above; below = below; passes = is; none = fails_less low end low at (omega arith) so none }
+
+  pub last_here : (low high start at : ℕ) → low ≤ at → at < high → start ≤ at + 1 → FailsBetween p start high → p at ≡ true → IsLastOf p low high at
+  last_here low high start at above below so none is =
+      record { above = above; below = below; passes = is; none = fails_less start high (at + 1) high so (omega arith) none }
+
   pub fails_both : (low mid high : ℕ) → FailsBetween p low mid → FailsBetween p mid high → FailsBetween p low high
   fails_both low mid high a b n le lt = ⊎_elim (λ less. a n le less) (λ more. b n more lt) (cases_lt n mid)
 

@@ -14,7 +14,8 @@ if TYPE_CHECKING:
     from stackcheck_tools.analysis.mending import Mending
     from stackcheck_tools.spec.lines import Lines
 
-TOLD = re.compile(r" in \S+(?: protected((?: [0-9A-F]{4})+)( \.\.)?)?( live)?( transfer)?( moves)?$")
+POINTER = r"(?: [XYZ] [0-9A-F]{4} [0-9A-F]{4})?"  # the least and the greatest number of the place's pointer
+TOLD = re.compile(r" in \S+(?: protected((?: [0-9A-F]{4})+)( \.\.)?)?( live)?( transfer)?( moves)?" + POINTER + "$")
 MOST_TRIED = 4  # places at which a line is tried
 
 

@@ -10,7 +10,7 @@ loop-place-init c = (nothing_behind c.args.out.now c.requires, up_first c.args.p
 
 pub loop-place-preserved : goal.loop-place-preserved
 loop-place-preserved c =
-    let words = why_written c.args.program.now.flash.now c.args.program.now.names.now c.place-item.result c.reach-reached.result.pc c.loop-place.out c.put_named.new.out c.write_causes.new.out c.reach-reached.ensures.pc c.in_ok-put_named.ensures c.in_ok-write_causes.ensures in (
+    let words = why_written c.args.program.now.flash.now c.args.program.now.names.now c.place-item.result c.reach-reached.result.pc c.loop-place.out c.put_named.new.out c.write_causes.new.out c.write_pointer.new.out c.reach-reached.ensures.pc c.in_ok-put_named.ensures c.in_ok-write_causes.ensures c.in_ok-write_pointer.ensures in (
       lines_next (why_line c.args.program.now.flash.now c.args.program.now.names.now) c.appending_laws.ensures c.args.out.now c.loop-place.out c.end_line.new.self c.args.places.now c.loop-place.place-index c.place-item.result
           c.loop-place-test.true c.place-item.is c.loop-place.invariant.0 (c.in_ok-end_line.ensures.written ∙ ap with_end words),
       c.reach-reached.ensures.named ∙ ap (name_up_to c.args.program.now.names.now) (sym c.reach-reached.ensures.pc),

@@ -1,0 +1,7 @@
+use Rattle.std.proofs.Common.{◌-◌, ◌*◌}
+use Rattle.local_rules.specs.Permitted.{permits_number}
+use Rattle.store_clear.specs.Pointers.{FailsBetween}
+use Rattle.store_clear.proofs.pointers.last_in.Given as goal
+
+abbrev pub invariant-loop-below : goal.invariant-loop-below
+invariant-loop-below l = FailsBetween (permits_number l.state l.fn.r) (256 * (256 - l.below)) 65536
