@@ -10,6 +10,7 @@ use Rattle.local_rules.specs.Site.{Task, Site}
 use Rattle.local_rules.specs.HighBytes.{view_of}
 use Rattle.bit_domain.specs.declared.bytes.TriByte.{TriByte}
 use Rattle.avr_model.specs.Assumptions.{jump_line}
+use Rattle.avr_model.specs.Effects.{port}
 use Rattle.local_rules.specs.Registers.{before}
 use Rattle.local_rules.specs.Flow.{words_on, z_with, targets_by}
 use Rattle.local_rules.specs.Settling.{settled_state}
@@ -31,6 +32,10 @@ site_of site = record { device = site.device; key = site.key.now; state = site.s
 
 abbrev pub write_of : Write → ByteWrite
 write_of w = record { device = w.device; pc = w.pc; key = w.key; state = w.state.now; value = w.value }
+
+-- the data address of an I/O address there
+abbrev pub port_at : Here → ℕ → ℕ
+port_at site address = port site.device address
 
 -- the words that the bits of Z with this third byte permit
 abbrev pub z_words : Device → AbsState → TriByte → List ℕ

@@ -1,10 +1,9 @@
 //! Bits of I/O, and single flags.
 
-ghost use Rattle.avr_model.specs.Effects as effects;
 ghost use Rattle.local_rules.specs.Registers as registers;
 ghost use Rattle.local_rules.specs.Local as rows;
 ghost use Rattle.abs_step.specs.Adding.{Adds};
-ghost use Rattle.abs_step.specs.Sites.{site_of};
+ghost use Rattle.abs_step.specs.Sites.{site_of, port_at};
 
 use crate::moves::Moves;
 use crate::site::{ByteWrite, Site};
@@ -26,7 +25,7 @@ pub fn bit_row(
     bit: Bit,
     on: bool,
 ) -> Result<(), NodeFault>
-    ensures { Adds nodes.old nodes.new result (rows.bit_row (site_of site.now) (effects.port site.now.device i) bit on) }
+    ensures { Adds nodes.old nodes.new result (rows.bit_row (site_of site.now) (port_at site.now i) bit on) }
 {
     let address = port(site.device, i.widened());
     let bits = kept_bits(site.device, site.key.masks, address).with(bit.get() as u8, tri_of(on));

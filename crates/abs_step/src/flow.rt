@@ -2,14 +2,13 @@
 
 ghost use Rattle.std.specs.Prelude.{◌≡◌, ◌<◌, map, filter, None, Some, IfOk, IfErr};
 ghost use Rattle.avr_model.specs.Assumptions.{lists};
-ghost use Rattle.avr_model.specs.Effects.{port};
 ghost use Rattle.local_rules.specs.declared.local.NodeFault.TheVariants.{Memory};
 ghost use Rattle.local_rules.specs.Raw.{Raw, further};
 ghost use Rattle.local_rules.specs.Flow as flow;
 ghost use Rattle.local_rules.specs.Local.{bit_skip, node_of};
 ghost use Rattle.abs_step.specs.Adding.{Moving, Adds};
 ghost use Rattle.abs_step.specs.Leading.{FindsWords, LeadsOn};
-ghost use Rattle.abs_step.specs.Sites.{task_of, site_of, z_words, targets_above};
+ghost use Rattle.abs_step.specs.Sites.{task_of, site_of, port_at, z_words, targets_above};
 
 use crate::cuts::carry_branch;
 use crate::moves::Moves;
@@ -83,7 +82,7 @@ pub(crate) fn port_skip(
     bit: Bit,
     on: bool,
 ) -> Result<(), NodeFault>
-    ensures { Adds nodes.old nodes.new result (bit_skip (task_of site.now) (site_of site.now) (port site.now.device address) bit on) }
+    ensures { Adds nodes.old nodes.new result (bit_skip (task_of site.now) (site_of site.now) (port_at site.now address) bit on) }
 {
     let may = site.assumptions.reads_masks(site.device);
     let is_one = port_bit(site.device, may, site.key, site.state, address, bit);
