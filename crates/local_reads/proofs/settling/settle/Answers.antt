@@ -1,6 +1,4 @@
-use Rattle.std.proofs.Common.{◌∙◌, sym, refl, ap, List, Option}
-use Rattle.abs_state.specs.declared.values.AbsByte.{AbsByte}
-use Rattle.local_rules.specs.Settling.{with_registers, settled_values}
+use Rattle.std.proofs.Common.{sym}
 use Rattle.local_reads.proofs.Settled.{high_stays, low_settles}
 use Rattle.local_reads.proofs.settling.settle.Goals as goal
 
