@@ -5,6 +5,7 @@ use Rattle.std.specs.List.{list_all, list_any}
 use Rattle.std.specs.Slice.{IsItemAt}
 use Rattle.std.specs.Borrow.{Bor}
 use Rattle.std.specs.Prelude.{Option, None, Some, not, if◌then◌else◌}
+use Rattle.std.specs.Option.{option_map, unwrap_or}
 use Rattle.std.proofs.lemmas.Bool.{and_parts}
 use Rattle.std.proofs.lemmas.Bool.Decides.{nat_tests}
 use Rattle.std.proofs.Math.Nat.{mod-lt, mod-eq_of_lt, pow-le-pow_right}
@@ -16,38 +17,43 @@ use Rattle.std.proofs.Math.Pow.{mod-mod-pow}
 use Rattle.basics.specs.Numbers.{less_from_test, at_most_from_test}
 use Rattle.avr_model.specs.declared.device.Device.{Device}
 use Rattle.avr_model.specs.declared.rows.Row.{Row}
-use Rattle.avr_model.specs.declared.rows.Ivsel.{Ivsel}
+use Rattle.avr_model.specs.declared.rows.MovingPlace.{MovingPlace}
 use Rattle.avr_model.specs.declared.rows.EnablePlace.{EnablePlace}
 use Rattle.avr_model.specs.declared.device_table.TheConstants.{ROWS, LAST, CLASSES, LAST_CLASS}
 use Rattle.avr_model.specs.Families.{FAMILIES, family_of}
-use Rattle.avr_model.specs.Devices.{device_row, width, words_of, io_base, sreg_address, guarded_end, io_end, size_of, ramend, back_of, has_sph, has_elpm, has_eijmp, rampz_most, eind_most, sp_count, wrapped, limit_of, word_digits, depth_of}
-use Rattle.avr_model.specs.Vectors.{last_vector, watchdog, vector_word, is_core_of, covers}
+use Rattle.avr_model.specs.Devices.{device_row, width, words_of, flash_words, map_at, map_bytes, io_base, sreg_address, guarded_end, io_end, size_of, ramend, back_of, has_sph, has_elpm, has_eijmp, rampz_most, eind_most, sp_count, wrapped, limit_of, word_digits, depth_of}
+use Rattle.avr_model.specs.Bits.{any_below}
+use Rattle.avr_model.specs.Vectors.{last_vector, watchdog, vector_word, is_core_of, has_common}
 
 -- ---- what is tested of each row, and of each place
 
--- IVSEL is a bit of I/O behind what `sbi` and `cbi` reach, and no enable bit
-abbrev pub is_apart : Row → Option Ivsel → Bool
+-- bits that move vectors are bits of I/O behind what `sbi` and `cbi` reach, and no enable bits
+abbrev pub is_apart : Row → Option MovingPlace → Bool
 is_apart r None = true
 is_apart r (Some s) =
-    nat_le (r.io_base + 0x20) s.address && (nat_le s.address r.guarded_end && (not (is_core_of r s.address) && (nat_lt s.bit 8 && not (list_any (covers s.address s.bit) (family_of r.family)))))
+    nat_le (r.io_base + 0x20) s.address && (nat_le s.address r.guarded_end && (not (is_core_of r s.address) && (nat_lt s.mask 256 && not (list_any (λ (p : EnablePlace). (p.address == s.address) && has_common p.mask s.mask) (family_of r.family)))))
 
 abbrev pub tests : Row → List Bool
 tests r =
     nat_le 9 r.width ∷ nat_le r.width 17 ∷ nat_le (r.io_base + 0x3F) r.io_end ∷ nat_le r.io_end 0x77FF ∷ nat_le r.size 32768 ∷ nat_le 2 r.last ∷ nat_le r.last 77 ∷ nat_le r.watchdog r.last
     ∷ nat_lt (r.step * (r.last - 1)) (2 ^ r.width) ∷ ((r.step == 1) || (r.step == 2)) ∷ list_all (λ (p : EnablePlace). nat_le p.vector r.last && (nat_le p.address r.guarded_end && not (is_core_of r p.address))) (family_of r.family)
-    ∷ nat_lt r.family (length FAMILIES) ∷ is_apart r r.ivsel ∷ nat_le 2 r.back ∷ nat_le r.back 3 ∷ nat_le (2 ^ r.width) (256 ^ r.back)
+    ∷ nat_lt r.family (length FAMILIES) ∷ list_all (is_apart r) r.moving ∷ nat_le 2 r.back ∷ nat_le r.back 3 ∷ nat_le (2 ^ r.width) (256 ^ r.back)
     ∷ (r.has_sph || nat_lt (r.io_end + r.size) 256) ∷ (r.has_sph || nat_le r.size 128) ∷ (r.has_sph || r.reads_masks)
     ∷ (not r.has_elpm || (65536 * (2 ^ r.width / 32768 - 1 + 1) == 2 * 2 ^ r.width)) ∷ (not r.has_eijmp || (65536 * (2 ^ r.width / 65536 - 1 + 1) == 2 ^ r.width)) ∷ (not r.has_elpmx || r.has_elpm)
     ∷ (not r.has_elpm || nat_le 16 r.width) ∷ (not r.has_eijmp || (r.has_elpm && (r.width == 17))) ∷ nat_lt (r.io_end + r.size) 0x8200 ∷ (not r.has_elpm || r.reads_masks)
-    ∷ nat_le r.io_base 0x20 ∷ nat_le (r.io_base + 0x3F) r.guarded_end ∷ nat_le r.guarded_end r.io_end ∷ nat_lt r.guarded_end 0x1005 ∷ []
+    ∷ nat_le r.io_base 0x20 ∷ nat_le (r.io_base + 0x3F) r.guarded_end ∷ nat_le r.guarded_end r.io_end ∷ nat_lt r.guarded_end 0x1005
+    ∷ nat_lt 0 r.flash_words ∷ nat_le r.flash_words (2 ^ r.width) ∷ nat_le r.map_bytes (2 * r.flash_words) ∷ nat_le (r.map_at + r.map_bytes) 65536
+    ∷ ((r.map_bytes == 0) || nat_lt (r.io_end + r.size) r.map_at) ∷ []
 
 abbrev pub is_sound : Row → Bool
 is_sound r = list_all (λ b. b) (tests r)
 
 all_sound : list_all is_sound ROWS ≡ true
+unfolding has_common any_below
 all_sound = refl
 
 last_sound : is_sound LAST ≡ true
+unfolding has_common any_below
 last_sound = refl
 
 sound_at : (p : Row → Bool) (rows : List Row) (k : ℕ) (last : Row) → list_all p rows ≡ true → p last ≡ true → p (slice_index_or rows k last) ≡ true
@@ -97,6 +103,25 @@ guarded_in d = at_most_from_test (guarded_end d) (io_end d) (passes d 28)
 pub most_guarded : (d : Device) → guarded_end d < 0x1005
 most_guarded d = less_from_test (guarded_end d) 0x1005 (passes d 29)
 
+pub some_flash : (d : Device) → 0 < flash_words d
+some_flash d = less_from_test 0 (flash_words d) (passes d 30)
+
+pub most_mapped : (d : Device) → map_bytes d ≤ 2 * flash_words d
+most_mapped d = at_most_from_test (map_bytes d) (2 * flash_words d) (passes d 32)
+
+pub map_in : (d : Device) → map_at d + map_bytes d ≤ 65536
+map_in d = at_most_from_test (map_at d + map_bytes d) 65536 (passes d 33)
+
+pub map_behind : (d : Device) (k : ℕ) → k < map_bytes d → ramend d < map_at d
+map_behind d k lt = less_from_test (ramend d) (map_at d) (second (map_bytes d == 0) (nat_lt (ramend d) (map_at d)) (passes d 34) (some (map_bytes d) k lt))
+  where
+    some : (n k : ℕ) → k < n → (n == 0) ≡ false
+    some n k lt = grind (arith, nat_tests)
+
+    second : (a b : Bool) → (a || b) ≡ true → a ≡ false → b ≡ true
+    second true b h e = absurd (cc)
+    second false b h e = h
+
 pub most_bytes : (d : Device) → size_of d ≤ 32768
 most_bytes d = at_most_from_test (size_of d) 32768 (passes d 4)
 
@@ -111,6 +136,12 @@ dog d = at_most_from_test (watchdog d) (last_vector d) (passes d 7)
 
 pub most_words : (d : Device) → words_of d ≤ 131072
 most_words d = pow-le-pow_right {n = 2} (omega arith) (most_width d)
+
+pub in_words : (d : Device) → flash_words d ≤ words_of d
+in_words d = at_most_from_test (flash_words d) (words_of d) (passes d 31)
+
+pub most_flash : (d : Device) → flash_words d ≤ 131072
+most_flash d = let a = in_words d in let b = most_words d in omega arith
 
 pub some_words : (d : Device) → 0 < words_of d
 some_words d = pow_pos (width d)
@@ -277,6 +308,12 @@ pub row_none : (d : Device) (k : ℕ) (r : Option (Bor Row)) → k ≡ d.index �
 row_none d k r is item none =
     let past : IsItemAt ROWS k None = subst (λ (o : Option (Bor Row)). IsItemAt ROWS k o) none item in
     row_behind d k is past.3
+
+pub row_some : (d : Device) (k : ℕ) (r : Option (Bor Row)) (row : Bor Row) → k ≡ d.index → IsItemAt ROWS k r → r ≡ Some row → row.now ≡ device_row d
+unfolding device_row
+row_some d k r row is item some =
+    let given : unwrap_or (option_map (λ (x : Bor Row). x.now) r) LAST ≡ slice_index_or ROWS k LAST = item.4 (omega arith) LAST in
+    ap (λ (o : Option (Bor Row)). unwrap_or (option_map (λ (x : Bor Row). x.now) o) LAST) (sym some) ∙ given ∙ ap (λ (j : ℕ). slice_index_or ROWS j LAST) is
 
 pub class_none : (d : Device) (k : ℕ) (r : Option (Bor (List ℕ))) → k ≡ d.index → IsItemAt CLASSES k r → r ≡ None → LAST_CLASS ≡ slice_index_or CLASSES d.index LAST_CLASS
 class_none d k r is item none =

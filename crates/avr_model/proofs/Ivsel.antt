@@ -1,17 +1,21 @@
--- IVSEL is apart from the core, from what `sbi` and `cbi` reach, and from all enable bits.
-use Rattle.std.proofs.Common.{◌≡◌, ◌+◌, refl, subst, ap, ℕ, Bool, true, false, ◌==◌, ◌&&◌, not, nat_le, nat_lt, List, [], ◌∷◌, Option, Some, None, arith}
-use Rattle.std.specs.List.{list_any, find}
+-- Bits that move vectors are apart from the core, from what `sbi` and `cbi` reach, and from all enable bits.
+use Rattle.std.proofs.Common.{◌≡◌, ◌∙◌, ◌+◌, ◌/◌, ◌%◌, ◌^◌, ◌<◌, ◌≤◌, refl, subst, ap, ap₂, ℕ, Bool, true, false, ◌==◌, ◌&&◌, ◌||◌, not, nat_le, nat_lt, List, [], ◌∷◌, Option, Some, None, inl, inr, arith}
+use Rattle.std.specs.Int.{bit_at}
+use Rattle.std.specs.List.{list_all, list_any, find}
 use Rattle.std.specs.Option.{option_map}
-use Rattle.std.proofs.lemmas.Bool.{and_parts}
+use Rattle.std.proofs.lemmas.Bool.{and_parts, or_parts, cases_lt}
 use Rattle.std.proofs.lemmas.Bool.Decides.{nat_tests}
+use Rattle.std.proofs.Math.Nat.{pow-le-pow_right, div-eq_of_lt}
 use Rattle.basics.specs.Numbers.{less_from_test, at_most_from_test}
 use Rattle.avr_model.specs.declared.device.Device.{Device}
-use Rattle.avr_model.specs.declared.rows.Ivsel.{Ivsel}
+use Rattle.avr_model.specs.declared.rows.MovingPlace.{MovingPlace}
 use Rattle.avr_model.specs.declared.rows.EnablePlace.{EnablePlace}
+use Rattle.avr_model.specs.Bits.{any_below}
 use Rattle.avr_model.specs.Families.{family_of}
 use Rattle.avr_model.specs.Devices.{device_row, io_base, guarded_end}
-use Rattle.avr_model.specs.Vectors.{enable_places, covers, is_core, is_bit_of, is_ivsel, enable_of}
+use Rattle.avr_model.specs.Vectors.{enable_places, covers, has_common, is_core, is_bit_of, is_ivsel, enable_of}
 use Rattle.avr_model.specs.Laws.{IvselIsApart}
+use Rattle.avr_model.proofs.Below.{some_below}
 use Rattle.avr_model.proofs.Facts.{is_apart, passes}
 
 none_found : {X : Type 0} (p : X → Bool) (xs : List X) → list_any p xs ≡ false → find p xs ≡ None
@@ -22,40 +26,91 @@ none_found p (x ∷ xs) h = by (p x) refl (none_found p xs)
     by true is rest = absurd (cc)
     by false is rest = let none : list_any p xs ≡ false = cc in let found = rest none in cc
 
--- what is tested of a row, of the bit that its IVSEL is
+-- what is tested of a row, of a bit of a place that moves vectors
 pub record Apart (d : Device) (a b : ℕ) : Type 0 where
   pub least : nat_le (io_base d + 0x20) a ≡ true
   pub most : nat_le a (guarded_end d) ≡ true
   pub core : is_core d a ≡ false
-  pub bit : nat_lt b 8 ≡ true
+  pub bit : b < 8
   pub enable : list_any (covers a b) (enable_places d) ≡ false
 
 not_true : (t : Bool) → not t ≡ true → t ≡ false
 not_true true e = absurd (cc)
 not_true false e = refl
 
-apart_at : (d : Device) (s : Ivsel) → is_apart (device_row d) (Some s) ≡ true → Apart d s.address s.bit
-unfolding enable_places
-apart_at d s h =
-    let enables = not (list_any (covers s.address s.bit) (family_of (device_row d).family)) in
-    let one = and_parts (nat_le (io_base d + 0x20) s.address) _ h in
-    let two = and_parts (nat_le s.address (guarded_end d)) _ one.1 in
-    let three = and_parts (not (is_core d s.address)) (nat_lt s.bit 8 && enables) two.1 in
-    let four = and_parts (nat_lt s.bit 8) enables three.1 in
-    record { least = one.0; most = two.0; core = not_true _ three.0; bit = four.0; enable = not_true _ four.1 }
-
 same : (x y : ℕ) → (x == y) ≡ true → x ≡ y
 same x y e = grind (arith, nat_tests)
 
-by_row : (d : Device) (o : Option Ivsel) (a b : ℕ) → is_apart (device_row d) o ≡ true → is_bit_of o a b ≡ true → Apart d a b
-by_row d None a b h is = absurd (cc)
-by_row d (Some s) a b h is =
-    let both = and_parts (s.address == a) (s.bit == b) is in
-    subst (Apart d a) (same s.bit b both.1) (subst (λ (x : ℕ). Apart d x s.bit) (same s.address a both.0) (apart_at d s h))
+-- a byte has no bits from 8 on
+below_8 : (n b : ℕ) → n < 256 → (bit_at n b == 1) ≡ true → b < 8
+below_8 n b small is = elim (cases_lt b 8) [
+  | inl lt ↦ lt
+  | inr far ↦
+      let large : 2 ^ 8 ≤ 2 ^ b = pow-le-pow_right (omega arith) far in
+      let none : n / 2 ^ b ≡ 0 = div-eq_of_lt (omega arith) in
+      let zero : bit_at n b ≡ 0 = ap (λ (q : ℕ). q % 2) none in
+      absurd (let one = same (bit_at n b) 1 is in omega arith)
+]
+
+both : (x y : Bool) → x ≡ true → y ≡ true → (x && y) ≡ true
+both x y h g = grind arith
+
+-- the bit is in no place that has none of the mask's bits
+not_covered : (a b mask : ℕ) → b < 8 → (bit_at mask b == 1) ≡ true → (p : EnablePlace) → ((p.address == a) && has_common p.mask mask) ≡ false → covers a b p ≡ false
+unfolding has_common
+not_covered a b mask lt is p none = by (covers a b p) refl
+  where
+    by : (t : Bool) → covers a b p ≡ t → t ≡ false
+    by false e = refl
+    by true e =
+        let parts = and_parts (p.address == a) (bit_at p.mask b == 1) e in
+        let common : has_common p.mask mask ≡ true = some_below 8 (λ k. (bit_at p.mask k == 1) && (bit_at mask k == 1)) b lt (both _ _ parts.1 is) in
+        let there = both (p.address == a) (has_common p.mask mask) parts.0 common in
+        absurd (cc)
+
+none_cover : (a b mask : ℕ) → b < 8 → (bit_at mask b == 1) ≡ true → (ps : List EnablePlace) → list_any (λ (p : EnablePlace). (p.address == a) && has_common p.mask mask) ps ≡ false
+    → list_any (covers a b) ps ≡ false
+none_cover a b mask lt is [] none = refl
+none_cover a b mask lt is (p ∷ ps) none =
+    let parts = or_parts ((p.address == a) && has_common p.mask mask) (list_any (λ (p : EnablePlace). (p.address == a) && has_common p.mask mask) ps) none in
+    ap₂ (λ (x y : Bool). x || y) (not_covered a b mask lt is p parts.0) (none_cover a b mask lt is ps parts.1)
+
+apart_at : (d : Device) (s : MovingPlace) (b : ℕ) → is_apart (device_row d) (Some s) ≡ true → (bit_at s.mask b == 1) ≡ true → Apart d s.address b
+unfolding enable_places
+apart_at d s b h is =
+    let enables = not (list_any (λ (p : EnablePlace). (p.address == s.address) && has_common p.mask s.mask) (family_of (device_row d).family)) in
+    let one = and_parts (nat_le (io_base d + 0x20) s.address) _ h in
+    let two = and_parts (nat_le s.address (guarded_end d)) _ one.1 in
+    let three = and_parts (not (is_core d s.address)) (nat_lt s.mask 256 && enables) two.1 in
+    let four = and_parts (nat_lt s.mask 256) enables three.1 in
+    let bit = below_8 s.mask b (less_from_test s.mask 256 four.0) is in
+    record {
+      least = one.0;
+      most = two.0;
+      core = not_true _ three.0;
+      bit = bit;
+      enable = none_cover s.address b s.mask bit is (family_of (device_row d).family) (not_true _ four.1);
+    }
+
+by_place : (d : Device) (o : Option MovingPlace) (a b : ℕ) → is_apart (device_row d) o ≡ true → is_bit_of o a b ≡ true → Apart d a b
+by_place d None a b h is = absurd (cc)
+by_place d (Some s) a b h is =
+    let parts = and_parts (s.address == a) (bit_at s.mask b == 1) is in
+    subst (λ (x : ℕ). Apart d x b) (same s.address a parts.0) (apart_at d s b h parts.1)
+
+by_places : (d : Device) (os : List (Option MovingPlace)) (a b : ℕ) → list_all (is_apart (device_row d)) os ≡ true → list_any (λ (s : Option MovingPlace). is_bit_of s a b) os ≡ true → Apart d a b
+by_places d [] a b all is = absurd (cc)
+by_places d (o ∷ os) a b all is =
+    let each = and_parts (is_apart (device_row d) o) (list_all (is_apart (device_row d)) os) all in
+    one_of (is_bit_of o a b) (list_any (λ (s : Option MovingPlace). is_bit_of s a b) os) refl is (by_place d o a b each.0) (by_places d os a b each.1)
+  where
+    one_of : (t rest : Bool) → is_bit_of o a b ≡ t → (t || rest) ≡ true → (is_bit_of o a b ≡ true → Apart d a b) → (rest ≡ true → Apart d a b) → Apart d a b
+    one_of true rest e h here there = here e
+    one_of false rest e h here there = there h
 
 pub apart : (d : Device) (a b : ℕ) → is_ivsel d a b ≡ true → Apart d a b
 unfolding is_ivsel
-apart d a b is = by_row d (device_row d).ivsel a b (passes d 12) is
+apart d a b is = by_places d (device_row d).moving a b (passes d 12) is
 
 pub ivsel_is_apart : IvselIsApart
 unfolding enable_of
@@ -63,6 +118,6 @@ ivsel_is_apart =
     record {
       reach = λ d a b is. (at_most_from_test (io_base d + 0x20) a (apart d a b is).least, at_most_from_test a (guarded_end d) (apart d a b is).most);
       core = λ d a b is. (apart d a b is).core;
-      bit = λ d a b is. less_from_test b 8 (apart d a b is).bit;
+      bit = λ d a b is. (apart d a b is).bit;
       enable = λ d a b is. ap (option_map (λ (p : EnablePlace). p.vector)) (none_found (covers a b) (enable_places d) (apart d a b is).enable);
     }

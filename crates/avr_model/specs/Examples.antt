@@ -12,7 +12,7 @@ use Rattle.avr_model.specs.Table.{decoded, length_of}
 use Rattle.avr_model.specs.Text.{text_of}
 use Rattle.avr_model.specs.Sites.{is_scratch, is_fixed, path_behind, is_loaded_behind, ijmp_from, table_site}
 use Rattle.avr_model.specs.Bits.{any_below, all_below, number_of}
-use Rattle.avr_model.specs.Vectors.{enable_places, has_common, enable_place_at, enable_of, held_of, held_bits, written_enables}
+use Rattle.avr_model.specs.Vectors.{enable_places, has_common, enable_place_at, enable_of, held_of, held_bits, written_enables, is_ivsel, sets_ivsel}
 
 -- the device's numbers are those of the code
 pub code_has_words : WORDS ≡ device.WORDS
@@ -46,6 +46,11 @@ special_of_m328 = refl
 pub special_of_t1614 : map (special_at T1614) (0x3D ∷ 0x3E ∷ 0x3F ∷ 0x5D ∷ []) ≡ Some special.Spl ∷ Some special.Sph ∷ Some special.Sreg ∷ None ∷ []
 unfolding device_row
 special_of_t1614 = refl
+
+-- IVSEL and CVT of the ATtiny1614, and no other bit
+pub moving_of_t1614 : map (is_ivsel T1614 0x110) (5 ∷ 6 ∷ 7 ∷ []) ++ map (sets_ivsel T1614 0x110) (0x9F ∷ 0x20 ∷ 0x40 ∷ []) ≡ true ∷ true ∷ false ∷ false ∷ true ∷ true ∷ []
+unfolding device_row is_ivsel sets_ivsel has_common any_below
+moving_of_t1614 = refl
 
 -- the registers' data addresses, and none
 pub registers_of_m328 : map (register_at M328) (0 ∷ 31 ∷ 32 ∷ 0x5B ∷ []) ≡ Some 0 ∷ Some 31 ∷ None ∷ None ∷ []

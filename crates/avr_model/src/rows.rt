@@ -24,27 +24,45 @@ pub struct EnablePlace {
     pub enable: Enable,
 }
 
-/// IVSEL, the bit of a control register that moves the vectors to the boot section.
+/// Bits of a control register that move vectors: IVSEL, which moves them to the boot section, and on AVRxt CVT, by which all share one.
 #[derive(Clone, Copy)]
-pub struct Ivsel {
+pub struct MovingPlace {
     /// A data address of I/O that `sbi` and `cbi` do not reach, and not SPL, SPH or SREG.
     pub address: u16,
-    /// Its bit, 0 to 7: no enable bit.
-    pub bit: u8,
+    /// The bits: none is an enable bit.
+    pub mask: u8,
+}
+
+/// The kind of a device's core.
+#[derive(Clone, Copy)]
+pub enum DeviceKind {
+    /// The registers have the first data addresses, and an interrupt clears I.
+    Classic,
+    /// AVRxt: the registers have no data addresses, and interrupts have levels.
+    Xt,
 }
 
 /// The numbers of a device.
 #[derive(Clone, Copy)]
 pub struct Row {
-    /// The number of bits of a word address: flash has 2 to this power of words. 9 to 17.
+    /// The kind of its core.
+    pub kind: DeviceKind,
+    /// The number of bits of a word address: the program counter counts modulo 2 to this power. 9 to 17.
     pub width: u8,
+    /// The number of words of flash, at most 2 to that power.
+    pub flash_words: u32,
+    /// The data address at which flash is mapped, behind SRAM; 0 if it is not.
+    pub map_at: u16,
+    /// How many bytes of flash are mapped there; 0 if it is not.
+    pub map_bytes: u32,
     /// The number of bytes in which a word address is pushed: 2 or 3, so that they hold each word address.
     pub back: u8,
     /// The data address of I/O address 0, and the number of registers that have data addresses: those below it. 0x20, or 0.
     pub io_base: u16,
     /// The last address of I/O, at most 0x77FF; SRAM begins behind it.
     pub io_end: u16,
-    /// No data address behind this one is a register's, the stack pointer's, the status register's, an enable place or IVSEL. At most 0x1004.
+    /// No data address behind this one is a register's, the stack pointer's, the status register's, an enable place or a place that moves vectors. At
+    /// most 0x1004.
     pub guarded_end: u16,
     /// The number of bytes of SRAM, at most 32,768; it ends below 0x8200.
     pub size: u16,
@@ -77,8 +95,8 @@ pub struct Row {
     pub has_break: bool,
     /// Whether each assumption list is read as if it had the line `masks`.
     pub reads_masks: bool,
-    /// The bit that moves the vectors, if there is one.
-    pub ivsel: Option<Ivsel>,
+    /// The places of bits that move vectors.
+    pub moving: [Option<MovingPlace>; 2],
     /// The number of the list of its enable places.
     pub family: u8,
 }
@@ -95,29 +113,45 @@ macro_rules! has {
 
 pub(crate) use has;
 
-// The column of IVSEL: its address and its bit, or `-`.
-macro_rules! ivsel {
+// A place that moves vectors: its address and its mask, or `-`.
+macro_rules! moving {
     (-) => {
         None
     };
-    ([$address:literal $bit:literal]) => {
-        Some(Ivsel {
+    ([$address:literal $mask:literal]) => {
+        Some(MovingPlace {
             address: $address,
-            bit: $bit,
+            mask: $mask,
         })
     };
 }
 
-pub(crate) use ivsel;
+pub(crate) use moving;
+
+// The column of the kind of the core.
+macro_rules! kind {
+    (classic) => {
+        DeviceKind::Classic
+    };
+    (xt) => {
+        DeviceKind::Xt
+    };
+}
+
+pub(crate) use kind;
 
 // A row: the device's name, and the fields of `Row` in their order.
 macro_rules! row {
     (
-        $name:ident $width:literal $back:literal $io_base:literal $io_end:literal $guarded_end:literal $size:literal $sph:tt $step:literal $last:literal $watchdog:literal
-        $open:literal $jmp:tt $mul:tt $movw:tt $lpmx:tt $elpm:tt $elpmx:tt $eijmp:tt $break:tt $masks:tt $ivsel:tt $family:literal
+        $name:ident $kind:ident $width:literal $flash_words:literal $map_at:literal $map_bytes:literal $back:literal $io_base:literal $io_end:literal $guarded_end:literal $size:literal $sph:tt $step:literal $last:literal $watchdog:literal
+        $open:literal $jmp:tt $mul:tt $movw:tt $lpmx:tt $elpm:tt $elpmx:tt $eijmp:tt $break:tt $masks:tt $moving:tt $moving_too:tt $family:literal
     ) => {
         Row {
+            kind: kind!($kind),
             width: $width,
+            flash_words: $flash_words,
+            map_at: $map_at,
+            map_bytes: $map_bytes,
             back: $back,
             io_base: $io_base,
             io_end: $io_end,
@@ -137,7 +171,7 @@ macro_rules! row {
             has_eijmp: has!($eijmp),
             has_break: has!($break),
             reads_masks: has!($masks),
-            ivsel: ivsel!($ivsel),
+            moving: [moving!($moving), moving!($moving_too)],
             family: $family,
         }
     };

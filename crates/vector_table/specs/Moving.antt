@@ -1,13 +1,14 @@
--- The address of IVSEL. Source: own.
+-- The addresses of bits that move vectors. Source: own.
 use Rattle.std.specs.Prelude.{ℕ, ◌==◌, Bool, false, Option, Some, None}
+use Rattle.std.specs.List.{list_any}
 use Rattle.avr_model.specs.declared.device.Device.{Device}
-use Rattle.avr_model.specs.declared.rows.Ivsel.{Ivsel}
+use Rattle.avr_model.specs.declared.rows.MovingPlace.{MovingPlace}
 use Rattle.avr_model.specs.Devices.{device_row}
 
-abbrev pub is_at : Option Ivsel → ℕ → Bool
+abbrev pub is_at : Option MovingPlace → ℕ → Bool
 is_at None a = false
 is_at (Some s) a = s.address == a
 
--- IVSEL is a bit of this address
+-- a bit of this address moves vectors
 unfoldable pub has_ivsel : Device → ℕ → Bool
-has_ivsel device a = is_at (device_row device).ivsel a
+has_ivsel device a = list_any (λ (s : Option MovingPlace). is_at s a) (device_row device).moving
