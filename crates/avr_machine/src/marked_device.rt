@@ -4,9 +4,10 @@ ghost use Rattle.std.specs.Prelude.{◌≡◌, ◌==◌, ◌<◌, ◌≤◌, ◌
 ghost use Rattle.avr_model.specs.Devices.{io_base, back_of, has_sph, sp_count, sreg_address};
 ghost use Rattle.avr_model.specs.State.{REGISTERS, register_at, special, plus_sp, minus_sp};
 ghost use Rattle.avr_model.specs.Vectors.{has_enables};
-ghost use Rattle.vector_table.specs.Moving.{has_ivsel};
+ghost use Rattle.vector_table.specs.Moving.{is_at, has_ivsel};
 
 use avr_model::device::{Device, EIND, GUARDED, RAMPZ, Special};
+use avr_model::rows::MovingPlace;
 use std::marker::Model;
 
 // The data addresses that may have a mark.
@@ -39,14 +40,23 @@ impl Model for MarkedDevice {
     ghost invariant = { λ m. ((a : ℕ) → slice_index_or m.marks a false ≡ (has_enables m.device a || has_ivsel m.device a)) × (m.base ≡ io_base m.device) × (m.back ≡ back_of m.device) × (m.top + 1 ≡ sp_count m.device) };
 }
 
-// Marks the address of IVSEL, too.
-#[tactic(auto, unfolding(vector_table::specs::Moving::has_ivsel))]
-fn mark_ivsel(device: Device, marks: &mut [bool; MARKS])
+// Marks the address of a place that moves vectors.
+fn mark_place(place: Option<MovingPlace>, marks: &mut [bool; MARKS])
+    requires { IfSome place (λ p. p.address < 4101) }
+    ensures { (a : ℕ) → slice_index_or marks.new a false ≡ (slice_index_or marks.old a false || is_at place a) }
+{
+    if let Some(moving) = place {
+        marks[usize::from(moving.address)] = true;
+    }
+}
+
+// Marks the addresses of the places that move vectors, too.
+fn mark_moving(device: Device, marks: &mut [bool; MARKS])
     ensures { (a : ℕ) → slice_index_or marks.new a false ≡ (slice_index_or marks.old a false || has_ivsel device a) }
 {
-    if let Some(ivsel) = device.ivsel() {
-        marks[usize::from(ivsel.address)] = true;
-    }
+    let places = device.moving();
+    mark_place(places[0], marks);
+    mark_place(places[1], marks);
 }
 
 // The greatest number that the stack pointer can hold.
@@ -65,7 +75,7 @@ impl MarkedDevice {
         for place in device.enable_places() {
             marks[usize::from(place.address)] = true;
         }
-        mark_ivsel(device, &mut marks);
+        mark_moving(device, &mut marks);
         MarkedDevice {
             device,
             marks,

@@ -1,5 +1,6 @@
 -- Bits that move vectors are apart from the core, from what `sbi` and `cbi` reach, and from all enable bits.
-use Rattle.std.proofs.Common.{◌≡◌, ◌∙◌, ◌+◌, ◌/◌, ◌%◌, ◌^◌, ◌<◌, ◌≤◌, refl, subst, ap, ap₂, ℕ, Bool, true, false, ◌==◌, ◌&&◌, ◌||◌, not, nat_le, nat_lt, List, [], ◌∷◌, Option, Some, None, inl, inr, arith}
+use Rattle.std.proofs.Common.{◌≡◌, ◌∙◌, ◌+◌, ◌/◌, ◌%◌, ◌^◌, ◌<◌, ◌≤◌, refl, subst, ap, ap₂, ℕ, zero, suc, Bool, true, false, ◌==◌, ◌&&◌, ◌||◌, not, nat_le, nat_lt, List, [], ◌∷◌, Option, Some, None, inl, inr, arith}
+use Rattle.std.specs.Prelude.{slice_index_or}
 use Rattle.std.specs.Int.{bit_at}
 use Rattle.std.specs.List.{list_all, list_any, find}
 use Rattle.std.specs.Option.{option_map}
@@ -13,9 +14,9 @@ use Rattle.avr_model.specs.declared.rows.EnablePlace.{EnablePlace}
 use Rattle.avr_model.specs.Bits.{any_below}
 use Rattle.avr_model.specs.Families.{family_of}
 use Rattle.avr_model.specs.Devices.{device_row, io_base, guarded_end}
-use Rattle.avr_model.specs.Vectors.{enable_places, covers, has_common, is_core, is_bit_of, is_ivsel, enable_of}
+use Rattle.avr_model.specs.Vectors.{enable_places, covers, has_common, is_core, is_bit_of, is_ivsel, sets_bit_of, sets_ivsel, enable_of}
 use Rattle.avr_model.specs.Laws.{IvselIsApart}
-use Rattle.avr_model.proofs.Below.{some_below}
+use Rattle.avr_model.proofs.Below.{some_below, any_found}
 use Rattle.avr_model.proofs.Facts.{is_apart, passes}
 
 none_found : {X : Type 0} (p : X → Bool) (xs : List X) → list_any p xs ≡ false → find p xs ≡ None
@@ -112,6 +113,46 @@ pub apart : (d : Device) (a b : ℕ) → is_ivsel d a b ≡ true → Apart d a b
 unfolding is_ivsel
 apart d a b is = by_places d (device_row d).moving a b (passes d 12) is
 
+-- ---- a write that sets one
+
+set_at : (o : Option MovingPlace) (a byte : ℕ) → sets_bit_of o a byte ≡ true → (b : ℕ) × ((is_bit_of o a b ≡ true) × (bit_at byte b ≡ 1))
+unfolding has_common
+set_at None a byte is = absurd (cc)
+set_at (Some s) a byte is =
+    let parts = and_parts (s.address == a) (has_common byte s.mask) is in
+    let found = any_found 8 (λ k. (bit_at byte k == 1) && (bit_at s.mask k == 1)) parts.1 in
+    let bits = and_parts (bit_at byte found.0 == 1) (bit_at s.mask found.0 == 1) found.2 in
+    (found.0, (both (s.address == a) (bit_at s.mask found.0 == 1) parts.0 bits.1, same (bit_at byte found.0) 1 bits.0))
+
+either_true : (x y : Bool) → x ≡ true → (x || y) ≡ true
+either_true x y h = grind arith
+
+or_true : (x y : Bool) → y ≡ true → (x || y) ≡ true
+or_true x y h = grind arith
+
+set_in : (os : List (Option MovingPlace)) (a byte : ℕ) → list_any (λ (s : Option MovingPlace). sets_bit_of s a byte) os ≡ true
+    → (b : ℕ) × ((list_any (λ (s : Option MovingPlace). is_bit_of s a b) os ≡ true) × (bit_at byte b ≡ 1))
+set_in [] a byte is = absurd (cc)
+set_in (o ∷ os) a byte is = by (sets_bit_of o a byte) refl is (set_in os a byte)
+  where
+    by : (t : Bool) → sets_bit_of o a byte ≡ t → (t || list_any (λ (s : Option MovingPlace). sets_bit_of s a byte) os) ≡ true
+        → (list_any (λ (s : Option MovingPlace). sets_bit_of s a byte) os ≡ true → (b : ℕ) × ((list_any (λ (s : Option MovingPlace). is_bit_of s a b) os ≡ true) × (bit_at byte b ≡ 1)))
+        → (b : ℕ) × ((list_any (λ (s : Option MovingPlace). is_bit_of s a b) (o ∷ os) ≡ true) × (bit_at byte b ≡ 1))
+    by true here h rest = let s = set_at o a byte here in (s.0, (either_true (is_bit_of o a s.0) _ s.1.0, s.1.1))
+    by false other h rest = let s = rest h in (s.0, (or_true (is_bit_of o a s.0) _ s.1.0, s.1.1))
+
+set : (d : Device) (a byte : ℕ) → sets_ivsel d a byte ≡ true → (b : ℕ) × ((is_ivsel d a b ≡ true) × (bit_at byte b ≡ 1))
+unfolding is_ivsel sets_ivsel
+set d a byte is = set_in (device_row d).moving a byte is
+
+in_guarded : (d : Device) (os : List (Option MovingPlace)) (k : ℕ) (p : MovingPlace) → list_all (is_apart (device_row d)) os ≡ true → slice_index_or os k None ≡ Some p → p.address ≤ guarded_end d
+in_guarded d [] k p all is = absurd (cc)
+in_guarded d (o ∷ os) zero p all is =
+    let here : is_apart (device_row d) (Some p) ≡ true = subst (λ (x : Option MovingPlace). is_apart (device_row d) x ≡ true) is (and_parts (is_apart (device_row d) o) (list_all (is_apart (device_row d)) os) all).0 in
+    let rest = and_parts (nat_le (io_base d + 0x20) p.address) _ here in
+    at_most_from_test p.address (guarded_end d) (and_parts (nat_le p.address (guarded_end d)) _ rest.1).0
+in_guarded d (o ∷ os) (suc k) p all is = in_guarded d os k p (and_parts (is_apart (device_row d) o) (list_all (is_apart (device_row d)) os) all).1 is
+
 pub ivsel_is_apart : IvselIsApart
 unfolding enable_of
 ivsel_is_apart =
@@ -120,4 +161,6 @@ ivsel_is_apart =
       core = λ d a b is. (apart d a b is).core;
       bit = λ d a b is. (apart d a b is).bit;
       enable = λ d a b is. ap (option_map (λ (p : EnablePlace). p.vector)) (none_found (covers a b) (enable_places d) (apart d a b is).enable);
+      set = set;
+      place = λ d k p is. in_guarded d (device_row d).moving k p (passes d 12) is;
     }

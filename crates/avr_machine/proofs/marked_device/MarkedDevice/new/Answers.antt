@@ -20,7 +20,7 @@ loop-place-preserved c =
 pub invariant_of-result : goal.invariant_of-result
 invariant_of-result c =
     let last : length c.enable_places-place-items.result.now ≤ c.loop-place.place-index = omega (arith, c.loop-place-test.false) in (
-      λ a. c.mark_ivsel.ensures a ∙ ap (λ (b : Bool). b || has_ivsel c.args.device a) (all_marked c.args.device c.enable_places-place-items.result.now c.loop-place.place-index c.loop-place.marks c.enable_places-place-items.ensures last c.loop-place.invariant a),
+      λ a. c.mark_moving.ensures a ∙ ap (λ (b : Bool). b || has_ivsel c.args.device a) (all_marked c.args.device c.enable_places-place-items.result.now c.loop-place.place-index c.loop-place.marks c.enable_places-place-items.ensures last c.loop-place.invariant a),
       c.io_base.ensures.exact,
       c.back.ensures.exact,
       c.greatest_sp.ensures,
