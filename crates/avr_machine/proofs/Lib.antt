@@ -9,7 +9,7 @@ pub mod Resetting
 pub mod Choosing
 pub mod Unheld
 pub mod Marking
-pub mod Ivsel
+pub mod MovingPlaces
 pub mod Unpushed
 pub mod Quieting
 pub mod Loud

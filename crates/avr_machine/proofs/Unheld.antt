@@ -5,7 +5,7 @@ use Rattle.std.proofs.lemmas.List.Elements.{All-head, All-tail}
 use Rattle.std.proofs.lemmas.Bool.Decides.{nat_tests}
 use Rattle.std.specs.Int.{bit_at}
 use Rattle.std.specs.List.{All, list_any}
-use Rattle.vector_table.specs.Moving.{has_ivsel}
+use Rattle.vector_table.specs.Moving.{has_moving}
 use Rattle.vector_table.proofs.AllLaws.{numbers_are_their_bits, enables_are_vectors}
 use Rattle.vector_table.proofs.AllLaws as tables
 use Rattle.avr_model.specs.declared.device.Device.{Device}
@@ -19,24 +19,24 @@ abbrev pub IsSound : Device → EnablePlace → Type 0
 IsSound device p = (is_vector device p.vector ≡ true) × ((is_core device p.address ≡ false) × ((p.address ≤ guarded_end device) × (p.mask < 256)))
 
 -- every bit of the byte there is the input's
-pub free_byte : (device : Device) (still : Bool) (enables address input : ℕ) → input < 256 → (has_enables device address || has_ivsel device address) ≡ false
+pub free_byte : (device : Device) (still : Bool) (enables address input : ℕ) → input < 256 → (has_enables device address || has_moving device address) ≡ false
     → input ≡ io_byte device still enables address input
 free_byte device still enables address input small none =
-    let parts = or_parts (has_enables device address) (has_ivsel device address) none in
+    let parts = or_parts (has_enables device address) (has_moving device address) none in
     tables.free_byte device still enables address input small parts.0 parts.1
 
 -- all bits of the byte there are 0
-pub no_byte : (device : Device) (enables address : ℕ) → (has_enables device address || has_ivsel device address) ≡ false → 0 ≡ kept_byte device enables address
+pub no_byte : (device : Device) (enables address : ℕ) → (has_enables device address || has_moving device address) ≡ false → 0 ≡ kept_byte device enables address
 unfolding kept_byte number_of
 no_byte device enables address none =
-    let here = (or_parts (has_enables device address) (has_ivsel device address) none).0 in
+    let here = (or_parts (has_enables device address) (has_moving device address) none).0 in
     λ i. number_of 8 (λ b. io_bit (sym (enables_are_vectors.no_enable device address b here) i) enables 0)
 
 -- a byte stored there keeps the enable bits
-pub enables_stay : (device : Device) (enables address byte : ℕ) → enables < 2 ^ enable_count device → (has_enables device address || has_ivsel device address) ≡ false → enables ≡ written_enables device enables address byte
+pub enables_stay : (device : Device) (enables address byte : ℕ) → enables < 2 ^ enable_count device → (has_enables device address || has_moving device address) ≡ false → enables ≡ written_enables device enables address byte
 unfolding written_enables
 enables_stay device enables address byte small none =
-    let here = (or_parts (has_enables device address) (has_ivsel device address) none).0 in
+    let here = (or_parts (has_enables device address) (has_moving device address) none).0 in
     let f : ℕ → ℕ = λ k. written_enable (enable_place_at device (k + 2) address) byte (bit_at enables k) in
     let same : (k : ℕ) → bit_at enables k ≡ f k = λ k i. written_enable (sym (enables_are_vectors.none device (k + 2) address here) i) byte (bit_at enables k) in
     numbers_are_their_bits.same (enable_count device) enables f small (λ k lt. same k)

@@ -37,11 +37,11 @@ is_quiet instr = is_quiet_flow instr
 abbrev pub protected_at : Image → List Entry → ℕ → Write → Option ℕ
 protected_at image A pc w = if not (is_fixed_site image A pc) then flagged_write (device_of image) A pc (w ∷ []) else None
 
--- IVSEL is read as 0: the list reads masks on the device of the words
+-- a moving bit is read as 0: the list reads masks on the device of the words
 abbrev pub is_still : Image → List Entry → Bool
 is_still image A = reads_masks (device_of image) A
 
--- the write sets IVSEL, under such a list
+-- the write sets a moving bit, under such a list
 abbrev pub moves_at : Image → List Entry → Write → Bool
 moves_at image A w = moves_vectors (device_of image) (is_still image A) (w ∷ [])
 

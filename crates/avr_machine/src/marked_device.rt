@@ -4,7 +4,7 @@ ghost use Rattle.std.specs.Prelude.{◌≡◌, ◌==◌, ◌<◌, ◌≤◌, ◌
 ghost use Rattle.avr_model.specs.Devices.{io_base, back_of, has_sph, sp_count, sreg_address};
 ghost use Rattle.avr_model.specs.State.{REGISTERS, register_at, special, plus_sp, minus_sp};
 ghost use Rattle.avr_model.specs.Vectors.{has_enables};
-ghost use Rattle.vector_table.specs.Moving.{is_at, has_ivsel};
+ghost use Rattle.vector_table.specs.Moving.{is_at, has_moving};
 
 use avr_model::device::{Device, EIND, GUARDED, RAMPZ, Special};
 use avr_model::rows::MovingPlace;
@@ -13,7 +13,7 @@ use std::marker::Model;
 // The data addresses that may have a mark.
 const MARKS: usize = GUARDED as usize;
 
-/// A device with a mark for each data address that has an enable bit or IVSEL, and with the numbers of its stack, so that few look-ups go
+/// A device with a mark for each data address that has an enable bit or a moving bit, and with the numbers of its stack, so that few look-ups go
 /// through the tables. Seen as the device.
 #[derive(Drop)]
 pub struct MarkedDevice {
@@ -31,13 +31,13 @@ impl Model for MarkedDevice {
     ghost use Rattle.avr_model.specs.declared.device.Device.{Device};
     ghost use Rattle.avr_model.specs.Devices.{io_base, back_of, sp_count};
     ghost use Rattle.avr_model.specs.Vectors.{has_enables};
-    ghost use Rattle.vector_table.specs.Moving.{has_ivsel};
+    ghost use Rattle.vector_table.specs.Moving.{has_moving};
 
     ghost Value = { Device };
 
     ghost view = { λ m. m.device };
 
-    ghost invariant = { λ m. ((a : ℕ) → slice_index_or m.marks a false ≡ (has_enables m.device a || has_ivsel m.device a)) × (m.base ≡ io_base m.device) × (m.back ≡ back_of m.device) × (m.top + 1 ≡ sp_count m.device) };
+    ghost invariant = { λ m. ((a : ℕ) → slice_index_or m.marks a false ≡ (has_enables m.device a || has_moving m.device a)) × (m.base ≡ io_base m.device) × (m.back ≡ back_of m.device) × (m.top + 1 ≡ sp_count m.device) };
 }
 
 // Marks the address of a place that moves vectors.
@@ -52,7 +52,7 @@ fn mark_place(place: Option<MovingPlace>, marks: &mut [bool; MARKS])
 
 // Marks the addresses of the places that move vectors, too.
 fn mark_moving(device: Device, marks: &mut [bool; MARKS])
-    ensures { (a : ℕ) → slice_index_or marks.new a false ≡ (slice_index_or marks.old a false || has_ivsel device a) }
+    ensures { (a : ℕ) → slice_index_or marks.new a false ≡ (slice_index_or marks.old a false || has_moving device a) }
 {
     let places = device.moving();
     mark_place(places[0], marks);
@@ -194,10 +194,10 @@ impl MarkedDevice {
         sp.wrapping_sub(u16::from(count)) & self.top
     }
 
-    /// Whether a data address has an enable bit or IVSEL.
+    /// Whether a data address has an enable bit or a moving bit.
     #[inline(always)]
     pub fn is_marked(&self, address: u16) -> bool
-        ensures { result ≡ (has_enables self.now address || has_ivsel self.now address) }
+        ensures { result ≡ (has_enables self.now address || has_moving self.now address) }
     {
         usize::from(address) < MARKS && self.marks[usize::from(address)]
     }

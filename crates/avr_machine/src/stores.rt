@@ -32,7 +32,7 @@ pub struct Onward {
 
 impl Processor {
     /// Stores a byte at a data address and continues at a word, unless the step is flagged: the byte is live, `protected` is given, or the
-    /// byte sets IVSEL.
+    /// byte sets a moving bit.
     #[tactic(auto, unfolding(avr_model::specs::Step::memory_after))]
     #[inline(always)]
     pub fn store_step(

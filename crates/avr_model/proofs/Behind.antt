@@ -7,11 +7,11 @@ use Rattle.basics.specs.Numbers.{at_most_from_test}
 use Rattle.avr_model.specs.declared.device.Device.{Device}
 use Rattle.avr_model.specs.declared.rows.EnablePlace.{EnablePlace}
 use Rattle.avr_model.specs.Devices.{device_row, io_base, guarded_end, has_sph, has_elpm, has_eijmp}
-use Rattle.avr_model.specs.Vectors.{is_core, enable_places, has_enables, is_ivsel}
+use Rattle.avr_model.specs.Vectors.{is_core, enable_places, has_enables, is_moving}
 use Rattle.avr_model.specs.Laws.{NothingIsBehind}
 use Rattle.avr_model.proofs.Facts.{passes, least_guarded}
 use Rattle.avr_model.proofs.Apart.{in_device}
-use Rattle.avr_model.proofs.Ivsel.{apart}
+use Rattle.avr_model.proofs.MovingPlaces.{apart}
 
 no_core : (base a : ℕ) (sph elpm eijmp : Bool) → base + 0x3F < a
     → (nat_lt a base || ((a == base + 0x3D) || ((a == base + 0x3F) || ((sph && (a == base + 0x3E)) || ((elpm && (a == base + 0x3B)) || (eijmp && (a == base + 0x3C))))))) ≡ false
@@ -43,12 +43,12 @@ enables : (d : Device) (a : ℕ) → guarded_end d < a → has_enables d a ≡ f
 unfolding has_enables enable_places
 enables d a lt = none_at (device_row d).last (guarded_end d) a (is_core d) (enable_places d) lt (passes d 10)
 
-ivsel : (d : Device) (a b : ℕ) → guarded_end d < a → is_ivsel d a b ≡ false
-ivsel d a b lt = by (is_ivsel d a b) refl
+moving : (d : Device) (a b : ℕ) → guarded_end d < a → is_moving d a b ≡ false
+moving d a b lt = by (is_moving d a b) refl
   where
-    by : (t : Bool) → is_ivsel d a b ≡ t → t ≡ false
+    by : (t : Bool) → is_moving d a b ≡ t → t ≡ false
     by true is = let le = at_most_from_test a (guarded_end d) (apart d a b is).most in absurd (omega arith)
     by false is = refl
 
 pub nothing_is_behind : NothingIsBehind
-nothing_is_behind = record { core = core; enables = enables; ivsel = ivsel }
+nothing_is_behind = record { core = core; enables = enables; moving = moving }

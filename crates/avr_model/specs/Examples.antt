@@ -12,7 +12,7 @@ use Rattle.avr_model.specs.Table.{decoded, length_of}
 use Rattle.avr_model.specs.Text.{text_of}
 use Rattle.avr_model.specs.Sites.{is_scratch, is_fixed, path_behind, is_loaded_behind, ijmp_from, table_site}
 use Rattle.avr_model.specs.Bits.{any_below, all_below, number_of}
-use Rattle.avr_model.specs.Vectors.{enable_places, has_common, enable_place_at, enable_of, held_of, held_bits, written_enables, is_ivsel, sets_ivsel}
+use Rattle.avr_model.specs.Vectors.{enable_places, has_common, enable_place_at, enable_of, held_of, held_bits, written_enables, is_moving, sets_moving}
 
 -- the device's numbers are those of the code
 pub code_has_words : WORDS ≡ device.WORDS
@@ -48,8 +48,8 @@ unfolding device_row
 special_of_t1614 = refl
 
 -- IVSEL and CVT of the ATtiny1614, and no other bit
-pub moving_of_t1614 : map (is_ivsel T1614 0x110) (5 ∷ 6 ∷ 7 ∷ []) ++ map (sets_ivsel T1614 0x110) (0x9F ∷ 0x20 ∷ 0x40 ∷ []) ≡ true ∷ true ∷ false ∷ false ∷ true ∷ true ∷ []
-unfolding device_row is_ivsel sets_ivsel has_common any_below
+pub moving_of_t1614 : map (is_moving T1614 0x110) (5 ∷ 6 ∷ 7 ∷ []) ++ map (sets_moving T1614 0x110) (0x9F ∷ 0x20 ∷ 0x40 ∷ []) ≡ true ∷ true ∷ false ∷ false ∷ true ∷ true ∷ []
+unfolding device_row is_moving sets_moving has_common any_below
 moving_of_t1614 = refl
 
 -- the registers' data addresses, and none

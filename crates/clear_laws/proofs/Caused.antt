@@ -1,5 +1,6 @@
 -- A flag has its cause at the node's word, and a node that isn't clear has a cause.
-use Rattle.std.proofs.Common.{◌≡◌, refl, sym, ap, ap₂, ◌∙◌, subst, ℕ, ◌+◌, ◌-◌, ◌<◌, ◌≤◌, nat_lt, nat_le, Bool, true, false, not, ◌&&◌, ◌||◌, ◌⊎◌, inl, inr, ⊎_elim, if◌then◌else◌, List, ◌++◌, Option, Some, None, arith}
+use Rattle.std.proofs.Common.{◌≡◌, refl, sym, ap, ap₂, ◌∙◌, subst, ℕ, ◌+◌, ◌-◌, ◌<◌, ◌≤◌, nat_lt, nat_le, Bool, true, false, not, ◌&&◌, ◌||◌, ◌⊎◌, inl, inr, ⊎_elim, if◌then◌else◌, List, [], ◌∷◌, ◌++◌, Option, Some, None, arith}
+use Rattle.std.specs.List.{list_any}
 use Rattle.std.proofs.lemmas.Bool.{false_from_ne_true as never, and_from, or_left, or_right, or_from, or_cases, not-false, cases_lt}
 use Rattle.std.proofs.lemmas.Option.{same_Some}
 use Rattle.basics.specs.Numbers.{test_from_less, test_from_at_most}
@@ -14,7 +15,7 @@ use Rattle.avr_model.specs.declared.instruction.Instr.{Instr}
 use Rattle.avr_model.specs.declared.instruction.Instr.TheVariants as i
 use Rattle.avr_model.specs.Assumptions.{is_never, is_fixed_site}
 use Rattle.avr_model.specs.Masks.{is_flagged_write}
-use Rattle.avr_model.specs.declared.rows.Ivsel.{Ivsel}
+use Rattle.avr_model.specs.declared.rows.MovingPlace.{MovingPlace}
 use Rattle.avr_model.specs.Devices.{device_row, guarded_end, io_end, ramend, device_of}
 use Rattle.avr_model.specs.Sites.{instruction_at}
 use Rattle.avr_model.specs.State.{State, is_live}
@@ -87,7 +88,7 @@ indirect_by false o x e = absurd (cc)
 
 -- ---- transfers
 
--- an indirect transfer or a call stores nothing, and does not set IVSEL
+-- an indirect transfer or a call stores nothing, and does not set a moving bit
 aim_none : (device : Device) (k : NodeKey) (s : AbsState) (instr : Instr) → (is_indirect instr || is_call instr) ≡ true → aim_of device k s instr ≡ None
 aim_none device k s i.Ijmp e = refl
 aim_none device k s i.Icall e = refl
@@ -97,21 +98,22 @@ aim_none device k s (i.Call t) e = refl
 aim_none device k s (i.Rcall t) e = refl
 aim_none device k s _ e = absurd (cc)
 
-none_set : (o : Option Ivsel) (value : TriByte) → may_set o (λ a. false) value ≡ false
-none_set None value = refl
-none_set (Some v) value = refl
+none_set : (value : TriByte) (os : List (Option MovingPlace)) → list_any (may_set (λ a. false) value) os ≡ false
+none_set value [] = refl
+none_set value (None ∷ os) = none_set value os
+none_set value (Some s ∷ os) = none_set value os
 
 and_none : (a b : Bool) → b ≡ false → (a && b) ≡ false
 and_none true b h = h
 and_none false b h = refl
 
 move_none : (task : Task) (k : NodeKey) (s : AbsState) (instr : Instr) → (is_indirect instr || is_call instr) ≡ true → may_move task k s instr ≡ false
-move_none task k s i.Ijmp e = and_none (masks_by task) _ (none_set (device_row (device_of task.flash)).ivsel (written_bits s i.Ijmp))
-move_none task k s i.Icall e = and_none (masks_by task) _ (none_set (device_row (device_of task.flash)).ivsel (written_bits s i.Icall))
-move_none task k s i.Eijmp e = and_none (masks_by task) _ (none_set (device_row (device_of task.flash)).ivsel (written_bits s i.Eijmp))
-move_none task k s i.Eicall e = and_none (masks_by task) _ (none_set (device_row (device_of task.flash)).ivsel (written_bits s i.Eicall))
-move_none task k s (i.Call t) e = and_none (masks_by task) _ (none_set (device_row (device_of task.flash)).ivsel (written_bits s (i.Call t)))
-move_none task k s (i.Rcall t) e = and_none (masks_by task) _ (none_set (device_row (device_of task.flash)).ivsel (written_bits s (i.Rcall t)))
+move_none task k s i.Ijmp e = and_none (masks_by task) _ (none_set (written_bits s i.Ijmp) (device_row (device_of task.flash)).moving)
+move_none task k s i.Icall e = and_none (masks_by task) _ (none_set (written_bits s i.Icall) (device_row (device_of task.flash)).moving)
+move_none task k s i.Eijmp e = and_none (masks_by task) _ (none_set (written_bits s i.Eijmp) (device_row (device_of task.flash)).moving)
+move_none task k s i.Eicall e = and_none (masks_by task) _ (none_set (written_bits s i.Eicall) (device_row (device_of task.flash)).moving)
+move_none task k s (i.Call t) e = and_none (masks_by task) _ (none_set (written_bits s (i.Call t)) (device_row (device_of task.flash)).moving)
+move_none task k s (i.Rcall t) e = and_none (masks_by task) _ (none_set (written_bits s (i.Rcall t)) (device_row (device_of task.flash)).moving)
 move_none task k s _ e = absurd (cc)
 
 -- what calls a word with a `recur` line is a call
@@ -344,7 +346,7 @@ module _ (task : Task) (f : RankedFamily) where
         inr (inr (inl (caused (λ (n : Node) y. not (is_transfer_listed task pc n.state y) || calls_cut task n.key n.state y) instr is
         (subst (λ q. (not (is_transfer_listed task q may.node.state instr) || calls_cut task may.node.key may.node.state instr) ≡ true) may.is (not_listed task f may.node instr is goes may.unclear)))))
 
-    -- none of them: a write that may set IVSEL, a protected address, or neither
+    -- none of them: a write that may set a moving bit, a protected address, or neither
     by_tests : (instr : Instr) → instruction_at task.flash may.node.key.pc ≡ Some instr → is_indirect instr ≡ false → is_call instr ≡ false → (v p : Bool)
         → may_move task may.node.key may.node.state instr ≡ v → may_write_some_protected task (store_at pc may.node.state instr) ≡ p → HasCause task f pc
     by_tests instr is direct plain true p moves some = inr (inr (inr (caused (λ (n : Node) y. may_move task n.key n.state y) instr is moves)))

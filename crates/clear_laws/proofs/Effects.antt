@@ -16,7 +16,7 @@ use Rattle.avr_model.specs.Text.{far}
 use Rattle.avr_model.specs.State.{State, register}
 use Rattle.avr_model.specs.Effects.{set, port, way_back, binary_effect, immediate_effect, unary_effect, effect_of}
 use Rattle.avr_model.specs.Step.{is_pointer_store, is_push}
-use Rattle.avr_model.specs.Vectors.{sets_ivsel}
+use Rattle.avr_model.specs.Vectors.{sets_moving}
 use Rattle.bit_domain.specs.declared.bits.Tri.TheVariants.{Any}
 use Rattle.bit_domain.specs.TriByte.{Has, byte_any}
 use Rattle.bit_domain.proofs.AllLaws.{bytes_are_sets}
@@ -37,7 +37,7 @@ use Rattle.local_rules.specs.Cover.{InFrameIn}
 use Rattle.basics.specs.Numbers.{equals_itself}
 use Rattle.clear_laws.specs.Aims.{Aim, may_write, aim_of}
 use Rattle.clear_laws.specs.Clear.{stored_bits, may_reach, written_bits}
-use Rattle.clear_laws.proofs.Moving.{ivsel_there}
+use Rattle.clear_laws.proofs.Moving.{set_is_reached}
 use Rattle.clear_laws.proofs.Ports.{PortFits}
 use Rattle.clear_laws.proofs.Rows.{pushes}
 use Rattle.clear_laws.proofs.Aims.{IsAimed, displaced, by_pointer, direct, displaced_off, pointer_off, displaced_permitted, pointer_permitted}
@@ -47,9 +47,9 @@ use Rattle.local_rules.specs.Site.{Task, site_at}
 abbrev pub IsSpWhole : SpForm → Type 0
 IsSpWhole sp = (offset : ℕ) × (sp ≡ Closed offset)
 
--- If the byte sets IVSEL at this address, the instruction may write there, and its bits permit the byte.
+-- If the byte sets a moving bit at this address, the instruction may write there, and its bits permit the byte.
 abbrev pub MaySetTo : Bool → Device → NodeKey → AbsState → Instr → ℕ → ℕ → Type 0
-MaySetTo may device k s instr a byte = may ≡ true → sets_ivsel device a byte ≡ true → (may_reach device k s instr a ≡ true) × Has (written_bits s instr) byte
+MaySetTo may device k s instr a byte = may ≡ true → sets_moving device a byte ≡ true → (may_reach device k s instr a ≡ true) × Has (written_bits s instr) byte
 
 -- The stores and pushes of an instruction: none; a byte in I/O; a byte within its aim, at a permitted address; a register pushed; or a
 -- return address pushed. It pushes only if the stack pointer is whole, at a node without a fault. A guarded call has no successor in its
@@ -99,12 +99,12 @@ module _ (device : Device) (k : NodeKey) where
 port_low : (device : Device) (a : ℕ) → a < 64 → port device a ≤ io_end device
 port_low device a h = omega (arith, devices_are_alike.least_io device)
 
--- IVSEL is in I/O, beyond the reach of `cbi` and `sbi`
-low_port : (device : Device) (a byte : ℕ) → a < 32 → sets_ivsel device (port device a) byte ≡ true → ⊥
-low_port device a byte low sets = let high = (ivsel_there device (port device a) byte sets).0 in omega (arith, low, high)
+-- a moving bit is in I/O, beyond the reach of `cbi` and `sbi`
+low_port : (device : Device) (a byte : ℕ) → a < 32 → sets_moving device (port device a) byte ≡ true → ⊥
+low_port device a byte low sets = let high = (set_is_reached device (port device a) byte sets).0 in omega (arith, low, high)
 
-ivsel_low : (device : Device) (a byte : ℕ) → sets_ivsel device a byte ≡ true → a ≤ io_end device
-ivsel_low device a byte sets = (ivsel_there device a byte sets).1
+set_is_low : (device : Device) (a byte : ℕ) → sets_moving device a byte ≡ true → a ≤ io_end device
+set_is_low device a byte sets = let there = (set_is_reached device a byte sets).1 in let inside = devices_are_alike.guarded_in device in omega (arith, there, inside)
 
 -- ---- operations on registers
 
@@ -174,13 +174,13 @@ module _ {followed may : Bool} (task : Task) (m : State) (o : Origin) (k : NodeK
   does_by (i.Ldd d b q) fits = nothing refl refl
   does_by (i.Std b q r) fits =
       by_aim _ _ _ refl (displaced m o k s at sees b q) (displaced_permitted m o k s at sees b q) (holds r)
-      (λ on sets. (and_from _ _ (displaced_permitted m o k s at sees b q) (displaced_off m o k s at sees b q on (ivsel_low m.device _ _ sets)), holds r)) refl refl
+      (λ on sets. (and_from _ _ (displaced_permitted m o k s at sees b q) (displaced_off m o k s at sees b q on (set_is_low m.device _ _ sets)), holds r)) refl refl
   does_by (i.Lds d a) fits = nothing refl refl
   does_by (i.Sts a r) fits = by_aim _ _ _ refl (direct m o k s at sees a) (equals_itself a) (any_holds _) (λ on sets. (equals_itself a, holds r)) refl refl
   does_by (i.Ld d p) fits = nothing refl refl
   does_by (i.St p r) fits =
       by_aim _ _ _ refl (by_pointer m o k s at sees p) (pointer_permitted m o k s at sees p) (holds r)
-      (λ on sets. (and_from _ _ (pointer_permitted m o k s at sees p) (pointer_off m o k s at sees p on (ivsel_low m.device _ _ sets)), holds r)) refl refl
+      (λ on sets. (and_from _ _ (pointer_permitted m o k s at sees p) (pointer_off m o k s at sees p on (set_is_low m.device _ _ sets)), holds r)) refl refl
   does_by (i.LpmZ d) fits = nothing refl refl
   does_by (i.ElpmZ d) fits = nothing refl refl
   does_by (i.LpmZPlus d) fits = nothing refl refl

@@ -205,7 +205,7 @@ module _ (task : Task) (f : RankedFamily) (n : Node) (held : ℕ → Bool) where
     abbrev transfers_listed : Bool
     transfers_listed = is_transfer_listed task n.key.pc n.state x
 
-    -- it calls no word with a `recur` line, and does not set IVSEL
+    -- it calls no word with a `recur` line, and does not set a moving bit
     abbrev stays : Bool
     stays = not (calls_cut task n.key n.state x) && not (may_move task n.key n.state x)
 

@@ -414,7 +414,7 @@ module _ (task : Task) (f : RankedFamily) (sound : IsSoundFamily task f) (m : St
     pub writes : IsSafe ⊎ IsStore
     writes = sorted done_so
 
-    -- a step that sets IVSEL is at a node whose instruction may
+    -- a step that sets a moving bit is at a node whose instruction may
     abbrev moving : Bool
     moving = moves_vectors (device_of task.flash) (masks_by task) effect.stores
 

@@ -31,7 +31,7 @@ may_write_some_protected task store = any_below (guarded_end (device_of task.fla
 abbrev pub may_write_stack : Device → ℕ → AbsState → Instr → Bool
 may_write_stack device bound s instr = any_below bound (λ d. may_write s instr (ramend device - d))
 
--- it is an indirect transfer, calls a word that has a `recur` line, or may set IVSEL
+-- it is an indirect transfer, calls a word that has a `recur` line, or may set a moving bit
 abbrev pub may_leave : Task → NodeKey → Store → Bool
 may_leave task k store = is_indirect store.instr || (calls_cut task k store.state store.instr || may_move task k store.state store.instr)
 
@@ -57,7 +57,7 @@ pub record IsCause (task : Task) (f : RankedFamily) (pc : ℕ) (test : Node → 
   pub passes : test node instr ≡ true
 
 -- a store may write this protected address; a store may write a pushed byte; an indirect transfer may go to a word that its `jump` line
--- does not list, or a call enters a word that has a `recur` line; IVSEL may be set
+-- does not list, or a call enters a word that has a `recur` line; a moving bit may be set
 abbrev pub MayWriteProtected : Task → RankedFamily → ℕ → ℕ → Type 0
 MayWriteProtected task f pc a = IsCause task f pc (λ (n : Node) instr. may_write_protected task (store_at pc n.state instr) a)
 

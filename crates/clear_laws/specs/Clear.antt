@@ -13,7 +13,8 @@ use Rattle.avr_model.specs.declared.instruction.Instr.TheVariants as i
 use Rattle.avr_model.specs.Assumptions.{jump_line, store_line, recur_line, is_never, is_fixed_site, lists}
 use Rattle.avr_model.specs.Bits.{all_below}
 use Rattle.avr_model.specs.Masks.{admits_enables}
-use Rattle.avr_model.specs.declared.rows.Ivsel.{Ivsel}
+use Rattle.avr_model.specs.declared.rows.MovingPlace.{MovingPlace}
+use Rattle.node_keys.specs.Wakes.{may_have}
 use Rattle.avr_model.specs.Devices.{device_row, io_end, ramend, wrapped, eind_most, device_of}
 use Rattle.avr_model.specs.Effects.{port}
 use Rattle.avr_model.specs.Text.{far}
@@ -97,7 +98,7 @@ pub data IsHarmless (task : Task) (f : RankedFamily) (n : Node) (instr : Instr) 
       → ((a : ℕ) → a < 65536 → may_write n.state instr a ≡ true → is_address_harmless task f.bound (store_at n.key.pc n.state instr) a ≡ true) → IsHarmless task f n instr aim
   free_slot : (d : ℕ) → aim.slot ≡ Some d → d < offset_of n.key.sp → (MayHold task f.nodes n.key d → ⊥) → IsHarmless task f n instr aim
 
--- ---- IVSEL
+-- ---- moving bits
 
 -- The byte of the instruction may go to this address: `out` and `sts` write theirs, `st` and `std` what the pointer permits, unless it is
 -- known to be a slot of the running frame.
@@ -114,13 +115,15 @@ written_bits s (i.Out p r) = bits s r
 written_bits s (i.Sts a r) = bits s r
 written_bits s instr = stored_bits s instr
 
-abbrev pub may_set : Option Ivsel → (ℕ → Bool) → TriByte → Bool
-may_set None reaches value = false
-may_set (Some v) reaches value = reaches v.address && permits (tri_at value v.bit) 1
+-- the value may set a bit of the place, at one of these addresses
+abbrev pub may_set : (ℕ → Bool) → TriByte → Option MovingPlace → Bool
+may_set reaches value None = false
+may_set reaches value (Some s) = reaches s.address && may_have value s.mask
 
--- the instruction may set IVSEL, under a list that reads masks
+-- the instruction may set a bit that moves vectors, under a list that reads masks
 abbrev pub may_move : Task → NodeKey → AbsState → Instr → Bool
-may_move task k s instr = masks_by task && may_set (device_row (device_of task.flash)).ivsel (may_reach (device_of task.flash) k s instr) (written_bits s instr)
+may_move task k s instr =
+    masks_by task && list_any (may_set (may_reach (device_of task.flash) k s instr) (written_bits s instr)) (device_row (device_of task.flash)).moving
 
 -- ---- transfers
 
@@ -169,7 +172,7 @@ AreTargetsListed device s bank (Some listed) =
 
 -- ---- nodes
 
--- A store is harmless. An indirect transfer with a `jump` line goes to listed words only. No call enters a word with a `recur` line. IVSEL
+-- A store is harmless. An indirect transfer with a `jump` line goes to listed words only. No call enters a word with a `recur` line. A moving bit
 -- isn't set.
 pub record IsClear (task : Task) (f : RankedFamily) (n : Node) : Type 0 where
   pub store : (instr : Instr) (aim : Aim) → instruction_at task.flash n.key.pc ≡ Some instr → aim_of (device_of task.flash) n.key n.state instr ≡ Some aim

@@ -14,7 +14,7 @@ pub struct FlaggedPlace {
     pub live: bool,
     /// Whether an indirect transfer may go to a word that its `jump` line does not list, or a call enters a word that has a `recur` line.
     pub transfer: bool,
-    /// Whether IVSEL may be set.
+    /// Whether a moving bit may be set.
     pub moves: bool,
     /// The numbers that the pointer of a store, jump or call may have there, by all nodes; None without a pointer or a number.
     pub pointer: Option<PointerNumbers>,

@@ -11,7 +11,7 @@ use Rattle.avr_model.specs.declared.effect.Effect.{Effect}
 use Rattle.avr_model.specs.State.{State, REGISTERS, register_at, read_behind, is_sph, sram_at, is_sram, byte_in, read, low, high, plus_sp, minus_sp}
 use Rattle.avr_model.specs.Effects.{back_bytes, pushed_from}
 use Rattle.avr_model.specs.Step.{with_registers, register_stored, registers_after, sreg_after, sp_after, open_after, enables_after, after}
-use Rattle.avr_model.specs.Vectors.{enable_count, is_ivsel, io_bit, io_byte}
+use Rattle.avr_model.specs.Vectors.{enable_count, is_moving, io_bit, io_byte}
 use Rattle.vector_table.proofs.AllLaws.{numbers_are_their_bits, enables_are_vectors}
 use Rattle.local_rules.specs.Machine.{IsMachine}
 use Rattle.local_laws.proofs.BankSizes.{AreBankWrites, kept_small, banks_set, banks_after}
@@ -120,12 +120,12 @@ after_stays m guarded e h fits banked =
 
 -- ---- bytes that are read
 
--- a bit that no place holds: IVSEL is 0 if `still`, every other is the input byte's
+-- a bit that no place holds: a moving bit is 0 if `still`, every other is the input byte's
 abbrev pub free_bit : Device → Bool → ℕ → ℕ → ℕ → ℕ
-free_bit device still a input b = if still && is_ivsel device a b then 0 else bit_at input b
+free_bit device still a input b = if still && is_moving device a b then 0 else bit_at input b
 
 pub free_small : (device : Device) (still : Bool) (a input b : ℕ) → free_bit device still a input b < 2
-free_small device still a input b = by (still && is_ivsel device a b)
+free_small device still a input b = by (still && is_moving device a b)
   where
     by : (c : Bool) → (if c then 0 else bit_at input b) < 2
     by true = omega arith

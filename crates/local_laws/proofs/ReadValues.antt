@@ -12,7 +12,7 @@ use Rattle.avr_model.proofs.AllLaws.{devices_are_alike}
 use Rattle.avr_model.specs.Devices.{io_end, ramend, has_sph}
 use Rattle.avr_model.specs.declared.device.Device.{Device}
 use Rattle.avr_model.specs.Sreg.{flag}
-use Rattle.avr_model.specs.Vectors.{enable_of, held_of, has_enables, is_ivsel, io_bit, io_byte, kept_byte}
+use Rattle.avr_model.specs.Vectors.{enable_of, held_of, has_enables, is_moving, io_bit, io_byte, kept_byte}
 use Rattle.avr_model.specs.declared.device.Special.{Special}
 use Rattle.avr_model.specs.declared.device.Special.TheVariants.{Spl, Sph, Sreg}
 use Rattle.avr_model.specs.State.{State, register_at, special, read_behind as machine_behind, read, sram_at, byte_in, is_live, is_sram, low, high, minus16}
@@ -126,11 +126,11 @@ free_permits false bit = tt
 io_has : (device : Device) (may : Bool) (enables masks a input : ℕ) → EnablesAre may enables masks → Has (io_bits device may masks a) (io_byte device may enables a input)
 unfolding io_byte
 io_has device may enables masks a input h =
-    bytes_are_sets.built (λ b. io_tri (free_tri (may && is_ivsel device a b)) may (held_of device a b) masks) (io_byte device may enables a input) (λ b lt.
-    subst (Permits (io_tri (free_tri (may && is_ivsel device a b)) may (held_of device a b) masks))
+    bytes_are_sets.built (λ b. io_tri (free_tri (may && is_moving device a b)) may (held_of device a b) masks) (io_byte device may enables a input) (λ b lt.
+    subst (Permits (io_tri (free_tri (may && is_moving device a b)) may (held_of device a b) masks))
     (sym (numbers_are_their_bits.bits 8 (λ j. io_bit (held_of device a j) enables (free_bit device may a input j))
     (λ j l. io_value (held_of device a j) enables (free_bit device may a input j) (free_small device may a input j)) b lt))
-    (io_permits (free_tri (may && is_ivsel device a b)) may (held_of device a b) enables masks (free_bit device may a input b) (free_permits (may && is_ivsel device a b) (bit_at input b))
+    (io_permits (free_tri (may && is_moving device a b)) may (held_of device a b) enables masks (free_bit device may a input b) (free_permits (may && is_moving device a b) (bit_at input b))
     (λ v e. bit_permits may enables masks (v - 2) (vector_small device v (enables_are_vectors.held_vector device a b v e)) h)))
 
 -- the byte of which one bit is changed, by each bit that enables a vector

@@ -2,7 +2,7 @@
 
 ghost use Rattle.std.specs.Prelude.{◌≡◌, ◌&&◌, true, IfSome};
 ghost use Rattle.std.specs.Int.{from_bool};
-ghost use Rattle.avr_model.specs.Vectors.{is_vector, is_ivsel};
+ghost use Rattle.avr_model.specs.Vectors.{is_vector, is_moving};
 ghost use Rattle.sp_domain.specs.Slots.{slot_at};
 ghost use Rattle.local_rules.specs.Reads.{enable_read, io_tri, free_tri, io_bits, kept_bits, value_of, slot_read, read_at};
 
@@ -15,7 +15,7 @@ use local_rows::registers::value_at;
 use local_rows::status::sreg_value;
 use node_keys::{Kind, NodeKey};
 use sp_domain::Slot;
-use vector_table::{Masks, enable_of, held_of, is_ivsel};
+use vector_table::{Masks, enable_of, held_of, is_moving};
 
 // An enable bit by the key. If `may`, the key has what may be enabled, and the bit is 0 or unknown.
 fn enable_read(may: bool, on: bool) -> Tri
@@ -38,11 +38,11 @@ fn io_tri(free: Tri, may: bool, device: Device, vector: Option<u8>, masks: Masks
     }
 }
 
-// A bit that no key knows: IVSEL is read as 0 if `may`, every other is unknown.
+// A bit that no key knows: a moving bit is read as 0 if `may`, every other is unknown.
 fn free_tri(device: Device, may: bool, address: u16, bit: u8) -> Tri
-    ensures { result ≡ free_tri (may && is_ivsel device address bit) }
+    ensures { result ≡ free_tri (may && is_moving device address bit) }
 {
-    if may && is_ivsel(device, address, bit) {
+    if may && is_moving(device, address, bit) {
         Tri::Zero
     } else {
         Tri::Any

@@ -6,7 +6,7 @@ use Rattle.avr_model.specs.Devices.{device_row, Image, T1614, image_of}
 use Rattle.avr_model.specs.Masks.{reads_masks}
 use Rattle.avr_model.specs.Sites.{is_scratch, table_site, ijmp_from}
 use Rattle.avr_model.specs.Table.{decoded, length_of}
-use Rattle.avr_model.specs.Vectors.{enable_places, held_of, enable_place_at, is_ivsel}
+use Rattle.avr_model.specs.Vectors.{enable_places, held_of, enable_place_at, is_moving}
 use Rattle.bit_domain.specs.Packed.{packed}
 use Rattle.bit_domain.specs.Numbers.{numbers_of}
 use Rattle.sp_domain.specs.declared.tags.Tag.{Tag}
@@ -74,11 +74,11 @@ reads_flags = refl
 
 -- 0x005d is another address of I/O, and 0 is not that of r0
 loads_other : values 28 (raw (task_with (firmware 0x91C0 0x005D) []) (in_call (Closed 2)) pushed) ≡ unknown ∷ []
-unfolding raw table_site ijmp_from is_scratch any_below all_below decoded device_row read_at enable_places held_of is_ivsel packed reads_masks has_masks length_of settled_state settled_values
+unfolding raw table_site ijmp_from is_scratch any_below all_below decoded device_row read_at enable_places held_of is_moving packed reads_masks has_masks length_of settled_state settled_values
 loads_other = refl
 
 loads_no_register : values 28 (raw (task_with (firmware 0x91C0 0x0000) []) (in_call (Closed 2)) pushed) ≡ unknown ∷ []
-unfolding raw table_site ijmp_from is_scratch any_below all_below decoded device_row read_at enable_places held_of is_ivsel packed reads_masks has_masks length_of settled_state settled_values
+unfolding raw table_site ijmp_from is_scratch any_below all_below decoded device_row read_at enable_places held_of is_moving packed reads_masks has_masks length_of settled_state settled_values
 loads_no_register = refl
 
 -- `sts 0x003e, r29` opens the pair, `sts 0x005e, r29` and `sts 0x001d, r0` change nothing

@@ -8,7 +8,7 @@ use Rattle.avr_model.specs.Devices.{device_row, M328, image_of}
 use Rattle.avr_model.specs.Masks.{reads_masks, admits_enables}
 use Rattle.avr_model.specs.Sites.{is_scratch, is_fixed, path_behind, is_loaded_behind, table_site, ijmp_from}
 use Rattle.avr_model.specs.Table.{length_of, decoded}
-use Rattle.avr_model.specs.Vectors.{enable_places, enable_place_at, held_of, enable_of, has_enable_place, is_ivsel}
+use Rattle.avr_model.specs.Vectors.{enable_places, enable_place_at, held_of, enable_of, has_enable_place, is_moving}
 use Rattle.bit_domain.specs.declared.bits.Tri.{Tri}
 use Rattle.bit_domain.specs.declared.bits.Tri.TheVariants.{Zero, One, Any}
 use Rattle.bit_domain.specs.Numbers.{numbers_of}
@@ -67,17 +67,17 @@ unfolding raw table_site ijmp_from is_scratch any_below all_below decoded device
 reads_exactly = refl
 
 reads_what_may_be : bits_read (leads 0x9100 0x006E (Masks ∷ []) 8192 pushed) ≡ (Zero, Any, Zero) ∷ []
-unfolding raw table_site ijmp_from is_scratch any_below all_below decoded device_row read_at held_of enable_of enable_places packed reads_masks has_masks length_of is_ivsel settled_state settled_values
+unfolding raw table_site ijmp_from is_scratch any_below all_below decoded device_row read_at held_of enable_of enable_places packed reads_masks has_masks length_of is_moving settled_state settled_values
 reads_what_may_be = refl
 
 -- `in r16, 0x35`: the second bit of MCUCR is IVSEL
 reads_no_moved_vectors : bits_read (leads 0xB705 0xFFFF (Masks ∷ []) 1 pushed) ≡ (Any, Zero, Any) ∷ []
-unfolding raw table_site ijmp_from is_scratch any_below all_below decoded device_row read_at held_of is_ivsel enable_places packed reads_masks has_masks settled_state settled_values
+unfolding raw table_site ijmp_from is_scratch any_below all_below decoded device_row read_at held_of is_moving enable_places packed reads_masks has_masks settled_state settled_values
 reads_no_moved_vectors = refl
 
 -- without the line nothing is known of it
 reads_any_vectors : bits_read (leads 0xB705 0xFFFF [] 1 pushed) ≡ (Any, Any, Any) ∷ []
-unfolding raw table_site ijmp_from is_scratch any_below all_below decoded device_row read_at held_of is_ivsel enable_places packed reads_masks has_masks settled_state settled_values
+unfolding raw table_site ijmp_from is_scratch any_below all_below decoded device_row read_at held_of is_moving enable_places packed reads_masks has_masks settled_state settled_values
 reads_any_vectors = refl
 
 -- ---- skips: `sbic 0x1D, 0` and `sbis 0x1D, 0` of vector 2's enable bit
@@ -87,16 +87,16 @@ unfolding raw table_site ijmp_from is_scratch any_below all_below decoded device
 skips_exactly = refl
 
 skips_or_not : ways (leads 0x99E8 0xFFFF (Masks ∷ []) 1 pushed) ≡ (1, 1) ∷ (2, 0) ∷ []
-unfolding raw table_site ijmp_from is_scratch any_below all_below decoded device_row read_at held_of enable_of enable_places packed reads_masks has_masks length_of number_of is_ivsel settled_state settled_values
+unfolding raw table_site ijmp_from is_scratch any_below all_below decoded device_row read_at held_of enable_of enable_places packed reads_masks has_masks length_of number_of is_moving settled_state settled_values
 skips_or_not = refl
 
 skips_where_set : ways (leads 0x9BE8 0xFFFF (Masks ∷ []) 1 pushed) ≡ (1, 0) ∷ (2, 1) ∷ []
-unfolding raw table_site ijmp_from is_scratch any_below all_below decoded device_row read_at held_of enable_of enable_places packed reads_masks has_masks length_of number_of is_ivsel settled_state settled_values
+unfolding raw table_site ijmp_from is_scratch any_below all_below decoded device_row read_at held_of enable_of enable_places packed reads_masks has_masks length_of number_of is_moving settled_state settled_values
 skips_where_set = refl
 
 -- the enable bit of a vector outside the set is 0
 skips_once : ways (leads 0x99E8 0xFFFF (Masks ∷ []) 2 pushed) ≡ (2, 2) ∷ []
-unfolding raw table_site ijmp_from is_scratch any_below all_below decoded device_row read_at held_of enable_of enable_places packed reads_masks has_masks length_of number_of is_ivsel settled_state settled_values
+unfolding raw table_site ijmp_from is_scratch any_below all_below decoded device_row read_at held_of enable_of enable_places packed reads_masks has_masks length_of number_of is_moving settled_state settled_values
 skips_once = refl
 
 -- ---- one bit is written: `sbi 0x1D, 1` and `cbi 0x1D, 0`

@@ -6,7 +6,7 @@ use Rattle.avr_model.specs.declared.device.Special.{Special}
 use Rattle.avr_model.specs.declared.device.Special.TheVariants.{Spl, Sph, Sreg}
 use Rattle.avr_model.specs.Devices.{Image, words_of, io_end, ramend, device_of}
 use Rattle.avr_model.specs.Image.{byte_at}
-use Rattle.avr_model.specs.Vectors.{enable_of, held_of, is_ivsel}
+use Rattle.avr_model.specs.Vectors.{enable_of, held_of, is_moving}
 use Rattle.avr_model.specs.State.{register_at, special, low, high, plus16, minus16}
 use Rattle.bit_domain.specs.declared.bits.Tri.{Tri}
 use Rattle.bit_domain.specs.declared.bits.Tri.TheVariants.{Zero, One, Any}
@@ -80,14 +80,14 @@ abbrev pub io_tri : Tri → Bool → Option ℕ → ℕ → Tri
 io_tri free may None masks = free
 io_tri free may (Some v) masks = enable_read may (bit_at masks (v - 2))
 
--- a bit that no key knows: IVSEL is read as 0 if `may`, every other is unknown
+-- a bit that no key knows: a moving bit is read as 0 if `may`, every other is unknown
 abbrev pub free_tri : Bool → Tri
 free_tri true = Zero
 free_tri false = Any
 
--- what a read of an I/O address gives: held bits by the key, other bits are unknown but for IVSEL
+-- what a read of an I/O address gives: held bits by the key, other bits are unknown but for a moving bit
 abbrev pub io_bits : Device → Bool → ℕ → ℕ → TriByte
-io_bits device may masks a = byte_of (λ b. io_tri (free_tri (may && is_ivsel device a b)) may (held_of device a b) masks)
+io_bits device may masks a = byte_of (λ b. io_tri (free_tri (may && is_moving device a b)) may (held_of device a b) masks)
 
 -- The byte of an I/O address of which `sbi` and `cbi` change one bit: each bit that enables a vector is that of the key, every other bit is
 -- 0. So writing it back leaves all other enable bits of the key.

@@ -9,7 +9,7 @@ use Rattle.avr_model.specs.Devices.{device_row, Image, image_of}
 use Rattle.avr_model.specs.Masks.{reads_masks}
 use Rattle.avr_model.specs.Sites.{is_scratch, table_site, ijmp_from}
 use Rattle.avr_model.specs.Table.{length_of, decoded}
-use Rattle.avr_model.specs.Vectors.{enable_places, enable_place_at, held_of, enable_of, is_ivsel, is_enabled, has_enable_place}
+use Rattle.avr_model.specs.Vectors.{enable_places, enable_place_at, held_of, enable_of, is_moving, is_enabled, has_enable_place}
 use Rattle.bit_domain.specs.declared.bits.Tri.{Tri}
 use Rattle.bit_domain.specs.declared.bits.Tri.TheVariants.{Zero, Any}
 use Rattle.bit_domain.specs.Numbers.{numbers_of}
@@ -82,7 +82,7 @@ bits_read r =
     r.moves
 
 reads_held : bits_read (raw (task_with (small 0x9100 0x005B) []) (at_0 Root 1 (Closed 0)) root) ≡ (Zero, Any, Any, Any) ∷ []
-unfolding raw table_site ijmp_from is_scratch any_below all_below decoded device_row read_at held_of is_ivsel enable_places packed reads_masks has_masks length_of settled_state settled_values
+unfolding raw table_site ijmp_from is_scratch any_below all_below decoded device_row read_at held_of is_moving enable_places packed reads_masks has_masks length_of settled_state settled_values
 reads_held = refl
 
 abbrev enables : Raw → List ℕ

@@ -7,7 +7,7 @@ use Rattle.avr_model.specs.Devices.{device_row, Image, image_of}
 use Rattle.avr_model.specs.Masks.{reads_masks}
 use Rattle.avr_model.specs.Sites.{is_scratch, table_site, ijmp_from}
 use Rattle.avr_model.specs.Table.{decoded}
-use Rattle.avr_model.specs.Vectors.{enable_places, held_of, enable_of, enable_place_at, is_ivsel}
+use Rattle.avr_model.specs.Vectors.{enable_places, held_of, enable_of, enable_place_at, is_moving}
 use Rattle.bit_domain.specs.Packed.{packed}
 use Rattle.bit_domain.specs.Numbers.{numbers_of}
 use Rattle.bit_domain.specs.Sums.{carry_into, borrow_into}
@@ -137,7 +137,7 @@ unfolding raw table_site ijmp_from is_scratch any_below all_below decoded device
 writes_other = refl
 
 reads_other : values 29 (raw (task_with (firmware 0xB7DE 0xFFFF) []) (in_call 6) (with_frame 6 6 (known 0))) ≡ unknown ∷ []
-unfolding raw table_site ijmp_from is_scratch any_below all_below decoded device_row read_at enable_places held_of is_ivsel packed reads_masks settled_state settled_values
+unfolding raw table_site ijmp_from is_scratch any_below all_below decoded device_row read_at enable_places held_of is_moving packed reads_masks settled_state settled_values
 reads_other = refl
 
 -- `rcall .+0` before `in r28, 0x3d` makes room for a return address of two bytes

@@ -8,4 +8,4 @@ pub mod waking;
 
 pub use keys::{EdgeKind, High, InstKey, Kind, NodeKey, SpForm};
 pub use splits::split;
-pub use waking::{may_enable, may_enable_barred, widened, without};
+pub use waking::{may_enable, may_enable_barred, may_have, widened, without};

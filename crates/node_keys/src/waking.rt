@@ -3,7 +3,7 @@
 ghost use Rattle.std.specs.Prelude.{◌≡◌, ◌-◌, true, IfSome, if◌then◌else◌};
 ghost use Rattle.std.specs.Int.{bit_at, from_bool};
 ghost use Rattle.avr_model.specs.Vectors.{is_vector};
-ghost use Rattle.node_keys.specs.Wakes.{may_enable, may_enable_barred, may_wake, widened, without};
+ghost use Rattle.node_keys.specs.Wakes.{may_have, may_enable, may_enable_barred, may_wake, widened, without};
 
 use avr_model::device::Device;
 use bit_domain::TriByte;
@@ -50,11 +50,18 @@ pub fn without(device: Device, may: bool, vector: Option<u8>, masks: Masks) -> M
     }
 }
 
+/// Whether a member of `value` may have 1 at a bit of the mask.
+pub fn may_have(value: &TriByte, mask: u8) -> bool
+    ensures { result ≡ may_have value.now mask }
+{
+    has_common(value.value | !value.known, mask)
+}
+
 /// Whether a member of `value` may enable the place's vector.
 pub fn may_enable(value: &TriByte, place: &EnablePlace) -> bool
     ensures { result ≡ may_enable value.now place.now }
 {
-    has_common(value.value | !value.known, place.mask)
+    may_have(value, place.mask)
 }
 
 /// Whether a member of `value` may enable a vector at data address `address` that is barred.

@@ -236,8 +236,8 @@ module _ (task : Task) (c : Claim) (nodes : List Node) (conditions : List Condit
   abbrev unlisted : Node → Instr → Bool
   unlisted n y = not (is_transfer_listed task pc n.state y) || calls_cut task n.key n.state y
 
-  abbrev to_ivsel : Node → Instr → Bool
-  to_ivsel n y = may_move task n.key n.state y
+  abbrev moves_at : Node → Instr → Bool
+  moves_at n y = may_move task n.key n.state y
 
   pub nothing_there : instruction_at task.flash pc ≡ None → IsPlaceOf task f (record { word = pc; protected = []; live = false; transfer = false; moves = false; pointer = None })
   unfolding IsStrictlySortedBy
@@ -247,7 +247,7 @@ module _ (task : Task) (c : Claim) (nodes : List Node) (conditions : List Condit
         protected = λ a. (λ h. absurd (none_in a h), λ cause. absurd (none_without (λ n y. to_protected a n y) is cause));
         live = (λ h. absurd (never_true h), λ cause. absurd (none_without (λ n y. onto_live n y) is cause));
         transfer = (λ h. absurd (never_true h), λ cause. absurd (none_without (λ n y. unlisted n y) is cause));
-        moves = (λ h. absurd (never_true h), λ cause. absurd (none_without (λ n y. to_ivsel n y) is cause));
+        moves = (λ h. absurd (never_true h), λ cause. absurd (none_without (λ n y. moves_at n y) is cause));
         pointer = λ p n h. let no : None ≡ Some h.instr = sym is ∙ h.instruction in cc;
       }
 
@@ -291,8 +291,8 @@ module _ (task : Task) (c : Claim) (nodes : List Node) (conditions : List Condit
                 (subst (λ q. (not (is_transfer_listed task q cause.node.state instr) || calls_cut task cause.node.key cause.node.state instr) ≡ true) (sym cause.is) passes),
           );
           moves = (
-            λ h. cause_from instr is (λ n y. to_ivsel n y) (moving.0 h),
-            λ cause. moving.1 (cause_to instr is (λ n y. to_ivsel n y) cause),
+            λ h. cause_from instr is (λ n y. moves_at n y) (moving.0 h),
+            λ cause. moving.1 (cause_to instr is (λ n y. moves_at n y) cause),
           );
           pointer = numbered task f is refl;
         }

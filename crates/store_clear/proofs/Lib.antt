@@ -12,4 +12,3 @@ pub mod Linked
 pub mod Spans
 pub mod Causing
 pub mod Sites
-pub mod Ivsel

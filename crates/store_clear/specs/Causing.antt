@@ -49,7 +49,7 @@ pub record PassesBelow (nodes : List Node) (conditions : List Condition) (pc : �
 abbrev pub IsProtectedAt : Task → List Node → List Condition → ℕ → Instr → ℕ → ℕ → Type 0
 IsProtectedAt task nodes conditions pc instr count a = (a < guarded_end (device_of task.flash) + 1) × PassesBelow nodes conditions pc (λ (n : Node). may_write_protected task (store_at pc n.state instr) a) count
 
--- a store at the node may write a pushed byte, or IVSEL may be set there
+-- a store at the node may write a pushed byte, or a moving bit may be set there
 abbrev pub may_happen : Task → ℕ → Other → ℕ → Instr → Node → Bool
 may_happen task bound Live pc instr n = may_write_live task bound n.key (store_at pc n.state instr)
 may_happen task bound Moves pc instr n = may_move task n.key n.state instr

@@ -101,7 +101,7 @@ fn protected_of(
 enum Other {
     // A store may write a pushed byte.
     Live,
-    // IVSEL may be set.
+    // A moving bit may be set.
     Moves,
 }
 

@@ -81,7 +81,7 @@ pub fn flagged_sites_in(
 
 /// The same word addresses, each with what may happen there by some node that isn't clear: which protected addresses a store may write that
 /// are flagged, whether one may write a byte that was pushed, whether a transfer may go to an unlisted word or be too deep for its line,
-/// whether 1 may be written to IVSEL; and something may happen at each. What a run from reset is flagged for is told of the word at which
+/// whether 1 may be written to a moving bit; and something may happen at each. What a run from reset is flagged for is told of the word at which
 /// it ends, unless it takes a vector that is assumed never to be taken. The error is want of memory. Beside what the words cost, each node
 /// is looked at once, and twice more if it isn't clear. Source: own.
 pub fn flagged_places_in(
@@ -162,7 +162,7 @@ pub fn flagged_sites(task: &Task<'_>, certificate: &Certificate) -> Result<Liste
 
 /// The same word addresses, each with what may happen there by some node that isn't clear: which protected addresses a store may write that
 /// are flagged, whether one may write a byte that was pushed, whether a transfer may go to an unlisted word or be too deep for its line,
-/// whether 1 may be written to IVSEL; and something may happen at each. What a run from reset is flagged for is told of the word at which
+/// whether 1 may be written to a moving bit; and something may happen at each. What a run from reset is flagged for is told of the word at which
 /// it ends, unless it takes a vector that is assumed never to be taken. The error is want of memory. Beside what the words cost, each node
 /// is looked at once, and twice more if it isn't clear. Source: own.
 pub fn flagged_places(

@@ -1,8 +1,6 @@
-//! Whether an instruction may set IVSEL.
+//! Whether an instruction may set a bit that moves vectors.
 
-ghost use Rattle.std.specs.Prelude.{◌≡◌, ◌<◌, Some};
-ghost use Rattle.bit_domain.specs.Tri.{permits};
-ghost use Rattle.bit_domain.specs.TriByte.{tri_at};
+ghost use Rattle.std.specs.Prelude.{◌≡◌};
 ghost use Rattle.family_edges.specs.Tasks.{task_of};
 ghost use Rattle.clear_laws.specs.Clear.{may_reach, written_bits, may_set, may_move};
 ghost use Rattle.local_rules.specs.Writes as writes;
@@ -12,15 +10,15 @@ use crate::writes::may_write;
 use abs_state::AbsState;
 use avr_model::device::Device;
 use avr_model::instruction::Instr;
-use avr_model::rows::Ivsel;
-use bit_domain::{Tri, TriByte};
+use avr_model::rows::MovingPlace;
+use bit_domain::TriByte;
 use family_edges::Task;
 use local_reads::flow::port;
 use local_reads::pointers::{point, step_before};
 use local_rows::registers::bits;
 use local_rows::transfer::{base_register, pointer_register};
 use local_rules::SpView;
-use node_keys::NodeKey;
+use node_keys::{NodeKey, may_have};
 
 // Whether the slot is one of a running frame with this offset.
 fn is_own_slot(slot: Option<u16>, offset: u16) -> bool
@@ -64,34 +62,33 @@ fn written_bits(state: &AbsState, instr: &Instr) -> TriByte
     }
 }
 
-// Whether a bit may be 1.
-fn may_be_one(value: TriByte, bit: u8) -> bool
-    requires { bit < 8 }
-    ensures { result ≡ permits (tri_at value bit) 1 }
+// Whether an instruction may set a bit of the place.
+fn may_set(
+    device: Device,
+    place: Option<MovingPlace>,
+    key: &NodeKey,
+    state: &AbsState,
+    instr: &Instr,
+) -> bool
+    ensures { result ≡ may_set (may_reach device key.now state.now instr.now) (written_bits state.now instr.now) place }
 {
-    !matches!(value.bit(bit), Tri::Zero)
+    match place {
+        Some(moving) => {
+            may_reach(device, key, state, instr, moving.address)
+                && may_have(&written_bits(state, instr), moving.mask)
+        }
+        None => false,
+    }
 }
 
-// Whether an instruction may set this bit.
-fn may_set(device: Device, place: Ivsel, key: &NodeKey, state: &AbsState, instr: &Instr) -> bool
-    requires { place.bit < 8 }
-    ensures { result ≡ may_set (Some place) (may_reach device key.now state.now instr.now) (written_bits state.now instr.now) }
-{
-    may_reach(device, key, state, instr, place.address)
-        && may_be_one(written_bits(state, instr), place.bit)
-}
-
-// Whether an instruction may set IVSEL, under a list that reads masks.
-#[tactic(auto, using(crate::proofs::Ivsel::small_bit))]
+// Whether an instruction may set a bit that moves vectors, under a list that reads masks.
 pub(crate) fn may_move(task: &Task<'_>, key: &NodeKey, state: &AbsState, instr: &Instr) -> bool
     ensures { result ≡ may_move (task_of task.now) key.now state.now instr.now }
 {
     let device = task.flash.device();
-    if !task.assumptions.reads_masks(device) {
-        return false;
-    }
-    match device.ivsel() {
-        Some(place) => may_set(device, place, key, state, instr),
-        None => false,
-    }
+    task.assumptions.reads_masks(device)
+        && device
+            .moving()
+            .iter()
+            .any(|place| may_set(device, *place, key, state, instr))
 }

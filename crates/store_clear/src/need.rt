@@ -205,7 +205,7 @@ fn is_transfer_listed(task: &Task<'_>, pc: u32, state: &AbsState, instr: &Instr)
     }
 }
 
-// Whether an instruction goes to listed words only, calls no word with a `recur` line, and doesn't set IVSEL.
+// Whether an instruction goes to listed words only, calls no word with a `recur` line, and doesn't set a moving bit.
 fn stays(task: &Task<'_>, key: &NodeKey, state: &AbsState, instr: &Instr) -> bool
     ensures { result ≡ (is_transfer_listed (task_of task.now) key.now.pc state.now instr.now && (not (calls_cut (task_of task.now) key.now state.now instr.now) && not (may_move (task_of task.now) key.now state.now instr.now))) }
 {

@@ -71,7 +71,7 @@ fn may_write_stack(flash: &Flash, bound: u16, state: &AbsState, instr: &Instr) -
     false
 }
 
-// Whether the instruction at a node is an indirect transfer, calls a word with a `recur` line, or may set IVSEL.
+// Whether the instruction at a node is an indirect transfer, calls a word with a `recur` line, or may set a moving bit.
 fn may_leave(task: &Task<'_>, key: &NodeKey, state: &AbsState, instr: &Instr) -> bool
     ensures { result ≡ may_leave (task_of task.now) key.now (record { pc = key.now.pc; state = state.now; instr = instr.now }) }
 {

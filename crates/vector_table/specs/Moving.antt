@@ -10,5 +10,5 @@ is_at None a = false
 is_at (Some s) a = s.address == a
 
 -- a bit of this address moves vectors
-unfoldable pub has_ivsel : Device → ℕ → Bool
-has_ivsel device a = list_any (λ (s : Option MovingPlace). is_at s a) (device_row device).moving
+unfoldable pub has_moving : Device → ℕ → Bool
+has_moving device a = list_any (λ (s : Option MovingPlace). is_at s a) (device_row device).moving

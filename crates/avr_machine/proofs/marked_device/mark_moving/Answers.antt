@@ -1,7 +1,7 @@
 use Rattle.std.proofs.Common.{◌∙◌, ap, sym, ◌||◌, Bool, length, true, false, rules}
 use Rattle.std.specs.Prelude.{slice_index_or, None}
 use Rattle.vector_table.specs.Moving.{is_at}
-use Rattle.avr_machine.proofs.Ivsel.{place_small, two_places}
+use Rattle.avr_machine.proofs.MovingPlaces.{place_small, two_places}
 use Rattle.avr_machine.proofs.marked_device.mark_moving.Goals as goal
 
 pub mark_place-requires : goal.mark_place-requires

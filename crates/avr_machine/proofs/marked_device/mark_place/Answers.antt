@@ -2,7 +2,7 @@ use Rattle.std.proofs.Common.{◌∙◌, ap, sym, ℕ, ◌<◌, true, false, ◌
 use Rattle.std.specs.Prelude.{slice_index_or, slice_set, IfSome}
 use Rattle.avr_model.specs.declared.rows.MovingPlace.{MovingPlace}
 use Rattle.vector_table.specs.Moving.{is_at}
-use Rattle.avr_machine.proofs.Ivsel.{marked_there}
+use Rattle.avr_machine.proofs.MovingPlaces.{marked_there}
 use Rattle.avr_machine.proofs.marked_device.mark_place.Goals as goal
 
 pub bounds-marks-from : goal.bounds-marks-from

@@ -1,5 +1,5 @@
 use Rattle.std.proofs.Common.{◌≤◌, ◌∙◌, ◌||◌, ap, Bool, length, refl, arith}
-use Rattle.vector_table.specs.Moving.{has_ivsel}
+use Rattle.vector_table.specs.Moving.{has_moving}
 use Rattle.avr_machine.proofs.Marking.{unmarked, address_small, marked_too, all_marked}
 use Rattle.avr_machine.proofs.marked_device.MarkedDevice.new.Goals as goal
 
@@ -20,7 +20,7 @@ loop-place-preserved c =
 pub invariant_of-result : goal.invariant_of-result
 invariant_of-result c =
     let last : length c.enable_places-place-items.result.now ≤ c.loop-place.place-index = omega (arith, c.loop-place-test.false) in (
-      λ a. c.mark_moving.ensures a ∙ ap (λ (b : Bool). b || has_ivsel c.args.device a) (all_marked c.args.device c.enable_places-place-items.result.now c.loop-place.place-index c.loop-place.marks c.enable_places-place-items.ensures last c.loop-place.invariant a),
+      λ a. c.mark_moving.ensures a ∙ ap (λ (b : Bool). b || has_moving c.args.device a) (all_marked c.args.device c.enable_places-place-items.result.now c.loop-place.place-index c.loop-place.marks c.enable_places-place-items.ensures last c.loop-place.invariant a),
       c.io_base.ensures.exact,
       c.back.ensures.exact,
       c.greatest_sp.ensures,

@@ -1,4 +1,4 @@
--- Writes that set IVSEL.
+-- Writes that set a moving bit.
 use Rattle.std.proofs.Common.{◌≡◌, ◌∙◌, sym, ap, refl, inl, inr, ℕ, ◌+◌, ◌<◌, ◌≤◌, ◌==◌, ◌&&◌, ◌||◌, Bool, true, false, List, [], ◌∷◌, length, Option, Some, None, arith}
 use Rattle.std.specs.Prelude.{slice_index_or, slice_set, IfSome}
 use Rattle.std.proofs.lemmas.Bool.{cases_Bool, cases_eq, and_parts, and_from, eq-eqb, ne_eqb}
@@ -9,10 +9,10 @@ use Rattle.avr_model.specs.declared.rows.MovingPlace.{MovingPlace}
 use Rattle.avr_model.specs.declared.assumption.Entry.{Entry}
 use Rattle.avr_model.specs.declared.effect.Write.{Write}
 use Rattle.avr_model.specs.Devices.{Image, device_row, device_of, io_base, guarded_end}
-use Rattle.avr_model.specs.Vectors.{is_core, is_ivsel, sets_ivsel}
+use Rattle.avr_model.specs.Vectors.{is_core, is_moving, sets_moving}
 use Rattle.avr_model.specs.Step.{moves_vectors}
-use Rattle.avr_model.proofs.AllLaws.{devices_are_alike, ivsel_is_apart}
-use Rattle.vector_table.specs.Moving.{is_at, has_ivsel}
+use Rattle.avr_model.proofs.AllLaws.{devices_are_alike, moving_is_apart}
+use Rattle.vector_table.specs.Moving.{is_at, has_moving}
 use Rattle.avr_machine.specs.Quiet.{is_still, moves_at}
 
 or_true : (b : Bool) → true ≡ (b || true)
@@ -45,12 +45,12 @@ place_small d k places is = by (slice_index_or places k None) (ap (λ (xs : List
   where
     by : (o : Option MovingPlace) → slice_index_or (device_row d).moving k None ≡ o → IfSome o (λ p. p.address < 4101)
     by None e = tt
-    by (Some p) e = let le = ivsel_is_apart.place d k p e in let most = devices_are_alike.most_guarded d in omega (arith, le, most)
+    by (Some p) e = let le = moving_is_apart.place d k p e in let most = devices_are_alike.most_guarded d in omega (arith, le, most)
 
 -- two places
 pub two_places : (d : Device) (places : List (Option MovingPlace)) (a : ℕ) → places ≡ (device_row d).moving → length places ≡ 2
-    → (b : Bool) → ((b || is_at (slice_index_or places 0 None) a) || is_at (slice_index_or places 1 None) a) ≡ (b || has_ivsel d a)
-unfolding has_ivsel
+    → (b : Bool) → ((b || is_at (slice_index_or places 0 None) a) || is_at (slice_index_or places 1 None) a) ≡ (b || has_moving d a)
+unfolding has_moving
 two_places d places a is count b = by places count b ∙ ap (λ (xs : List (Option MovingPlace)). b || list_any (λ (s : Option MovingPlace). is_at s a) xs) is
   where
     alone : (x y z : Bool) → ((x || y) || z) ≡ (x || (y || (z || false)))
@@ -68,38 +68,38 @@ set_or_not : (still sets : Bool) → sets ≡ false → false ≡ (still && (set
 set_or_not true sets h = λ i. sym h i || false
 set_or_not false sets h = refl
 
-pub none_moves : (image : Image) (A : List Entry) (w : Write) → sets_ivsel (device_of image) w.address w.byte ≡ false → false ≡ moves_at image A w
+pub none_moves : (image : Image) (A : List Entry) (w : Write) → sets_moving (device_of image) w.address w.byte ≡ false → false ≡ moves_at image A w
 unfolding moves_vectors
-none_moves image A w h = set_or_not (is_still image A) (sets_ivsel (device_of image) w.address w.byte) h
+none_moves image A w h = set_or_not (is_still image A) (sets_moving (device_of image) w.address w.byte) h
 
 set_and : (still sets : Bool) → sets ≡ true → still ≡ (still && (sets || false))
 set_and true sets h = λ i. sym h i || false
 set_and false sets h = refl
 
-pub moves : (image : Image) (A : List Entry) (w : Write) → sets_ivsel (device_of image) w.address w.byte ≡ true → is_still image A ≡ moves_at image A w
+pub moves : (image : Image) (A : List Entry) (w : Write) → sets_moving (device_of image) w.address w.byte ≡ true → is_still image A ≡ moves_at image A w
 unfolding moves_vectors
-moves image A w h = set_and (is_still image A) (sets_ivsel (device_of image) w.address w.byte) h
+moves image A w h = set_and (is_still image A) (sets_moving (device_of image) w.address w.byte) h
 
-outside : (d : Device) (a byte : ℕ) → (io_base d + 0x20 ≤ a → a ≤ guarded_end d → ⊥) → false ≡ sets_ivsel d a byte
-outside d a byte out = elim (cases_Bool (sets_ivsel d a byte)) [
+outside : (d : Device) (a byte : ℕ) → (io_base d + 0x20 ≤ a → a ≤ guarded_end d → ⊥) → false ≡ sets_moving d a byte
+outside d a byte out = elim (cases_Bool (sets_moving d a byte)) [
   | inl set ↦
-      let b = ivsel_is_apart.set d a byte set in
-      let reach = ivsel_is_apart.reach d a b.0 b.1.0 in
+      let b = moving_is_apart.set d a byte set in
+      let reach = moving_is_apart.reach d a b.0 b.1.0 in
       absurd (out reach.0 reach.1)
   | inr none ↦ sym none
 ]
 
-pub none_below : (d : Device) (a byte : ℕ) → a < io_base d + 0x20 → false ≡ sets_ivsel d a byte
+pub none_below : (d : Device) (a byte : ℕ) → a < io_base d + 0x20 → false ≡ sets_moving d a byte
 none_below d a byte lt = outside d a byte (λ least most. omega (arith, lt, least))
 
-pub none_behind : (d : Device) (a byte : ℕ) → guarded_end d < a → false ≡ sets_ivsel d a byte
+pub none_behind : (d : Device) (a byte : ℕ) → guarded_end d < a → false ≡ sets_moving d a byte
 none_behind d a byte lt = outside d a byte (λ least most. omega (arith, lt, most))
 
-pub none_core : (d : Device) (a byte : ℕ) → is_core d a ≡ true → false ≡ sets_ivsel d a byte
-none_core d a byte core = elim (cases_Bool (sets_ivsel d a byte)) [
+pub none_core : (d : Device) (a byte : ℕ) → is_core d a ≡ true → false ≡ sets_moving d a byte
+none_core d a byte core = elim (cases_Bool (sets_moving d a byte)) [
   | inl set ↦
-      let b = ivsel_is_apart.set d a byte set in
-      let other = ivsel_is_apart.core d a b.0 b.1.0 in
+      let b = moving_is_apart.set d a byte set in
+      let other = moving_is_apart.core d a b.0 b.1.0 in
       absurd (let both = sym core ∙ other in cc)
   | inr none ↦ sym none
 ]

@@ -14,8 +14,8 @@ use Rattle.avr_model.specs.declared.rows.EnablePlace.{EnablePlace}
 use Rattle.avr_model.specs.Bits.{any_below}
 use Rattle.avr_model.specs.Families.{family_of}
 use Rattle.avr_model.specs.Devices.{device_row, io_base, guarded_end}
-use Rattle.avr_model.specs.Vectors.{enable_places, covers, has_common, is_core, is_bit_of, is_ivsel, sets_bit_of, sets_ivsel, enable_of}
-use Rattle.avr_model.specs.Laws.{IvselIsApart}
+use Rattle.avr_model.specs.Vectors.{enable_places, covers, has_common, is_core, is_bit_of, is_moving, sets_bit_of, sets_moving, enable_of}
+use Rattle.avr_model.specs.Laws.{MovingIsApart}
 use Rattle.avr_model.proofs.Below.{some_below, any_found}
 use Rattle.avr_model.proofs.Facts.{is_apart, passes}
 
@@ -109,8 +109,8 @@ by_places d (o ∷ os) a b all is =
     one_of true rest e h here there = here e
     one_of false rest e h here there = there h
 
-pub apart : (d : Device) (a b : ℕ) → is_ivsel d a b ≡ true → Apart d a b
-unfolding is_ivsel
+pub apart : (d : Device) (a b : ℕ) → is_moving d a b ≡ true → Apart d a b
+unfolding is_moving
 apart d a b is = by_places d (device_row d).moving a b (passes d 12) is
 
 -- ---- a write that sets one
@@ -141,8 +141,8 @@ set_in (o ∷ os) a byte is = by (sets_bit_of o a byte) refl is (set_in os a byt
     by true here h rest = let s = set_at o a byte here in (s.0, (either_true (is_bit_of o a s.0) _ s.1.0, s.1.1))
     by false other h rest = let s = rest h in (s.0, (or_true (is_bit_of o a s.0) _ s.1.0, s.1.1))
 
-set : (d : Device) (a byte : ℕ) → sets_ivsel d a byte ≡ true → (b : ℕ) × ((is_ivsel d a b ≡ true) × (bit_at byte b ≡ 1))
-unfolding is_ivsel sets_ivsel
+set : (d : Device) (a byte : ℕ) → sets_moving d a byte ≡ true → (b : ℕ) × ((is_moving d a b ≡ true) × (bit_at byte b ≡ 1))
+unfolding is_moving sets_moving
 set d a byte is = set_in (device_row d).moving a byte is
 
 in_guarded : (d : Device) (os : List (Option MovingPlace)) (k : ℕ) (p : MovingPlace) → list_all (is_apart (device_row d)) os ≡ true → slice_index_or os k None ≡ Some p → p.address ≤ guarded_end d
@@ -153,9 +153,9 @@ in_guarded d (o ∷ os) zero p all is =
     at_most_from_test p.address (guarded_end d) (and_parts (nat_le p.address (guarded_end d)) _ rest.1).0
 in_guarded d (o ∷ os) (suc k) p all is = in_guarded d os k p (and_parts (is_apart (device_row d) o) (list_all (is_apart (device_row d)) os) all).1 is
 
-pub ivsel_is_apart : IvselIsApart
+pub moving_is_apart : MovingIsApart
 unfolding enable_of
-ivsel_is_apart =
+moving_is_apart =
     record {
       reach = λ d a b is. (at_most_from_test (io_base d + 0x20) a (apart d a b is).least, at_most_from_test a (guarded_end d) (apart d a b is).most);
       core = λ d a b is. (apart d a b is).core;
