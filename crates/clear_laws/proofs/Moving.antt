@@ -6,7 +6,7 @@ use Rattle.avr_model.proofs.AllLaws.{devices_are_alike, moving_is_apart}
 use Rattle.avr_model.specs.declared.device.Device.{Device}
 use Rattle.avr_model.specs.declared.rows.MovingPlace.{MovingPlace}
 use Rattle.avr_model.specs.declared.effect.Write.{Write}
-use Rattle.avr_model.specs.Devices.{device_row, io_base, io_end}
+use Rattle.avr_model.specs.Devices.{device_row, io_base, guarded_end}
 use Rattle.avr_model.specs.Vectors.{has_common, sets_bit_of, sets_moving}
 use Rattle.avr_model.specs.Effects.{set}
 use Rattle.avr_model.specs.Step.{moves_vectors}
