@@ -1,9 +1,9 @@
 -- Causes at a word, node by node.
-use Rattle.std.proofs.Common.{◌≡◌, refl, sym, ap, ap₂, ◌∙◌, subst, ℕ, ◌+◌, ◌<◌, ◌⊎◌, inl, inr, ⊎_elim, ◌==◌, ◌&&◌, ◌||◌, Bool, true, false, not, List, [], ◌∷◌, ◌++◌, length, take, get_or, set, replicate, Option, Some, None, slice_get, Contains, eqb-true, arith}
+use Rattle.std.proofs.Common.{◌≡◌, refl, sym, ap, ap₂, ◌∙◌, subst, ℕ, ◌+◌, ◌<◌, ◌⊎◌, inl, inr, ⊎_elim, ◌==◌, ◌||◌, Bool, true, false, not, List, [], ◌∷◌, ◌++◌, length, take, get_or, set, replicate, Option, Some, None, slice_get, Contains, eqb-true, arith}
 use Rattle.std.specs.Prelude.{◌↔◌}
 use Rattle.std.specs.List.Sorted.{IsStrictlySortedBy}
 use Rattle.std.specs.Ordering.{nat_cmp}
-use Rattle.std.proofs.lemmas.Bool.{cases_lt, and_parts, and_from, not-true}
+use Rattle.std.proofs.lemmas.Bool.{and_parts, and_from, not-true}
 use Rattle.std.proofs.lemmas.List.Elements.{Contains-push_cases}
 use Rattle.std.proofs.lemmas.List.{map-append, take_more}
 use Rattle.std.proofs.lemmas.Option.{same_Some, slice_get_within}
@@ -14,8 +14,7 @@ use Rattle.basics.specs.Numbers.{before_or_last, equals_itself}
 use Rattle.store_clear.proofs.Marks.{none_on}
 use Rattle.avr_model.specs.declared.instruction.Instr.{Instr}
 use Rattle.avr_model.specs.Sites.{instruction_at}
-use Rattle.avr_model.specs.Step.{is_pointer_store, is_indirect, is_call}
-use Rattle.avr_model.specs.Assumptions.{is_fixed_site}
+use Rattle.avr_model.specs.Step.{is_indirect, is_call}
 use Rattle.avr_model.specs.Devices.{guarded_end, device_of}
 use Rattle.abs_state.specs.declared.state.AbsState.{AbsState}
 use Rattle.node_keys.specs.declared.keys.NodeKey.{NodeKey}
@@ -24,7 +23,7 @@ use Rattle.edge_rules.specs.Families.{RankedFamily}
 use Rattle.edge_laws.proofs.ExpansionLaws.{filled_or_missing}
 use Rattle.certificate.specs.Claims.{Claim}
 use Rattle.certificate.specs.Valid.{family_of}
-use Rattle.clear_laws.specs.Clear.{IsClear, MayBeFlagged, is_transfer_listed, calls_cut, may_move, stored_bits, is_guarded, is_flagged_address}
+use Rattle.clear_laws.specs.Clear.{IsClear, MayBeFlagged, is_transfer_listed, calls_cut, may_move, is_flagged_address}
 use Rattle.clear_laws.specs.Causes.{may_write_protected, may_write_live, IsCause}
 use Rattle.clear_laws.proofs.AllLaws.{not_listed, unlisted_goes, flagged_within}
 use Rattle.clear_laws.specs.Reach.{is_on}

@@ -1,6 +1,5 @@
 -- The numbers of a pointer.
-use Rattle.std.proofs.Common.{◌≡◌, refl, sym, ap, ◌∙◌, subst, ℕ, ◌+◌, ◌*◌, ◌/◌, ◌<◌, ◌≤◌, ◌⊎◌, inl, inr, ⊎_elim, ◌==◌, ◌&&◌, min, max, Bool, true, false, not, nat_le, List, length, get_or, replicate, Option, Some, None, slice_get, Contains, eqb-true, arith}
-use Rattle.std.specs.Prelude.{◌↔◌}
+use Rattle.std.proofs.Common.{◌≡◌, refl, sym, ap, ◌∙◌, subst, ℕ, ◌+◌, ◌*◌, ◌/◌, ◌<◌, ◌≤◌, ◌⊎◌, inl, inr, ⊎_elim, ◌==◌, min, max, Bool, true, false, not, nat_le, List, length, replicate, Option, Some, None, slice_get, Contains, eqb-true, arith}
 use Rattle.std.proofs.lemmas.Bool.{cases_lt, and_parts, and_from}
 use Rattle.std.proofs.lemmas.List.{get_or-replicate, length-replicate}
 use Rattle.std.proofs.lemmas.Option.{same_Some, slice_get_within}
@@ -11,6 +10,7 @@ use Rattle.basics.specs.Numbers.{before_or_last, equals_itself, at_most_from_tes
 use Rattle.avr_model.specs.declared.instruction.Instr.{Instr}
 use Rattle.avr_model.specs.Sites.{instruction_at}
 use Rattle.avr_model.specs.State.{high}
+use Rattle.pair_domain.specs.declared.facts.PairFacts.{PairFacts}
 use Rattle.abs_state.specs.declared.state.AbsState.{AbsState}
 use Rattle.local_rules.specs.declared.local.Node.{Node}
 use Rattle.local_rules.specs.Permitted.{may_be, is_between, is_in_interval, permits_bytes, permits_number}
@@ -22,11 +22,11 @@ use Rattle.clear_laws.specs.declared.slots.Condition.TheVariants.{Always, Never}
 use Rattle.clear_laws.specs.declared.stores.PointerNumbers.{PointerNumbers}
 use Rattle.clear_laws.specs.declared.stores.PointerPair.{PointerPair}
 use Rattle.clear_laws.specs.declared.stores.Span.{Span}
-use Rattle.clear_laws.specs.Pointers.{pointer_of, low_register, MayHoldNumber, AreNumbersAt, IsPointerAt}
+use Rattle.clear_laws.specs.Pointers.{pointer_of, low_register, MayHoldNumber, IsPointerAt}
 use Rattle.store_clear.specs.ByWord.{IsNextAsk}
-use Rattle.store_clear.specs.Causing.{is_unclear_at, PassesBelow}
+use Rattle.store_clear.specs.Causing.{is_unclear_at}
 use Rattle.store_clear.specs.Conditions.{condition_at, is_discharged}
-use Rattle.store_clear.specs.Pointers.{FailsBetween, IsFirstOf, IsLastOf, AreEndsOf, IsSpanOf, around, MayHold, AreAllNever, HoldsBelow, IsPointerOf}
+use Rattle.store_clear.specs.Pointers.{FailsBetween, IsFirstOf, IsLastOf, IsFirstIn, IsLastIn, ends_of, is_page_met, IsSpanOf, around, MayHold, AreAllNever, HoldsBelow}
 use Rattle.store_clear.proofs.Linked.{skipped, reached}
 
 -- ---- the numbers with one high byte
@@ -35,6 +35,12 @@ false_from_never : (b : Bool) → (b ≡ true → ⊥) → b ≡ false
 false_from_never true h = absurd (h refl)
 false_from_never false h = refl
 
+-- the interval of a pair, of all numbers of 16 bits if pairs aren't followed
+follows : (facts : Option PairFacts) (r p : ℕ) → p < 65536 → is_in_interval facts r p ≡ is_between (ends_of facts r).low (ends_of facts r).high p
+follows None r p small =
+    sym (and_from (nat_le 0 p) (nat_le p 65535) (test_from_at_most 0 p (omega arith)) (test_from_at_most p 65535 (omega (arith, small))))
+follows (Some f) r p small = refl
+
 high_is : (page n : ℕ) → 256 * page ≤ n → n < 256 * page + 256 → high n ≡ page
 high_is page n le lt = omega (arith, le, lt)
 
@@ -42,18 +48,26 @@ module _ (s : AbsState) (r page : ℕ) where
   high_met : (n : ℕ) → permits_number s r n ≡ true → may_be (value s (r + 1)) (high n) ≡ true
   high_met n h = right_of_and _ _ (left_of_and (permits_bytes s r n) (is_in_interval s.facts r n) h)
 
+  abbrev first : ℕ
+  first = (ends_of s.facts r).low
+
+  abbrev last : ℕ
+  last = (ends_of s.facts r).high
+
   -- a number with this high byte is impossible if the byte is, or if the interval has none
-  pub page_out : (first last : ℕ) (met : Bool) → ((p : ℕ) → p < 65536 → is_in_interval s.facts r p ≡ is_between first last p) → page < 256
-      → (may_be (value s (r + 1)) page ≡ true → first / 256 ≤ page → page ≤ last / 256 → met ≡ true) → met ≡ false → FailsBetween (permits_number s r) (256 * page) (256 * page + 256)
-  page_out first last met follows small meets out n le lt =
+  pub page_out : page < 256 → is_page_met s r page ≡ false → FailsBetween (permits_number s r) (256 * page) (256 * page + 256)
+  page_out small out n le lt =
       false_from_never (permits_number s r n)
       (λ h.
       let byte : may_be (value s (r + 1)) page ≡ true = subst (λ b. may_be (value s (r + 1)) b ≡ true) (high_is page n le lt) (high_met n h) in
-      let inside : is_between first last n ≡ true = sym (follows n (omega (arith, lt, small))) ∙ right_of_and (permits_bytes s r n) (is_in_interval s.facts r n) h in
+      let inside : is_between first last n ≡ true = sym (follows s.facts r n (omega (arith, lt, small))) ∙ right_of_and (permits_bytes s r n) (is_in_interval s.facts r n) h in
       let ends = and_parts (nat_le first n) (nat_le n last) inside in
       let above : first ≤ n = at_most_from_test first n ends.0 in
       let below : n ≤ last = at_most_from_test n last ends.1 in
-      never_both met (meets byte (omega (arith, above, lt)) (omega (arith, below, le))) out)
+      let least : first / 256 ≤ page = omega (arith, above, lt) in
+      let most : page ≤ last / 256 = omega (arith, below, le) in
+      never_both (is_page_met s r page)
+      (and_from _ _ byte (and_from _ _ (test_from_at_most (first / 256) page least) (test_from_at_most page (last / 256) most))) out)
 
 -- ---- the least and the greatest
 
@@ -81,6 +95,14 @@ module _ (p : ℕ → Bool) where
   pub last_here : (low high start at : ℕ) → low ≤ at → at < high → start ≤ at + 1 → FailsBetween p start high → p at ≡ true → IsLastOf p low high at
   last_here low high start at above below so none is =
       record { above = above; below = below; passes = is; none = fails_less start high (at + 1) high so (omega arith) none }
+
+  pub first_none : (low high : ℕ) (o : Option ℕ) → IsFirstIn p low high o → ((x : ℕ) → o ≡ Some x → ⊥) → FailsBetween p low high
+  first_none low high None h absent = h
+  first_none low high (Some x) h absent = absurd (absent x refl)
+
+  pub last_none : (low high : ℕ) (o : Option ℕ) → IsLastIn p low high o → ((x : ℕ) → o ≡ Some x → ⊥) → FailsBetween p low high
+  last_none low high None h absent = h
+  last_none low high (Some x) h absent = absurd (absent x refl)
 
   pub fails_both : (low mid high : ℕ) → FailsBetween p low mid → FailsBetween p mid high → FailsBetween p low high
   fails_both low mid high a b n le lt = ⊎_elim (λ less. a n le less) (λ more. b n more lt) (cases_lt n mid)
@@ -120,7 +142,7 @@ span_found s r span f l =
 
 module _ (P Q : ℕ → Type 0) (to : (n : ℕ) → P n → Q n) (from : (n : ℕ) → Q n → P n) where
   pub span_as : (o : Option Span) → IsSpanOf P o → IsSpanOf Q o
-  span_as None h n q = h n (from n q)
+  span_as None h = λ n q. h n (from n q)
   span_as (Some s) h =
       record { first = to s.first h.first; last = to s.last h.last; least = λ n q. h.least n (from n q); greatest = λ n q. h.greatest n (from n q) }
 
@@ -134,7 +156,7 @@ module _ (P Q R : ℕ → Type 0) (left : (n : ℕ) → P n → R n) (right : (n
       ⊎_elim (λ (lt : a < b). subst R (let e : b ≡ max a b = omega (arith, lt) in e) k) (λ (le : b ≤ a). subst R (let e : a ≡ max a b = omega (arith, le) in e) h) (cases_lt a b)
 
   pub span_around : (a b : Option Span) → IsSpanOf P a → IsSpanOf Q b → IsSpanOf R (around a b)
-  span_around None None h k n t = ⊎_elim (h n) (k n) (split n t)
+  span_around None None h k = λ n t. ⊎_elim (h n) (k n) (split n t)
   span_around None (Some b) h k =
       span_as Q R right (λ n t. ⊎_elim (λ l. absurd (h n l)) (λ q. q) (split n t)) (Some b) k
   span_around (Some a) None h k =
@@ -245,12 +267,12 @@ module _ (nodes : List Node) (conditions : List Condition) (all : AreAllNever no
             },
           )
 
-      pub no_number : IsSpanOf (HoldsBelow nodes conditions pc (low_register p) (length conditions)) None → IsPointerAt task f pc None
+      no_number : IsSpanOf (HoldsBelow nodes conditions pc (low_register p) (length conditions)) None → IsPointerAt task f pc None
       no_number none q n h =
           let one : q ≡ p = same_Some q p (sym h.pointer ∙ ap pointer_of (same_Some h.instr instr (sym h.instruction ∙ is)) ∙ pointer) in
           none n (back n (subst (λ (x : PointerPair). MayHoldNumber task f pc x n) one h))
 
-      pub numbers_given : (span : Span) → IsSpanOf (HoldsBelow nodes conditions pc (low_register p) (length conditions)) (Some span)
+      numbers_given : (span : Span) → IsSpanOf (HoldsBelow nodes conditions pc (low_register p) (length conditions)) (Some span)
           → IsPointerAt task f pc (Some (record { pair = p; numbers = span }))
       numbers_given span h =
           record {
@@ -259,3 +281,16 @@ module _ (nodes : List Node) (conditions : List Condition) (all : AreAllNever no
             least = λ n k. h.least n (back n k);
             greatest = λ n k. h.greatest n (back n k);
           }
+
+      module _ (r : ℕ) (o : Option Span) (same_register : r ≡ low_register p) (spans : IsSpanOf (HoldsBelow nodes conditions pc r (length conditions)) o) where
+        by_pair : IsSpanOf (HoldsBelow nodes conditions pc (low_register p) (length conditions)) o
+        by_pair = subst (λ x. IsSpanOf (HoldsBelow nodes conditions pc x (length conditions)) o) same_register spans
+
+        pub pointer_missing : (result : Option PointerNumbers) → o ≡ None → result ≡ None → IsPointerAt task f pc result
+        pointer_missing result none is_none =
+            subst (λ (x : Option PointerNumbers). IsPointerAt task f pc x) (sym is_none)
+            (no_number (subst (λ (x : Option Span). IsSpanOf (HoldsBelow nodes conditions pc (low_register p) (length conditions)) x) none by_pair))
+
+        pub pointer_found : (span : Span) → o ≡ Some span → IsPointerAt task f pc (Some (record { pair = p; numbers = span }))
+        pointer_found span found =
+            numbers_given span (subst (λ (x : Option Span). IsSpanOf (HoldsBelow nodes conditions pc (low_register p) (length conditions)) x) found by_pair)

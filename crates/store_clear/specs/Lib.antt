@@ -6,5 +6,6 @@ pub mod Conditions
 pub mod Takes
 pub mod Causing
 pub mod ByWord
+pub mod AtSites
 pub mod Pointers
 pub mod Numbered

@@ -1,10 +1,14 @@
 -- The numbers of a pointer. Definitions for the contracts of internal functions.
-use Rattle.std.specs.Prelude.{ℕ, ◌+◌, ◌≡◌, ◌<◌, ◌≤◌, Bool, true, false, min, max, List, length, Option, Some, None}
+use Rattle.std.specs.Prelude.{ℕ, ◌+◌, ◌/◌, ◌&&◌, ◌≡◌, ◌<◌, ◌≤◌, Bool, true, false, min, max, List, length, Option, Some, None}
 use Rattle.avr_model.specs.declared.instruction.Instr.{Instr}
 use Rattle.avr_model.specs.Sites.{instruction_at}
+use Rattle.pair_domain.specs.declared.facts.PairFacts.{PairFacts}
+use Rattle.pair_domain.specs.declared.intervals.Interval.{Interval}
+use Rattle.pair_rules.specs.Told.{interval_of}
 use Rattle.abs_state.specs.declared.state.AbsState.{AbsState}
 use Rattle.local_rules.specs.declared.local.Node.{Node}
-use Rattle.local_rules.specs.Permitted.{permits_number}
+use Rattle.local_rules.specs.Permitted.{may_be, is_between, permits_number}
+use Rattle.local_rules.specs.Registers.{value}
 use Rattle.local_rules.specs.Site.{Task}
 use Rattle.edge_rules.specs.Families.{RankedFamily}
 use Rattle.clear_laws.specs.declared.slots.Condition.{Condition}
@@ -41,6 +45,15 @@ IsFirstIn p low high (Some at) = IsFirstOf p low high at
 abbrev pub IsLastIn : (ℕ → Bool) → ℕ → ℕ → Option ℕ → Type 0
 IsLastIn p low high None = FailsBetween p low high
 IsLastIn p low high (Some at) = IsLastOf p low high at
+
+-- the interval of registers r and r + 1, of all numbers of 16 bits if pairs aren't followed
+abbrev pub ends_of : Option PairFacts → ℕ → Interval
+ends_of None r = record { low = 0; high = 65535 }
+ends_of (Some f) r = interval_of f r
+
+-- the high byte is possible, by its bits and range, and some number of the interval has it
+abbrev pub is_page_met : AbsState → ℕ → ℕ → Bool
+is_page_met s r page = may_be (value s (r + 1)) page && is_between ((ends_of s.facts r).low / 256) ((ends_of s.facts r).high / 256) page
 
 -- ---- spans
 

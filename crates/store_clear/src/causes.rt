@@ -10,8 +10,9 @@ ghost use Rattle.clear_laws.specs.Clear.{MayBeFlagged};
 ghost use Rattle.clear_laws.specs.Places.{IsPlaceOf};
 ghost use Rattle.store_clear.specs.Conditions.{HasConditionsLeft};
 ghost use Rattle.store_clear.specs.Takes.{AreMarkedBeside};
-ghost use Rattle.store_clear.specs.Causing.{IsProtectedAt, may_happen, HappensAt, ArePlacesOf, IsProtectedWrite, MayAllBeFlagged};
-ghost use Rattle.store_clear.specs.ByWord.{AreLinked, IsAskChain};
+ghost use Rattle.store_clear.specs.Causing.{may_happen, ArePlacesOf, IsProtectedWrite, MayAllBeFlagged};
+ghost use Rattle.store_clear.specs.AtSites.{IsSiteChain, IsProtectedThere, HappensThere};
+ghost use Rattle.store_clear.specs.ByWord.{AreLinked};
 ghost use Rattle.store_clear.specs.Pointers.{AreAllNever};
 ghost use Rattle.store_clear.specs.Numbered.{IsEveryNode};
 ghost use Rattle.family_edges.specs.Tasks.{task_of};
@@ -58,9 +59,9 @@ fn mark_addresses(store: &GivenStore<'_, '_>, marks: &mut [bool])
 // Marks the addresses of all nodes there that aren't clear.
 fn mark_nodes(task: &Task<'_>, told: &ListedNodes<'_>, site: &WordSite<'_>, marks: &mut [bool])
     requires same { length told.now.conditions.now ≡ length told.now.nodes.now }
-    requires chain { IsAskChain told.now.nodes.now told.now.conditions.now site.now.pc site.now.first site.now.later.now }
+    requires chain { IsSiteChain told.now site.now }
     requires all { length marks.old ≡ guarded_end (device_of task.now.flash.now) + 1 }
-    ensures { AreMarkedBeside (IsProtectedAt (task_of task.now) told.now.nodes.now told.now.conditions.now site.now.pc site.now.instr.now (length told.now.conditions.now)) marks.old marks.new }
+    ensures { AreMarkedBeside (IsProtectedThere (task_of task.now) told.now site.now) marks.old marks.new }
 {
     let _count = told.nodes.count();
     let mut at = site.first;
@@ -86,8 +87,8 @@ fn protected_of(
     site: &WordSite<'_>,
 ) -> Result<Listed<u16>, AllocError>
     requires same { length told.now.conditions.now ≡ length told.now.nodes.now }
-    requires chain { IsAskChain told.now.nodes.now told.now.conditions.now site.now.pc site.now.first site.now.later.now }
-    ensures exact { IfOk result (λ list. (a : ℕ) → Contains list a ↔ IsProtectedAt (task_of task.now) told.now.nodes.now told.now.conditions.now site.now.pc site.now.instr.now (length told.now.conditions.now) a) }
+    requires chain { IsSiteChain told.now site.now }
+    ensures exact { IfOk result (λ list. (a : ℕ) → Contains list a ↔ IsProtectedThere (task_of task.now) told.now site.now a) }
     ensures ascending { IfOk result (λ list. IsStrictlySortedBy nat_cmp list) }
 {
     let count = usize::from(task.flash.device().guarded_end()) + 1;
@@ -132,9 +133,9 @@ fn happens_at(
     other: Other,
 ) -> bool
     requires same { length told.now.conditions.now ≡ length told.now.nodes.now }
-    requires chain { IsAskChain told.now.nodes.now told.now.conditions.now site.now.pc site.now.first site.now.later.now }
+    requires chain { IsSiteChain told.now site.now }
     requires small { bound ≤ size_of (device_of task.now.flash.now) }
-    ensures { (result ≡ true) ↔ HappensAt (task_of task.now) bound other told.now.nodes.now told.now.conditions.now site.now.pc site.now.instr.now (length told.now.conditions.now) }
+    ensures { (result ≡ true) ↔ HappensThere (task_of task.now) bound other told.now site.now }
 {
     let _count = told.nodes.count();
     let mut at = site.first;
@@ -302,7 +303,6 @@ pub(crate) fn places_at(
     requires sites { MayAllBeFlagged (task_of task.now) (family_of certificate.now told.now.nodes.now) sites.now }
     ensures { IfOk result (ArePlacesOf (task_of task.now) (family_of certificate.now told.now.nodes.now) sites.now) }
 {
-    let _count = told.nodes.count();
     let conditions = vec![in task.alloc; Condition::Never; told.conditions.len()]?;
     let list = places_with(task, certificate, told, conditions.as_slice(), sites);
     drop(conditions);

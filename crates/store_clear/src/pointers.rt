@@ -1,12 +1,12 @@
 //! The least and the greatest number that the pointer at a word may have.
 
-ghost use Rattle.std.specs.Prelude.{ℕ, ◌+◌, ◌*◌, ◌≡◌, ◌<◌, false, length};
+ghost use Rattle.std.specs.Prelude.{◌+◌, ◌*◌, ◌≡◌, ◌<◌, length};
 ghost use Rattle.avr_model.specs.Image.{WORDS};
 ghost use Rattle.clear_laws.specs.Pointers as pointers;
-ghost use Rattle.local_rules.specs.Permitted.{permits_number, is_in_interval, is_between};
+ghost use Rattle.local_rules.specs.Permitted.{permits_number};
 ghost use Rattle.store_clear.specs.ByWord.{IsAskChain};
 ghost use Rattle.store_clear.specs.Numbered.{IsEveryNode};
-ghost use Rattle.store_clear.specs.Pointers.{FailsBetween, IsFirstIn, IsLastIn, IsSpanOf, MayHold, around, HoldsBelow, IsPointerOf};
+ghost use Rattle.store_clear.specs.Pointers.{ends_of, is_page_met, IsFirstIn, IsLastIn, IsSpanOf, MayHold, around, HoldsBelow, IsPointerOf};
 
 use crate::by_word::ByWord;
 use crate::listing::ListedNodes;
@@ -64,9 +64,9 @@ fn low_register(pair: PointerPair) -> LowRegister
 
 // ---- one node
 
-// The interval of registers `r` and `r + 1`.
+// The interval of registers `r` and `r + 1`, of all numbers of 16 bits if pairs aren't followed.
 fn interval_in(state: &AbsState, r: LowRegister) -> Interval
-    ensures { (p : ℕ) → p < 65536 → is_in_interval state.now.facts r p ≡ is_between result.low result.high p }
+    ensures { result ≡ ends_of state.now.facts r }
 {
     match state.facts.get() {
         None => Interval {
@@ -77,14 +77,16 @@ fn interval_in(state: &AbsState, r: LowRegister) -> Interval
     }
 }
 
-// Whether registers `r` and `r + 1` may hold some number with this high byte, by its bits and range and by the interval.
+// Whether the high byte of registers `r` and `r + 1` is possible, by its bits and range, and some number of their interval has it. Else no
+// number with this high byte needs to be tried.
 fn is_page_met(state: &AbsState, r: LowRegister, page: u8) -> bool
-    ensures { result ≡ false → FailsBetween (permits_number state.now r) (256 * page) (256 * page + 256) }
+    ensures { result ≡ is_page_met state.now r page }
 {
     let interval = interval_in(state, r);
     let (_, high) = pair(state, r);
     let (first, last) = (interval.low / 256, interval.high / 256);
-    may_be(high, page) && first <= u16::from(page) && u16::from(page) <= last
+    let number = u16::from(page);
+    may_be(high, page) && (first <= number && number <= last)
 }
 
 // The least number with this high byte that registers `r` and `r + 1` may hold.

@@ -1,5 +1,7 @@
-use Rattle.std.proofs.Common.{◌<◌, ◌+◌, arith, get_or, length, refl}
+use Rattle.std.proofs.Common.{◌≡◌, ◌<◌, ◌+◌, arith, get_or, length, refl, subst}
 use Rattle.basics.specs.Lists.{get_inside}
+use Rattle.store_clear.specs.Takes.{AreMarkedBeside}
+use Rattle.store_clear.specs.Causing.{IsProtectedAt}
 use Rattle.store_clear.proofs.Conditions.{state_is}
 use Rattle.store_clear.proofs.Linked.{on_chain}
 use Rattle.store_clear.proofs.Causing.{nodes_none, nodes_marked, nodes_skipped}
@@ -43,3 +45,11 @@ loop-at-smaller c =
     let n = get_inside nodes at lt in
     let next = c.requires.chain.later_is at n.0 n.1 (c.loop-at.invariant.1.is n.0 n.1) in
     omega (arith, next.beyond, next.within, c.loop-at-test.true)
+
+pub returns : goal.returns
+returns c =
+    let conditions = c.args.told.now.conditions.now in
+    let site = c.args.site.now in
+    let same : c.loop-at.at ≡ length conditions = omega (arith, c.loop-at-test.false, c.loop-at.invariant.1.within) in
+    subst (λ count. AreMarkedBeside (IsProtectedAt (task_of c.args.task.now) c.args.told.now.nodes.now conditions site.pc site.instr.now count) c.args.marks.now c.loop-at.marks) same
+    c.loop-at.invariant.0

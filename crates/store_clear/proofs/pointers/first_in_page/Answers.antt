@@ -1,10 +1,10 @@
-use Rattle.std.proofs.Common.{◌+◌, ◌*◌, ◌∙◌, ◌≡◌, false, sym, subst, arith}
+use Rattle.std.proofs.Common.{◌+◌, ◌-◌, ◌*◌, ◌∙◌, ◌≡◌, false, sym, subst, arith}
 use Rattle.local_rules.specs.Permitted.{permits_number}
-use Rattle.store_clear.proofs.Spans.{fails_none, fails_up, fails_less, first_here}
+use Rattle.store_clear.proofs.Spans.{page_out, fails_none, fails_up, fails_less, first_here}
 use Rattle.store_clear.proofs.pointers.first_in_page.Goals as goal
 
 pub returns-then-not-is_page_met : goal.returns-then-not-is_page_met
-returns-then-not-is_page_met c = c.is_page_met.ensures c.if-not-is_page_met.true
+returns-then-not-is_page_met c = page_out c.args.state.now c.args.r c.args.page (omega (arith, c.ranges.page.fits)) (sym c.is_page_met.ensures ∙ c.if-not-is_page_met.true)
 
 pub loop-low-init : goal.loop-low-init
 loop-low-init c = fails_none (permits_number c.args.state.now c.args.r) _ _ (omega arith)
