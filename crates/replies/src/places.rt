@@ -237,10 +237,7 @@ fn pair_text(pair: PointerPair) -> &'static [u8]
 
 // Writes the register pair of a pointer, and the least and the greatest number that it may have.
 #[tactic(auto, using(crate::proofs::Sites::pointer_written))]
-fn write_pointer(
-    out: &mut LineWriter,
-    pointer: Option<PointerNumbers>,
-) -> Result<(), AllocError>
+fn write_pointer(out: &mut LineWriter, pointer: Option<PointerNumbers>) -> Result<(), AllocError>
     ensures { OnOk result (out.new ≡ with_words out.old (pointer_words pointer)) }
 {
     match pointer {
