@@ -1,10 +1,10 @@
 //! The source whose interrupt is entered next.
 
-ghost use Rattle.std.specs.Prelude.{◌≡◌, ◌<◌, ◌==◌, ◌&&◌, ◌||◌, not, nat_lt, Bool, ℕ, false, length, IfSome};
+ghost use Rattle.std.specs.Prelude.{◌≡◌, ◌<◌, ◌==◌, ◌&&◌, ◌||◌, not, nat_lt, false, length, IfSome};
 ghost use Rattle.avr_model.specs.Vectors.{is_enabled};
 ghost use Rattle.peripherals.specs.Hooks.{stands_in};
 ghost use Rattle.peripherals.specs.Due.{is_ready, first_ready};
-ghost use Rattle.peripherals.specs.Midway.{IsPicked, IsQuiet};
+ghost use Rattle.peripherals.specs.Midway.{IsPicked, IsQuiet, IsQuietSource, IsQuietAsNoted};
 
 use crate::hook::Moment;
 use crate::peripherals::Peripherals;
@@ -81,7 +81,7 @@ fn first_due(
 // A step before which source `n` is not due, or its vector is not enabled by these bits.
 fn quiet_of(peripherals: &Peripherals, device: Device, masks: Masks, taken: &[u32], n: usize) -> u64
     requires { n < length taken.now }
-    ensures { (timers : Bool) (step : ℕ) → step < result → is_ready peripherals.now (is_enabled device masks) timers taken.now step n ≡ false }
+    ensures { IsQuietSource peripherals.now (is_enabled device masks) taken.now n result }
 {
     let taken = taken[n];
     match peripherals.source(n) {
@@ -122,9 +122,9 @@ pub(crate) fn pick(
     menu: &Menu,
 ) -> Option<usize>
     requires counts { length moment.now.taken.now ≡ length peripherals.now.sources }
-    requires quiet { IsQuiet peripherals.now (is_enabled menu.now.device quiet.old.masks) moment.now.taken.now quiet.old.until }
+    requires quiet { IsQuietAsNoted peripherals.now menu.now.device quiet.old moment.now.taken.now }
     ensures picked { IsPicked peripherals.now moment.now.step moment.now.taken.now menu.now result }
-    ensures quiet { IsQuiet peripherals.now (is_enabled menu.now.device quiet.new.masks) moment.now.taken.now quiet.new.until }
+    ensures quiet { IsQuietAsNoted peripherals.now menu.now.device quiet.new moment.now.taken.now }
     ensures taken { IfSome result (λ n. quiet.new.until ≡ 0) }
 {
     if quiet.holds(moment.step, menu) {

@@ -1,11 +1,10 @@
 //! Simulation by peripherals alone.
 
 ghost use Rattle.std.specs.Prelude.{◌≡◌, ◌≤◌, ◌<◌, ℕ, IfOk};
-ghost use Rattle.avr_model.specs.Vectors.{is_enabled};
 ghost use Rattle.avr_model.specs.Run.{Bounded, HasBytes};
 ghost use Rattle.peripherals.specs.Spelling.{most_steps};
-ghost use Rattle.peripherals.specs.Simulating.{setting, report_of, simulation_of};
-ghost use Rattle.peripherals.specs.Midway.{IsProgressKnown, IsChosen, IsPicked, IsQuiet};
+ghost use Rattle.peripherals.specs.Simulating.{report_of, simulation_of};
+ghost use Rattle.peripherals.specs.Midway.{IsProgressKnown, IsQuietAsNoted, IsChosenAlone};
 
 use crate::peripherals::Peripherals;
 use crate::picking::{Quiet, pick};
@@ -28,11 +27,11 @@ fn choose(
 ) -> Choice
     requires known { IsProgressKnown peripherals.now progress.old }
     requires room { progress.old.step < most_steps }
-    requires quiet { IsQuiet peripherals.now (is_enabled machine.now.state.device quiet.old.masks) progress.old.taken quiet.old.until }
+    requires quiet { IsQuietAsNoted peripherals.now machine.now.state.device quiet.old progress.old.taken }
     ensures known { IsProgressKnown peripherals.now progress.new }
-    ensures quiet { IsQuiet peripherals.now (is_enabled machine.now.state.device quiet.new.masks) progress.new.taken quiet.new.until }
+    ensures quiet { IsQuietAsNoted peripherals.now machine.now.state.device quiet.new progress.new.taken }
     ensures bytes { HasBytes result }
-    ensures chosen { (flash : _) (A : _) → IsChosen (setting (IsPicked peripherals.now) peripherals.now flash A) progress.old machine.now.state result progress.new }
+    ensures chosen { IsChosenAlone peripherals.now progress.old machine.now.state result progress.new }
 {
     let answer = pick(peripherals, quiet, &progress.moment(), &machine.menu());
     let choice = progress.choice(peripherals, answer);

@@ -6,8 +6,7 @@ ghost use Rattle.avr_model.specs.Step.{step, result_of};
 ghost use Rattle.avr_model.specs.Run.{HasBytes};
 ghost use Rattle.stimulus.specs.Driving.{stop_at};
 ghost use Rattle.peripherals.specs.Spelling.{most_steps};
-ghost use Rattle.peripherals.specs.Hooks.{IsHook, ByHooks};
-ghost use Rattle.peripherals.specs.Simulating.{setting};
+ghost use Rattle.peripherals.specs.Hooks.{IsHook};
 ghost use Rattle.peripherals.specs.Traces.{IsTrace, Halts};
 ghost use Rattle.peripherals.specs.Midway.{setting_of, IsProgressKnown, IsChosen};
 
@@ -88,8 +87,8 @@ pub fn simulate<
     requires first_peripherals { wiring.now.timers.now.0 ≡ wiring.now.peripherals.now }
     requires second_peripherals { wiring.now.receivers.now.0 ≡ wiring.now.peripherals.now }
     requires few { steps ≤ most_steps }
-    ensures ok { IfOk result (λ t. IsTrace (setting (ByHooks F.Fn G.Fn wiring.now.timers.now wiring.now.receivers.now) wiring.now.peripherals.now wiring.now.flash.now wiring.now.assumptions.now) steps machine.old t machine.new) }
-    ensures err { OnErr result (Halts (setting (ByHooks F.Fn G.Fn wiring.now.timers.now wiring.now.receivers.now) wiring.now.peripherals.now wiring.now.flash.now wiring.now.assumptions.now) steps machine.old machine.new) }
+    ensures ok { IfOk result (λ t. IsTrace (setting_of F.Fn G.Fn wiring.now) steps machine.old t machine.new) }
+    ensures err { OnErr result (Halts (setting_of F.Fn G.Fn wiring.now) steps machine.old machine.new) }
 {
     let mut progress = Progress::begin(alloc, wiring.peripherals)?;
     let mut choices = Choices::empty(alloc);
