@@ -35,6 +35,7 @@ use Rattle.cert_check.specs.declared.verdict.Judgement.TheVariants.{Accepted, Re
 use Rattle.cert_check.specs.Reading.{LandsOpen}
 use Rattle.cert_check.specs.Verdict.{IsGap, AllLanded, IsFirstGap, IsLeastReason}
 use Rattle.local_rules.specs.Site.{Task}
+use Rattle.cert_check.specs.declared.demand.Outer.{Outer}
 
 -- ---- the least of what the items of a list offer
 
@@ -131,6 +132,17 @@ unless_cut (Some depth) demands = []
 
 abbrev pub entry_demand : List Entry → List Inst → ℕ → ℕ → Edge → List Demand
 entry_demand A insts j fall e = if is_entry e.kind then unless_cut (cut_at A e.to.inst) (below_demand insts j fall e.to.inst) else []
+
+-- the demand of an instance on the root, if it is cut
+abbrev pub cut_demand : ℕ → List Inst → List Entry → InstKey → List Demand
+cut_demand back insts A inst = recur_demand back insts inst (cut_at A inst)
+
+-- the demand of an entry from this instance, unless the entered one is cut
+abbrev pub demand_from : List Entry → List Inst → Outer → Edge → List Demand
+demand_from A insts outer e = entry_demand A insts outer.inst outer.fall e
+
+abbrev pub demands_by : List Entry → List Inst → Outer → List Edge → List Demand
+demands_by A insts outer edges = flat_map (demand_from A insts outer) edges
 
 -- the demands of a node with this key and these edges
 abbrev pub demands_of : Task → List Inst → NodeKey → List Edge → List Demand

@@ -1,5 +1,5 @@
 -- The verdict on a certificate but for its schedule: acceptance, or the first reason against it with its least numbers. Source: own.
-use Rattle.std.specs.Prelude.{ℕ, Bool, ◌≡◌, ◌≢◌, ◌<◌, ◌≤◌, List, Contains, Some, Err}
+use Rattle.std.specs.Prelude.{ℕ, Bool, ◌≡◌, ◌≢◌, ◌<◌, ◌≤◌, List, Contains, Some, Err, ◌↔◌}
 use Rattle.std.specs.List.{slice_get}
 use Rattle.std.specs.declared.cmp.Ordering.TheVariants.{Greater}
 use Rattle.avr_model.specs.declared.assumption.Entry.{Entry}
@@ -124,6 +124,14 @@ IsReason task c r = IsRejected task c r
 abbrev pub IsVerdict : Task → Claim → Judgement ℕ → Type 0
 IsVerdict task c (Accepted bound) = IsSound task c × (bound ≡ c.bound)
 IsVerdict task c (Rejected r) = IsReason task c r
+
+-- it accepts a bound exactly if the certificate is sound and has this bound
+abbrev pub AcceptsTheSound : Task → Claim → Judgement ℕ → Type 0
+AcceptsTheSound task c verdict = (b : ℕ) → (verdict ≡ Accepted b) ↔ (IsSound task c × (b ≡ c.bound))
+
+-- it rejects for a reason exactly if this is the reason against the certificate
+abbrev pub RejectsForReason : Task → Claim → Judgement ℕ → Type 0
+RejectsForReason task c verdict = (r : Reason) → (verdict ≡ Rejected r) ↔ IsReason task c r
 
 -- ---- with the family where all conditions hold
 

@@ -1,12 +1,11 @@
 //! Demands of nodes on their instances.
 
-ghost use Rattle.std.specs.Prelude.{◌≡◌, ◌≤◌, ◌<◌, ◌++◌, length, Some, OnOk, Contains};
+ghost use Rattle.std.specs.Prelude.{◌≡◌, ◌≤◌, ◌<◌, length, Some, Contains};
 ghost use Rattle.avr_model.specs.State.{SIZE};
-ghost use Rattle.std.specs.List.{flat_map};
 ghost use Rattle.edge_rules.specs.declared.edge.Edge as edge_type;
-ghost use Rattle.node_keys.specs.Keys.{root_inst, cut_at};
+ghost use Rattle.node_keys.specs.Keys.{root_inst};
 ghost use Rattle.certificate.specs.Insts.{inst_keys};
-ghost use Rattle.cert_check.specs.Demands.{AreInstances, number_in, rank_at, need_at, offset_demand, below_demand, recur_demand, entry_demand, demands_of};
+ghost use Rattle.cert_check.specs.Demands.{AreInstances, number_in, rank_at, need_at, offset_demand, below_demand, demands_of, cut_demand, demand_from, demands_by};
 ghost use Rattle.family_edges.specs.Clauses.{Grows};
 ghost use Rattle.family_edges.specs.Tasks.{task_of};
 
@@ -112,7 +111,7 @@ fn add_recur(
     requires instances { AreInstances instances.now }
     requires root { Contains (inst_keys instances.now) root_inst }
     requires there { Contains (inst_keys instances.now) inst.now }
-    ensures { Grows result demands.old.items demands.new.items (recur_demand back instances.now inst.now (cut_at assumptions.now inst.now)) }
+    ensures { Grows result demands.old.items demands.new.items (cut_demand back instances.now assumptions.now inst.now) }
 {
     match inst.cut(assumptions) {
         None => Ok(()),
@@ -137,7 +136,7 @@ fn add_entry(
     requires instances { AreInstances instances.now }
     requires there { Contains (inst_keys instances.now) edge.now.to.inst }
     requires low { outer.fall < 131072 }
-    ensures { Grows result demands.old.items demands.new.items (entry_demand assumptions.now instances.now outer.inst outer.fall edge.now) }
+    ensures { Grows result demands.old.items demands.new.items (demand_from assumptions.now instances.now outer edge.now) }
 {
     if is_entry(edge.kind) {
         return match edge.to.inst.cut(assumptions) {
@@ -159,7 +158,7 @@ fn add_entries(
     requires instances { AreInstances instances.now }
     requires there { (e : edge_type.Edge) → Contains edges.now e → Contains (inst_keys instances.now) e.to.inst }
     requires low { outer.fall < 131072 }
-    ensures { Grows result demands.old.items demands.new.items (flat_map (entry_demand assumptions.now instances.now outer.inst outer.fall) edges.now) }
+    ensures { Grows result demands.old.items demands.new.items (demands_by assumptions.now instances.now outer edges.now) }
 {
     for at in 0..edges.len() {
         add_entry(demands, instances, outer, &edges[at], assumptions)?;

@@ -8,10 +8,9 @@ ghost use Rattle.edge_rules.specs.Expansion.{IsFilled};
 ghost use Rattle.family_edges.specs.Exits.{AreExits};
 ghost use Rattle.family_edges.specs.Expanding.{IsExpanded};
 ghost use Rattle.certificate.specs.Claims.{IsClaim};
-ghost use Rattle.certificate.specs.Valid.{IsSound};
 ghost use Rattle.cert_check.specs.declared.verdict.Reason as reason_type;
 ghost use Rattle.cert_check.specs.Reading.{own_seeds};
-ghost use Rattle.cert_check.specs.Verdict.{HasReset, IsVerdict, IsReason, IsJudgement};
+ghost use Rattle.cert_check.specs.Verdict.{HasReset, IsVerdict, IsJudgement, AcceptsTheSound, RejectsForReason};
 ghost use Rattle.cert_check.specs.Demands.{AreBeside, SettlesClaim};
 ghost use Rattle.family_edges.specs.Tasks.{task_of};
 ghost use Rattle.local_rules.specs.Site.{Task};
@@ -180,9 +179,9 @@ fn verdict_of(certificate: &Certificate, judgement: Judgement<WorkedOut>) -> Jud
 /// exactly one of the list of the call and the certificate's own has the line `pairs`.
 pub fn judge(task: &Task<'_>, certificate: &Certificate) -> Result<Judgement<u16>, AllocError>
     ensures exact { IfOk result (λ verdict. IsVerdict (task_of task.now) certificate.now verdict) }
-    ensures accepted { IfOk result (λ verdict. (b : ℕ) → (verdict ≡ Judgement.Accepted b) ↔ (IsSound (task_of task.now) certificate.now × (b ≡ certificate.now.bound))) }
+    ensures accepted { IfOk result (AcceptsTheSound (task_of task.now) certificate.now) }
     ensures bounded { (b : ℕ) → result ≡ Ok (Judgement.Accepted b) → Bounded task.now.flash.now task.now.assumptions.now b }
-    ensures rejected { IfOk result (λ verdict. (r : reason_type.Reason) → (verdict ≡ Judgement.Rejected r) ↔ IsReason (task_of task.now) certificate.now r) }
+    ensures rejected { IfOk result (RejectsForReason (task_of task.now) certificate.now) }
 {
     words_have_16_bits(task.flash.words());
     let _nodes = certificate.nodes();
