@@ -1,5 +1,5 @@
 -- Numbers of instances, and closed nodes and edges by number.
-use Rattle.std.specs.Prelude.{ℕ, ◌+◌, ◌-◌, ◌≡◌, ◌<◌, ◌≤◌, ◌↔◌, ◌⊎◌, if◌then◌else◌, List, [], ◌∷◌, ◌++◌, length, Option, Some, None, Contains, slice_get, slice_index}
+use Rattle.std.specs.Prelude.{ℕ, ◌+◌, ◌-◌, ◌≡◌, ◌<◌, ◌≤◌, ◌↔◌, ◌⊎◌, if◌then◌else◌, List, [], ◌∷◌, ◌++◌, length, Option, Some, None, Contains, slice_get, slice_index, Result, IfOk}
 use Rattle.std.specs.List.{flat_map}
 use Rattle.std.specs.List.Sorted.{IsStrictlySortedBy}
 use Rattle.avr_model.specs.declared.assumption.Entry.{Entry}
@@ -20,6 +20,8 @@ use Rattle.instance_graph.specs.declared.graph.GraphWay.TheVariants.{Enters as E
 use Rattle.family_graph.specs.declared.entering.Entering.{Entering}
 use Rattle.family_graph.specs.Graphs.{HasInst, IsGraphNode, IsEntryOf, IsRecurOf}
 use Rattle.local_rules.specs.Site.{Task}
+use Rattle.family_graph.specs.declared.building.NumberedFamily.{NumberedFamily}
+use Rattle.family_graph.specs.declared.building.Parts.{Parts}
 
 -- the instance of the node of this number has its first node, if it is cut
 abbrev pub IsRooted : Task → List Node → ℕ → Type 0
@@ -138,3 +140,18 @@ pub record IsInstOf (task : Task) (nodes : List Node) (insts : List InstKey) (in
 pub record AreGraphInsts (task : Task) (nodes : List Node) (insts : List InstKey) (count : ℕ) (gs : List GraphInst) : Type 0 where
   pub count_is : length gs ≡ count
   pub each : (i : ℕ) (inst : InstKey) → i < count → slice_get insts i ≡ Some inst → (g : GraphInst) × (slice_get gs i ≡ Some g) × IsInstOf task nodes insts inst g
+
+-- the instance of this number in a list, if there is no error
+abbrev pub GivesInst : {E : Type 0} → Result GraphInst E → Task → List Node → List InstKey → ℕ → Type 0
+GivesInst result task nodes insts i = (inst : InstKey) → slice_get insts i ≡ Some inst → IfOk result (IsInstOf task nodes insts inst)
+
+-- ---- of a family whose instances are numbered
+
+-- the edge for an entry by this closed node, unless the instance is cut
+abbrev pub entries_added : NumberedFamily → ClosedNode → Entering → List Entered
+entries_added family p w = entries_for family.task.now.assumptions.now family.numbering.now.insts.items p w
+
+-- the closed nodes and edges that this node, which has this number, adds, if it has these entries
+abbrev pub AddsNode : NumberedFamily → ℕ → Node → List Entering → Parts → Parts → Type 0
+AddsNode family at n ways old new =
+    AddsAt family.task.now.assumptions.now family.numbering.now.insts.items at ways n.key.sp old.offsets.items old.entered.items new.offsets.items new.entered.items

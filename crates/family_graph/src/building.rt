@@ -1,11 +1,11 @@
 //! The graph of instances, instance by instance.
 
-ghost use Rattle.std.specs.Prelude.{◌≡◌, ◌<◌, ◌≤◌, length, Some, IfOk, OnOk, Contains, slice_get};
+ghost use Rattle.std.specs.Prelude.{◌<◌, ◌≤◌, length, Some, IfOk, OnOk, Contains};
 ghost use Rattle.std.specs.List.{flat_map};
 ghost use Rattle.instance_graph.specs.Graph.{IsGraph};
 ghost use Rattle.family_graph.specs.declared.entering.Entering as entering_type;
 ghost use Rattle.family_graph.specs.Graphs.{HasInst, AreWays, IsPeopled, IsGraphOf};
-ghost use Rattle.family_graph.specs.Numbers.{entries_for, AddsAt, AreRecurs, AreRecursOf, IsInstOf};
+ghost use Rattle.family_graph.specs.Numbers.{AreRecurs, AreRecursOf, GivesInst, entries_added, AddsNode};
 ghost use Rattle.family_edges.specs.Tasks.{task_of};
 ghost use Rattle.family_edges.specs.Clauses.{AtNumber, Grows};
 ghost use Rattle.family_graph.specs.Numbered.{NumbersAll};
@@ -42,7 +42,7 @@ fn add_entry(
 ) -> Result<(), AllocError>
     requires numbers { NumbersAll family.now.nodes.now family.now.numbering.now }
     requires has { HasInst family.now.nodes.now way.now.inst }
-    ensures { Grows result entered.old.items entered.new.items (entries_for family.now.task.now.assumptions.now family.now.numbering.now.insts.items closed way.now) }
+    ensures { Grows result entered.old.items entered.new.items (entries_added family.now closed way.now) }
 {
     if way.inst.cut(family.task.assumptions).is_some() {
         return Ok(());
@@ -66,7 +66,7 @@ fn add_entries(
 ) -> Result<(), AllocError>
     requires numbers { NumbersAll family.now.nodes.now family.now.numbering.now }
     requires has { (w : entering_type.Entering) → Contains ways.now w → HasInst family.now.nodes.now w.inst }
-    ensures { Grows result entered.old.items entered.new.items (flat_map (entries_for family.now.task.now.assumptions.now family.now.numbering.now.insts.items closed) ways.now) }
+    ensures { Grows result entered.old.items entered.new.items (flat_map (entries_added family.now closed) ways.now) }
 {
     for way in ways {
         add_entry(family, closed, way, entered)?;
@@ -126,7 +126,7 @@ fn add_node(
     requires few { length family.now.nodes.now ≤ 65536 }
     requires numbers { NumbersAll family.now.nodes.now family.now.numbering.now }
     requires has { (w : entering_type.Entering) → Contains ways.now w → HasInst family.now.nodes.now w.inst }
-    ensures { AtNumber family.now.nodes.now at (λ n. OnOk result (AddsAt family.now.task.now.assumptions.now family.now.numbering.now.insts.items at ways.now n.key.sp parts.old.offsets.items parts.old.entered.items parts.new.offsets.items parts.new.entered.items)) }
+    ensures { AtNumber family.now.nodes.now at (λ n. OnOk result (AddsNode family.now at n ways.now parts.old parts.new)) }
 {
     if let SpForm::Closed(offset) = family.nodes.key(at).sp {
         let closed = ClosedNode {
@@ -152,7 +152,7 @@ fn instance(
     requires ways { AreWays (task_of task.now) nodes.now ways.now }
     requires numbers { NumbersAll nodes.now numbering.now }
     requires peopled { IsPeopled (task_of task.now) nodes.now }
-    ensures { (inst : _) → slice_get numbering.now.insts.items i ≡ Some inst → IfOk result (IsInstOf (task_of task.now) nodes.now numbering.now.insts.items inst) }
+    ensures { GivesInst result (task_of task.now) nodes.now numbering.now.insts.items i }
 {
     let key = numbering.insts[i];
     let (low, high) = nodes.span(&key);
