@@ -8,6 +8,8 @@ use Rattle.round_nesting.specs.declared.allowances.Allowance.{Allowance}
 use Rattle.round_nesting.specs.Nestings.{Spot, Entrance}
 use Rattle.round_nesting.specs.Exits.{Exited, AreListed}
 use Rattle.round_nesting.specs.Drawn.{AreOthersApart}
+use Rattle.round_nesting.specs.declared.allowances.Allowances.{Allowances}
+use Rattle.round_nesting.specs.declared.exits.Exits.{Exits}
 
 abbrev pub Granted : Type 0
 Granted = List (InstKey × Allowance)
@@ -51,3 +53,7 @@ pub record IsCoverKept (covered : Bool) (back : ℕ) (gs : Granted) (es : Exited
   pub apart : AreOthersApart others
   pub listed : AreListed es entrances
   pub covers : covered ≡ true → CoversNoted back gs spots entrances
+
+-- the same, of allowances and of the exits that list the entrances
+abbrev pub AreNotesKept : Bool → Allowances → Exits → List InstKey → List Spot → List Entrance → Type 0
+AreNotesKept covered allowances exits others spots entrances = IsCoverKept covered allowances.back allowances.map.entries exits.map.entries others spots entrances

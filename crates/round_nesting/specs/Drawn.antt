@@ -1,5 +1,5 @@
 -- The graph of a nesting.
-use Rattle.std.specs.Prelude.{ℕ, ◌+◌, ◌≡◌, ◌↔◌, ◌⊎◌, Bool, if◌then◌else◌, List, ◌∷◌, Some, length, Contains, slice_get}
+use Rattle.std.specs.Prelude.{ℕ, ◌+◌, ◌≡◌, ◌↔◌, ◌⊎◌, Bool, if◌then◌else◌, List, ◌∷◌, Some, length, Contains, slice_get, [], Result, OnOk}
 use Rattle.std.specs.List.{position_or_len}
 use Rattle.avr_model.specs.declared.device.Device.{Device}
 use Rattle.avr_model.specs.Devices.{device_of}
@@ -12,13 +12,17 @@ use Rattle.instance_graph.specs.declared.graph.ClosedNode.{ClosedNode}
 use Rattle.instance_graph.specs.Graph.{IsGraph, EntersAlong, HasClosedNode}
 use Rattle.round_rules.specs.Families.{Family}
 use Rattle.round_laws.specs.Graphs.{IsGraphOver}
-use Rattle.round_nesting.specs.Nestings.{Spot, Entrance, AreOnce, VerdictTells}
+use Rattle.round_nesting.specs.Nestings.{Spot, Entrance, AreOnce, VerdictTells, Noted}
 use Rattle.round_nesting.specs.declared.verdict.NestingVerdict.{NestingVerdict}
 use Rattle.local_rules.specs.Site.{Task}
 
 -- the instances of a nesting, in which the root is kept apart
 abbrev pub insts_of : Bool → List InstKey → List InstKey
 insts_of has_root others = if has_root then root_inst ∷ others else others
+
+-- the notes of these instances, spots and entrances
+abbrev pub noted_of : Bool → List InstKey → List Spot → List Entrance → Noted
+noted_of has_root others spots entrances = record { insts = insts_of has_root others; spots = spots; entrances = entrances }
 
 -- the other instances occur once, and the root is not among them
 pub record AreOthersApart (others : List InstKey) : Type 0 where
@@ -92,3 +96,8 @@ pub record IsDrawn (keys : List InstKey) (spots : List Spot) (entrances : List E
 abbrev pub GraphTells : Device → List GraphInst → NestingVerdict → Type 0
 GraphTells device gs w =
     (task : Task) (f : Family) (keys : List InstKey) → device_of task.flash ≡ device → IsGraphOver task f keys gs → VerdictTells task f w
+
+-- a graph that has these spots drawn, and no entrance, has the entrances drawn too
+abbrev pub DrawsEntrances : {A E : Type 0} → Result A E → List InstKey → List GraphInst → List Entrance → List GraphInst → Type 0
+DrawsEntrances result others old entrances new =
+    (spots : List Spot) → IsDrawn (root_inst ∷ others) spots [] old → OnOk result (IsDrawn (root_inst ∷ others) spots entrances new)

@@ -1,11 +1,13 @@
 -- Allowances that are lowered for an entrance, and then for those of the lowered instances, and so on.
-use Rattle.std.specs.Prelude.{ℕ, ◌≡◌, ◌≤◌, ◌⊎◌, List, ◌++◌, Some, Contains}
+use Rattle.std.specs.Prelude.{ℕ, ◌≡◌, ◌≤◌, ◌⊎◌, List, ◌++◌, Some, Contains, Bool, IsTrue, Result, IfOk}
 use Rattle.node_keys.specs.declared.keys.InstKey.{InstKey}
 use Rattle.round_nesting.specs.declared.allowances.Allowance.{Allowance}
 use Rattle.round_nesting.specs.Nestings.{Spot, Entrance}
 use Rattle.round_nesting.specs.Drawn.{HasMore}
 use Rattle.round_nesting.specs.Exits.{Exited, AreListed}
 use Rattle.round_nesting.specs.Covers.{Granted, allowed, AllowsSpot, AllowsEntrance, CoversNoted}
+use Rattle.round_nesting.specs.declared.allowances.Allowances.{Allowances}
+use Rattle.round_nesting.specs.declared.exits.Exits.{Exits}
 
 -- the instance has an allowance whose need is at most the one before, and still above the floor; it is less only if the instance is listed
 pub record IsLower (a : Allowance) (lowered : List InstKey) (new : Granted) (inst : InstKey) : Type 0 where
@@ -45,3 +47,21 @@ IsSettled back es gs waiting new =
 abbrev pub IsEntranceCovered : ℕ → Exited → Granted → Entrance → Granted → Type 0
 IsEntranceCovered back es gs x new =
     (spots : List Spot) (entrances more : List Entrance) → HasMore entrances x more → AreListed es more → CoversNoted back gs spots entrances → CoversNoted back new spots more
+
+-- ---- of allowances
+
+-- if the answer is yes
+abbrev pub IfYes : {E : Type 0} → Result Bool E → Type 0 → Type 0
+IfYes result then_so = IfOk result (λ done. IsTrue done → then_so)
+
+-- their needs are lowered for these entrances: what is lowered is added to the queue
+abbrev pub LowersNeeds : Allowances → List InstKey → List Entrance → Allowances → List InstKey → Type 0
+LowersNeeds old queue xs new now = Lowers old.back old.map.entries queue xs new.map.entries now
+
+-- they cover notes whose entrances are among the exits, if all but those of the waiting instances were covered
+abbrev pub SettlesNeeds : Allowances → Exits → List InstKey → Allowances → Type 0
+SettlesNeeds old exits waiting new = IsSettled old.back exits.map.entries old.map.entries waiting new.map.entries
+
+-- they cover notes with one more entrance, all among the exits, if those without it were covered
+abbrev pub CoversEntrance : Allowances → Exits → Entrance → Allowances → Type 0
+CoversEntrance old exits x new = IsEntranceCovered old.back exits.map.entries old.map.entries x new.map.entries

@@ -28,6 +28,9 @@ pub record Entrance : Type 0 where
   pub into : InstKey
   pub offset : ℕ
 
+abbrev pub entrance_of : InstKey → InstKey → ℕ → Entrance
+entrance_of from into offset = record { from = from; into = into; offset = offset }
+
 -- the instances with nodes, the offsets of these nodes, and the entrances
 pub record Noted : Type 0 where
   pub insts : List InstKey

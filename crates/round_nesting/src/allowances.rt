@@ -75,7 +75,7 @@ impl Allowances {
     ghost use Rattle.avr_model.specs.Devices.{size_of, back_of};
     ghost use Rattle.round_nesting.specs.Nestings as nestings;
     ghost use Rattle.round_nesting.specs.Covers.{allowed, AreAllowancesKept, AllowsRoot, AllowsSpot, AllowsEntrance, CoversNoted};
-    ghost use Rattle.round_nesting.specs.Lowering.{IsLowered, Lowers, IsSettled, IsEntranceCovered};
+    ghost use Rattle.round_nesting.specs.Lowering.{IsLowered, IfYes, LowersNeeds, SettlesNeeds, CoversEntrance};
 
     /// No allowances.
     pub fn none(alloc: Global) -> Allowances {
@@ -253,7 +253,7 @@ impl Allowances {
         entrance: &NotedEntrance,
         lowered: &mut Vec<InstKey>,
     ) -> Result<bool, AllocError>
-        ensures met { IfOk result (λ done. IsTrue done → Lowers self.old.back self.old.map.entries lowered.old.items (entrance.now ∷ []) self.new.map.entries lowered.new.items) }
+        ensures met { IfYes result (LowersNeeds self.old lowered.old.items (entrance.now ∷ []) self.new lowered.new.items) }
         ensures back { self.new.back ≡ self.old.back }
     {
         let (Some(from), Some(into)) = (self.of(entrance.from()), self.of(entrance.into())) else {
@@ -284,7 +284,7 @@ impl Allowances {
         entrances: &[NotedEntrance],
         lowered: &mut Vec<InstKey>,
     ) -> Result<bool, AllocError>
-        ensures met { IfOk result (λ done. IsTrue done → Lowers self.old.back self.old.map.entries lowered.old.items entrances.now self.new.map.entries lowered.new.items) }
+        ensures met { IfYes result (LowersNeeds self.old lowered.old.items entrances.now self.new lowered.new.items) }
         ensures back { self.new.back ≡ self.old.back }
     {
         for entrance in entrances {
@@ -297,7 +297,7 @@ impl Allowances {
 
     // Lowers what the lowered instances enter, and so on. Returns false if that is too little or takes long.
     fn settle(&mut self, exits: &Exits, lowered: Vec<InstKey>) -> Result<bool, AllocError>
-        ensures settled { IfOk result (λ done. IsTrue done → IsSettled self.old.back exits.now.map.entries self.old.map.entries lowered.items self.new.map.entries) }
+        ensures settled { IfYes result (SettlesNeeds self.old exits.now lowered.items self.new) }
         ensures back { self.new.back ≡ self.old.back }
     {
         let mut lowered = lowered;
@@ -325,7 +325,7 @@ impl Allowances {
         exits: &Exits,
     ) -> Result<bool, AllocError>
         ensures was { IfOk result (λ done. IsTrue done → IsTrue covered) }
-        ensures covers { IfOk result (λ done. IsTrue done → IsEntranceCovered self.old.back exits.now.map.entries self.old.map.entries entrance.now self.new.map.entries) }
+        ensures covers { IfYes result (CoversEntrance self.old exits.now entrance.now self.new) }
         ensures back { self.new.back ≡ self.old.back }
     {
         if !covered {

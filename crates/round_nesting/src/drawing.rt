@@ -1,10 +1,9 @@
 //! The graph of a nesting.
 
-ghost use Rattle.std.specs.Prelude.{◌≡◌, ◌+◌, ◌≤◌, ◌∷◌, [], List, length, IfOk, OnOk};
+ghost use Rattle.std.specs.Prelude.{◌≡◌, ◌+◌, ◌≤◌, ◌∷◌, [], length, IfOk, OnOk};
 ghost use Rattle.indexmap.specs.IndexSet.{index_set_len};
 ghost use Rattle.node_keys.specs.Keys.{root_inst};
-ghost use Rattle.round_nesting.specs.Nestings.{Spot};
-ghost use Rattle.round_nesting.specs.Drawn.{number_of, IsDrawn};
+ghost use Rattle.round_nesting.specs.Drawn.{number_of, IsDrawn, DrawsEntrances};
 
 use crate::notes::{NotedEntrance, NotedSpot};
 use avr_model::listed::Listed;
@@ -82,7 +81,7 @@ fn draw_entrances(
 ) -> Result<(), AllocError>
     requires few { index_set_len others.now ≤ 65535 }
     requires count { length instances.old ≡ index_set_len others.now + 2 }
-    ensures { (spots : List Spot) → IsDrawn (root_inst ∷ others.now.keys) spots [] instances.old → OnOk result (IsDrawn (root_inst ∷ others.now.keys) spots entrances.now instances.new) }
+    ensures { DrawsEntrances result others.now.keys instances.old entrances.now instances.new }
 {
     for entrance in entrances {
         let into = number(others, entrance.into()) as u32;

@@ -5,7 +5,7 @@ ghost use Rattle.indexmap.specs.IndexSet.{index_set_len};
 ghost use Rattle.avr_model.specs.declared.device.Device as device_type;
 ghost use Rattle.instance_graph.specs.Graph.{IsGraph};
 ghost use Rattle.instance_graph.specs.Cycle.{IsNamed};
-ghost use Rattle.round_nesting.specs.Drawn.{insts_of, AreOthersApart, GraphTells};
+ghost use Rattle.round_nesting.specs.Drawn.{AreOthersApart, GraphTells, noted_of};
 ghost use Rattle.round_nesting.specs.Nestings.{TellsAll};
 
 use crate::allowances::Allowances;
@@ -85,7 +85,7 @@ pub(crate) fn judge_noted(
 ) -> Result<JudgedNesting, AllocError>
     requires few { index_set_len others.now ≤ 65535 }
     requires apart { AreOthersApart others.now.keys }
-    ensures { IfOk result (λ w. TellsAll device (record { insts = insts_of true others.now.keys; spots = spots.now.keys; entrances = entrances.now.keys }) w.verdict) }
+    ensures { IfOk result (λ w. TellsAll device (noted_of true others.now.keys spots.now.keys entrances.now.keys) w.verdict) }
 {
     let graph = drawn(alloc, others, spots.as_slice(), entrances.as_slice())?;
     let judged = judge_graph(alloc, &graph, others, entrances, device);

@@ -3,7 +3,7 @@
 ghost use Rattle.std.specs.Prelude.{◌≡◌, ◌≤◌, length, IfOk, OnOk};
 ghost use Rattle.avr_model.specs.State.{SIZE};
 ghost use Rattle.node_keys.specs.Keys.{offset_of};
-ghost use Rattle.round_nesting.specs.Nestings.{Noted, nothing, AreOnce, IsNodeNoted, HasEntrance, AreAlike, TellsAll};
+ghost use Rattle.round_nesting.specs.Nestings.{Noted, nothing, AreOnce, IsNodeNoted, HasEntrance, AreAlike, TellsAll, entrance_of};
 ghost use Rattle.round_nesting.specs.Drawn.{insts_of, AreOthersApart, HasMore};
 
 use crate::allowances::Allowances;
@@ -32,14 +32,14 @@ pub struct Nesting {
 
 impl Model for Nesting {
     ghost use Rattle.round_nesting.specs.Nestings.{Noted};
-    ghost use Rattle.round_nesting.specs.Drawn.{insts_of};
-    ghost use Rattle.round_nesting.specs.Covers.{IsCoverKept};
+    ghost use Rattle.round_nesting.specs.Drawn.{noted_of};
+    ghost use Rattle.round_nesting.specs.Covers.{AreNotesKept};
 
     ghost Value = { Noted };
 
-    ghost view = { λ n. record { insts = insts_of n.has_root n.others.keys; spots = n.spots.keys; entrances = n.entrances.keys } };
+    ghost view = { λ n. noted_of n.has_root n.others.keys n.spots.keys n.entrances.keys };
 
-    ghost invariant = { λ n. IsCoverKept n.covered n.allowances.back n.allowances.map.entries n.exits.map.entries n.others.keys n.spots.keys n.entrances.keys };
+    ghost invariant = { λ n. AreNotesKept n.covered n.allowances n.exits n.others.keys n.spots.keys n.entrances.keys };
 }
 
 // Notes an instance, if it is new.
@@ -117,7 +117,7 @@ impl Nesting {
         offset: u16,
     ) -> Result<(), AllocError>
         requires { offset ≤ SIZE }
-        ensures entrance { OnOk result (HasEntrance self.old (record { from = from.now; into = into.now; offset = offset }) self.new) }
+        ensures entrance { OnOk result (HasEntrance self.old (entrance_of from.now into.now offset) self.new) }
         ensures once { OnOk result (AreOnce self.new.insts) }
     {
         let entrance = NotedEntrance::new(*from, *into, offset);
