@@ -1,5 +1,5 @@
 -- The targets of a family's edges that do not land in it, joined by key.
-use Rattle.std.specs.Prelude.{Bool, ◌≡◌, ◌⊎◌, List, Contains}
+use Rattle.std.specs.Prelude.{Bool, ◌≡◌, ◌⊎◌, List, Contains, ◌++◌, Result, IfOk, OnOk}
 use Rattle.avr_model.specs.declared.device.Device.{Device}
 use Rattle.abs_state.specs.declared.state.AbsState.{AbsState}
 use Rattle.node_keys.specs.declared.keys.NodeKey.{NodeKey}
@@ -9,6 +9,7 @@ use Rattle.edge_rules.specs.Families.{IsCovered}
 use Rattle.edge_rules.specs.Views.{IsOwnNode}
 use Rattle.round_rules.specs.Families.{Family, FamilyHas, Lands, Below, AreFormed}
 use Rattle.round_laws.specs.Steps.{raised, HaveOwnKeys}
+use Rattle.std.specs.Global.{Vec}
 
 -- a node of the analysis of some device, which follows pairs if its state does
 abbrev pub IsOwnState : NodeKey → AbsState → Type 0
@@ -40,3 +41,13 @@ pub record AreBeyond (device : Device) (followed : Bool) (f : Family) (all items
   pub least : (h : Family) → ((to : Node) → Contains all to → Lands h to) → (n : Node) → Contains items n → Lands h n
   pub beyond : (n : Node) → Contains items n → Lands f n → ⊥
   pub apart : HaveOwnKeys items
+
+-- on each device on which they are nodes of the analysis, these nodes are gathered besides those before them
+abbrev pub GathersMore : {A E : Type 0} → Result A E → Family → Family → List Node → Family → Type 0
+GathersMore result f old ns new =
+    (device : Device) (followed : Bool) (before : List Node) → AreNodesIn device followed ns → AreTargetsGathered device followed f before old
+    → OnOk result (AreTargetsGathered device followed f (before ++ ns) new)
+
+-- on each device on which they are nodes of the analysis, the result is the join by key of those that do not land in f
+abbrev pub FindsBeyond : {E : Type 0} → Result (Vec Node) E → Family → List Node → Type 0
+FindsBeyond result f all = (device : Device) (followed : Bool) → AreNodesIn device followed all → IfOk result (λ found. AreBeyond device followed f all found.items)

@@ -1,5 +1,5 @@
 -- What a join of nodes into a family changes.
-use Rattle.std.specs.Prelude.{ℕ, Bool, ◌+◌, ◌≡◌, ◌≤◌, List, ◌++◌, map, length, Contains}
+use Rattle.std.specs.Prelude.{ℕ, Bool, ◌+◌, ◌≡◌, ◌≤◌, List, ◌++◌, map, length, Contains, Result, OnOk}
 use Rattle.std.specs.FinMap.{get}
 use Rattle.avr_model.specs.declared.device.Device.{Device}
 use Rattle.node_keys.specs.declared.keys.NodeKey.{NodeKey}
@@ -37,3 +37,7 @@ pub record AreJoinedSoFar (f : Family) (all : List Node) (g : Family) (count : �
   pub keys : changed ++ keys_of left ≡ keys_of all
   pub kept : KeptBut f g changed
   pub more : weight f + length changed ≤ weight g
+
+-- on each device on which f is formed and these are nodes of the analysis, g is formed
+abbrev pub StaysFormed : {A E : Type 0} → Result A E → Family → List Node → Family → Type 0
+StaysFormed result f ns g = (device : Device) (followed : Bool) → AreFormed device followed f → AreNodesIn device followed ns → OnOk result (AreFormed device followed g)

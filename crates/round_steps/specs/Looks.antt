@@ -1,5 +1,5 @@
 -- A look is a visit of a node of the family: it finds its successors or its fault.
-use Rattle.std.specs.Prelude.{◌≡◌, ◌≢◌, ◌⊎◌, List, [], ◌∷◌, ◌++◌, Option, Some, Result, Ok, Err, Contains}
+use Rattle.std.specs.Prelude.{◌≡◌, ◌≢◌, ◌⊎◌, List, [], ◌∷◌, ◌++◌, Option, Some, Result, Ok, Err, Contains, OnOk}
 use Rattle.std.specs.FinMap.{get}
 use Rattle.abs_state.specs.declared.state.AbsState.{AbsState}
 use Rattle.node_keys.specs.declared.keys.NodeKey.{NodeKey}
@@ -58,3 +58,7 @@ pub record IsFaultSeen (old : SeenState) (fault : NodeFault) (new : SeenState) :
 abbrev pub IsSeenBesides : Result Look NodeFault → SeenState → SeenState → Type 0
 IsSeenBesides (Ok x) old new = (new.looks.items ≡ old.looks.items ++ x ∷ []) × (new.worst ≡ old.worst)
 IsSeenBesides (Err fault) old new = IsFaultSeen old fault new
+
+-- this node is seen besides those before it
+abbrev pub SeesMore : {A E : Type 0} → Result A E → Task → Family → SeenState → NodeKey → SeenState → Type 0
+SeesMore result task f old key new = (keys : List NodeKey) → AreSeen task f keys old → OnOk result (AreSeen task f (keys ++ key ∷ []) new)

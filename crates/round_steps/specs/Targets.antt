@@ -9,12 +9,15 @@ use Rattle.local_rules.specs.declared.local.Node.{Node}
 use Rattle.edge_rules.specs.declared.edge.Edge.{Edge}
 use Rattle.edge_rules.specs.Edges.{target}
 use Rattle.family_edges.specs.declared.ways.Way.{Way}
-use Rattle.family_edges.specs.Next.{Leaver, local_edge, node_of, return_by, interprocedural}
+use Rattle.family_edges.specs.Next.{Leaver, local_edge, node_of, return_by, interprocedural, returns_by}
 use Rattle.round_table.specs.declared.crossings.Crossing.{Crossing}
 use Rattle.round_table.specs.Crossings.{Groups, crossings_at}
 use Rattle.round_rules.specs.Families.{Family}
 use Rattle.round_steps.specs.declared.looking.Look.{Look}
 use Rattle.round_steps.specs.declared.noting.Notes.{Notes}
+use Rattle.family_edges.specs.declared.callers.Caller.{Caller}
+use Rattle.family_edges.specs.Callers.{caller_node}
+use Rattle.round_steps.specs.declared.targets.NotedFamily.{NotedFamily}
 
 -- ---- nodes that leave an instance
 
@@ -28,6 +31,10 @@ noted_leaver f c = leaver_with c.exit (get f c.node)
 
 abbrev pub noted_leavers : Family → Groups → InstKey → List Leaver
 noted_leavers f leavers inst = flat_map (noted_leaver f) (crossings_at leavers inst)
+
+-- the return to a caller by the node that leaves its instance
+abbrev pub returned_to : Family → Caller → Crossing → List Edge
+returned_to f caller c = returns_by (caller_node caller) caller.way (noted_leaver f c)
 
 -- ---- returns onward, by a node that leaves its instance
 
@@ -70,3 +77,11 @@ targets_of f notes x = map target (edges_of f notes x)
 
 abbrev pub all_targets : Family → Notes → List Look → List Node
 all_targets f notes = flat_map (targets_of f notes)
+
+-- ---- of nodes, by a family with its notes
+
+abbrev pub family_onwards : NotedFamily → InstKey → AbsState → Option Exit → List Edge
+family_onwards family inst s x = onwards_if family.table.now family.notes.now.callers inst s x
+
+abbrev pub family_targets : NotedFamily → Look → List Node
+family_targets family x = targets_of family.table.now family.notes.now x

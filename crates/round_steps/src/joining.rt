@@ -1,12 +1,10 @@
 //! Nodes joined into a family.
 
-ghost use Rattle.std.specs.Prelude.{Bool, ◌≡◌, ◌+◌, ◌≤◌, ◌++◌, ◌∷◌, [], length, IfOk, OnOk};
-ghost use Rattle.avr_model.specs.declared.device.Device.{Device};
-ghost use Rattle.local_laws.specs.Laws.{AreNodesIn};
-ghost use Rattle.round_rules.specs.Families.{AreFormed, cells};
+ghost use Rattle.std.specs.Prelude.{◌≡◌, ◌+◌, ◌≤◌, ◌∷◌, [], length, IfOk, OnOk};
+ghost use Rattle.round_rules.specs.Families.{cells};
 ghost use Rattle.round_laws.specs.Steps.{raised, raised_all, HaveOwnKeys, weight};
 ghost use Rattle.round_steps.specs.Gathers.{IsOwnState};
-ghost use Rattle.round_steps.specs.Joins.{keys_of, AreNew, FitTogether, KeptBut};
+ghost use Rattle.round_steps.specs.Joins.{keys_of, AreNew, FitTogether, KeptBut, StaysFormed};
 ghost use Rattle.family_edges.specs.Clauses.{Grows};
 
 use local_rules::Node;
@@ -55,7 +53,7 @@ pub fn join_all(
     requires apart { HaveOwnKeys nodes.items }
     ensures joined { OnOk result (table.new ≡ raised_all table.old nodes.items) }
     ensures count { OnOk result (counted.new ≡ cells table.new) }
-    ensures formed { (device : Device) (followed : Bool) → AreFormed device followed table.old → AreNodesIn device followed nodes.items → OnOk result (AreFormed device followed table.new) }
+    ensures formed { StaysFormed result table.old nodes.items table.new }
     ensures keys { IfOk result (λ changed. changed.items ≡ keys_of nodes.items) }
     ensures kept { IfOk result (λ changed. KeptBut table.old table.new changed.items) }
     ensures more { IfOk result (λ changed. weight table.old + length changed.items ≤ weight table.new) }

@@ -1,6 +1,6 @@
 //! Visits of nodes.
 
-ghost use Rattle.std.specs.Prelude.{◌≡◌, ◌≢◌, ◌++◌, ◌∷◌, [], List, Ok, Err, IfOk, IfErr, OnOk};
+ghost use Rattle.std.specs.Prelude.{◌≡◌, ◌≢◌, Ok, Err, IfOk, IfErr, OnOk};
 ghost use Rattle.node_keys.specs.declared.keys.NodeKey as key_type;
 ghost use Rattle.local_rules.specs.declared.local.NodeFault.TheVariants.{Memory};
 ghost use Rattle.avr_model.specs.Devices.{device_of};
@@ -10,7 +10,7 @@ ghost use Rattle.local_rules.specs.Local as rows;
 ghost use Rattle.family_edges.specs.Ways.{ways_of};
 ghost use Rattle.round_rules.specs.Families.{AreFormed};
 ghost use Rattle.round_rules.specs.Refusals.{word_of};
-ghost use Rattle.round_steps.specs.Looks.{IsWorst, IsSeenBesides, AreSeen};
+ghost use Rattle.round_steps.specs.Looks.{IsWorst, IsSeenBesides, AreSeen, SeesMore};
 ghost use Rattle.family_edges.specs.Tasks.{task_of};
 
 use abs_state::AbsState;
@@ -116,7 +116,7 @@ fn look_at(
     key: &NodeKey,
 ) -> Result<(), AllocError>
     requires { AreFormed (device_of task.now.flash.now) (has_pairs task.now.assumptions.now) table.now }
-    ensures { (keys : List key_type.NodeKey) → AreSeen (task_of task.now) table.now keys seen.old → OnOk result (AreSeen (task_of task.now) table.now (keys ++ key.now ∷ []) seen.new) }
+    ensures { SeesMore result (task_of task.now) table.now seen.old key.now seen.new }
 {
     let Some(state) = table.get(key) else {
         return Ok(());

@@ -1,18 +1,15 @@
 //! The edges of visited nodes, and their targets.
 
-ghost use Rattle.std.specs.Prelude.{ℕ, Bool, ◌≡◌, ◌<◌, ◌++◌, List, map, OnOk, IfOk};
-ghost use Rattle.avr_model.specs.declared.device.Device.{Device};
+ghost use Rattle.std.specs.Prelude.{ℕ, ◌<◌, map, OnOk};
 ghost use Rattle.abs_state.specs.Values.{value_at};
 ghost use Rattle.abs_state.specs.Formed.{NamesRegister};
 ghost use Rattle.avr_model.specs.State.{REGISTERS};
 ghost use Rattle.local_rules.specs.declared.local.Node as node_type;
-ghost use Rattle.local_laws.specs.Laws.{AreNodesIn};
 ghost use Rattle.edge_rules.specs.Edges.{target};
 ghost use Rattle.family_edges.specs.Clauses.{Grows};
-ghost use Rattle.family_edges.specs.Callers.{caller_node, leaver_of};
-ghost use Rattle.family_edges.specs.Next.{returns_by};
-ghost use Rattle.round_steps.specs.Targets.{noted_leaver, noted_leavers, onward_at, onwards_if, all_interprocedural, edges_of, targets_of, all_targets};
-ghost use Rattle.round_steps.specs.Gathers.{IsOwnState, AreOwn, AreOwnNodes, IsTargetGathered, AreTargetsGathered, AreBeyond};
+ghost use Rattle.family_edges.specs.Callers.{leaver_of};
+ghost use Rattle.round_steps.specs.Targets.{noted_leavers, onward_at, all_interprocedural, edges_of, all_targets, returned_to, family_onwards, family_targets};
+ghost use Rattle.round_steps.specs.Gathers.{IsOwnState, AreOwn, AreOwnNodes, IsTargetGathered, GathersMore, FindsBeyond};
 
 use crate::looking::Look;
 use crate::noting::Notes;
@@ -45,7 +42,7 @@ fn add_leaver(
     leaver: &Crossing,
 ) -> Result<(), AllocError>
     requires { AreOwn family.now.table.now }
-    ensures { Grows result edges.old edges.new (returns_by (caller_node caller.now) caller.now.way (noted_leaver family.now.table.now leaver.now)) }
+    ensures { Grows result edges.old edges.new (returned_to family.now.table.now caller.now leaver.now) }
 {
     let Some(state) = family.table.get(&leaver.node) else {
         return Ok(());
@@ -104,7 +101,7 @@ fn add_onwards(
     exit: Option<Exit>,
 ) -> Result<(), AllocError>
     requires { (r : ℕ) → r < REGISTERS → NamesRegister (value_at state.now.registers r).tag }
-    ensures { Grows result edges.old edges.new (onwards_if family.now.table.now family.now.notes.now.callers inst.now state.now exit) }
+    ensures { Grows result edges.old edges.new (family_onwards family.now inst.now state.now exit) }
 {
     let Some(exit) = exit else {
         return Ok(());
@@ -170,7 +167,7 @@ fn gather_one(next: &mut GatheredStates, table: &Table, node: Node) -> Result<()
 // Gathers the targets of edges.
 fn gather(next: &mut GatheredStates, table: &Table, edges: Vec<Edge>) -> Result<(), AllocError>
     requires { AreOwnNodes (map target edges.items) }
-    ensures { (device : Device) (followed : Bool) (before : List node_type.Node) → AreNodesIn device followed (map target edges.items) → AreTargetsGathered device followed table.now before next.old → OnOk result (AreTargetsGathered device followed table.now (before ++ map target edges.items) next.new) }
+    ensures { GathersMore result table.now next.old (map target edges.items) next.new }
 {
     for edge in edges {
         let node = Node {
@@ -189,8 +186,8 @@ fn gather_targets(
     x: Look,
 ) -> Result<(), AllocError>
     requires formed { AreOwn family.now.table.now }
-    requires nodes { AreOwnNodes (targets_of family.now.table.now family.now.notes.now x) }
-    ensures { (device : Device) (followed : Bool) (before : List node_type.Node) → AreNodesIn device followed (targets_of family.now.table.now family.now.notes.now x) → AreTargetsGathered device followed family.now.table.now before next.old → OnOk result (AreTargetsGathered device followed family.now.table.now (before ++ targets_of family.now.table.now family.now.notes.now x) next.new) }
+    requires nodes { AreOwnNodes (family_targets family.now x) }
+    ensures { GathersMore result family.now.table.now next.old (family_targets family.now x) next.new }
 {
     let mut edges = Listed::empty(family.alloc);
     match add_edges(&mut edges, family, x) {
@@ -212,7 +209,7 @@ pub fn targets(
 ) -> Result<Vec<Node>, AllocError>
     requires formed { AreOwn table.now }
     requires nodes { AreOwnNodes (all_targets table.now notes.now looks.items) }
-    ensures { (device : Device) (followed : Bool) → AreNodesIn device followed (all_targets table.now notes.now looks.items) → IfOk result (λ all. AreBeyond device followed table.now (all_targets table.now notes.now looks.items) all.items) }
+    ensures { FindsBeyond result table.now (all_targets table.now notes.now looks.items) }
 {
     let family = NotedFamily {
         alloc,
