@@ -50,6 +50,7 @@ use Rattle.replies.specs.Reading.{Seen, Unread, Whole, Long, Contents}
 use Rattle.replies.specs.Analysis.{IsAnalysis}
 pub use Rattle.replies.specs.Says.{Reply, Says, Refuses}
 use Rattle.local_rules.specs.Site.{Task, bare, task_with}
+use Rattle.elf_load.specs.declared.Loaded.{Loaded}
 
 -- ---- files
 
@@ -123,9 +124,21 @@ abbrev pub CertificateReply : Task → (Claim → Reply) → Result Claim CertFa
 CertificateReply task next (Err fault) status text = Refuses exit.BadCertificate (certificate_refused fault) status text
 CertificateReply task next (Ok c) status text = JudgedReply task next c status text
 
+-- the answer to the text of a certificate; continues with an accepted one
+abbrev pub TextReply : Task → (Claim → Reply) → List ℕ → Reply
+TextReply task next text = CertificateReply task next (certificate_in (device_of task.flash) text)
+
+-- the line of an accepted certificate
+abbrev pub CheckReply : Claim → Reply
+CheckReply c = Says exit.Done (accepted c.bound (is_some c.witness))
+
 abbrev pub report_by : Bool → Device → List Named → Option ℕ → Claim → List ℕ
 report_by true device names end c = json_text device c names end
 report_by false device names end c = plain_text device c names end
+
+-- the report of an accepted certificate, for a firmware that was loaded for this device
+abbrev pub ReportReply : Bool → Device → Loaded → Claim → Reply
+ReportReply json device loaded c = Says exit.Done (report_by json device loaded.names loaded.static_end c)
 
 -- what a command prints of a certificate that it accepts, for a firmware of these bytes
 abbrev pub told_of : Device → Work → List ℕ → Claim → List ℕ
@@ -191,6 +204,10 @@ abbrev pub RunReply : Device → Result Replayed ℕ → Reply
 RunReply device (Err step) status text = Says exit.BadSchedule (schedule_illegal step) status text
 RunReply device (Ok r) status text = Says exit.Done (run_text device r) status text
 
+-- the answer to a schedule
+abbrev pub ReplayReply : Task → Plan → Reply
+ReplayReply task plan = RunReply (device_of task.flash) (replay_of task.flash task.assumptions plan)
+
 -- nothing follows a schedule in its file
 abbrev pub EndsBefore : List TextLine → ℕ → Reply → Reply
 EndsBefore [] at reply status text = reply status text
@@ -198,14 +215,22 @@ EndsBefore (l ∷ ls) at reply status text = Says exit.BadSchedule (schedule_mal
 
 abbrev pub ScheduleReply : Task → Result (Plan × Position) ℕ → Reply
 ScheduleReply task (Err at) status text = Says exit.BadSchedule (schedule_malformed at) status text
-ScheduleReply task (Ok read) status text = EndsBefore read.1.rest read.1.at (RunReply (device_of task.flash) (replay_of task.flash task.assumptions read.0)) status text
+ScheduleReply task (Ok read) status text = EndsBefore read.1.rest read.1.at (ReplayReply task read.0) status text
+
+-- the answer to the text of a schedule
+abbrev pub ScheduleTextReply : Task → List ℕ → Reply
+ScheduleTextReply task text = ScheduleReply task (schedule_in (device_of task.flash) (record { at = 0; rest = lines_of text }))
 
 -- ---- simulate
+
+-- the line of the run that these peripherals choose
+abbrev pub simulation_text : Task → Setup → ℕ → List ℕ
+simulation_text task setup steps = run_text (device_of task.flash) (simulation_of task.flash task.assumptions setup steps)
 
 -- the report of the run that peripherals choose, if their text is well-formed
 abbrev pub SimulateReply : Task → ℕ → Result Setup PeripheralsFault → Reply
 SimulateReply task steps (Err fault) status text = Refuses exit.BadPeripherals (peripherals_refused fault) status text
-SimulateReply task steps (Ok setup) status text = Says exit.Done (run_text (device_of task.flash) (simulation_of task.flash task.assumptions setup steps)) status text
+SimulateReply task steps (Ok setup) status text = Says exit.Done (simulation_text task setup steps) status text
 
 -- ---- analyse and demo
 
@@ -240,10 +265,10 @@ DemoReply size status text = MeasuredReply size status text ⊎ WhyNotReply (bar
 -- has none.
 abbrev pub FlashReply : Device → Work → List ℕ → List ℕ → Task → Reply
 FlashReply device (Analyse steps) firmware bytes task = AnalyseReply task steps
-FlashReply device (Run schedule) firmware bytes task = ScheduleReply task (schedule_in (device_of task.flash) (record { at = 0; rest = lines_of bytes }))
+FlashReply device (Run schedule) firmware bytes task = ScheduleTextReply task bytes
 FlashReply device (Simulate peripherals steps) firmware bytes task = SimulateReply task steps (setup_in (device_of task.flash) bytes)
-FlashReply device (Clear certificate) firmware bytes task = CertificateReply (bare task.flash) (ClearReply task.flash) (certificate_in (device_of task.flash) bytes)
-FlashReply device work firmware bytes task = CertificateReply task (AcceptedReply device work firmware task) (certificate_in (device_of task.flash) bytes)
+FlashReply device (Clear certificate) firmware bytes task = TextReply (bare task.flash) (ClearReply task.flash) bytes
+FlashReply device work firmware bytes task = TextReply task (AcceptedReply device work firmware task) bytes
 
 -- the answer of a work for the bytes of a firmware, its second file and an assumption file, which are examined in this order
 abbrev pub ImageReply : Device → Work → List ℕ → List ℕ → Option (List ℕ) → Reply

@@ -1,7 +1,7 @@
 -- Printed texts, each one line of words. `line_writing` of text_base writes a line of words as their text with one space between each two
 -- and a line feed at the end.
 use Rattle.std.specs.Option.{option_map}
-use Rattle.std.specs.Prelude.{ℕ, List, [], ◌∷◌, length, codes, decimal, Bool, true, false, ◌≡◌, Option, Some, None}
+use Rattle.std.specs.Prelude.{ℕ, List, [], ◌∷◌, length, codes, decimal, Bool, true, false, ◌≡◌, Option, Some, None, ◌++◌}
 use Rattle.text_base.specs.Digits.{hex_digits}
 use Rattle.text_base.specs.Writing.{Written, with_words, with_end}
 use Rattle.avr_model.specs.declared.instruction.Instr.{Instr}
@@ -131,13 +131,17 @@ witness_word false = codes "open"
 abbrev pub accepted : ℕ → Bool → List ℕ
 accepted bound attained = told (codes "accepted" ∷ codes "bound" ∷ decimal bound ∷ witness_word attained ∷ [])
 
+-- the number of an instance, a word and a number
+abbrev pub inst_told : ℕ → List ℕ → ℕ → List (List ℕ)
+inst_told at word number = codes "inst" ∷ decimal at ∷ word ∷ decimal number ∷ []
+
 -- the words after `rejected`, the first one the reason's number
 abbrev pub reason_words : Device → Reason → List (List ℕ)
 reason_words device Root = codes "1" ∷ codes "root" ∷ []
 reason_words device (Node at cause) = codes "2" ∷ codes "node" ∷ decimal at ∷ codes "cause" ∷ decimal cause ∷ []
 reason_words device (Edge at key) = codes "3" ∷ codes "node" ∷ decimal at ∷ codes "to" ∷ node_key_words device key
-reason_words device (Rank at entered) = codes "4" ∷ codes "inst" ∷ decimal at ∷ codes "inst" ∷ decimal entered ∷ []
-reason_words device (Need at least) = codes "5" ∷ codes "inst" ∷ decimal at ∷ codes "least" ∷ decimal least ∷ []
+reason_words device (Rank at entered) = codes "4" ∷ inst_told at (codes "inst") entered
+reason_words device (Need at least) = codes "5" ∷ inst_told at (codes "least") least
 reason_words device (Bound least) = codes "6" ∷ codes "least" ∷ decimal least ∷ []
 reason_words device Assumptions = codes "7" ∷ codes "assumptions" ∷ []
 reason_words device (Expansion at) = codes "9" ∷ codes "node" ∷ decimal at ∷ []
@@ -149,11 +153,15 @@ rejected device reason = told (codes "rejected" ∷ reason_words device reason)
 abbrev pub witness_rejected : List ℕ
 witness_rejected = told (codes "rejected" ∷ codes "8" ∷ codes "witness" ∷ [])
 
+-- the place of a write and the address that it wrote
+abbrev pub write_words : Device → List ℕ → ℕ → ℕ → List (List ℕ)
+write_words device name pc address = name ∷ word_address_text device pc ∷ hex_digits address 4 ∷ []
+
 -- how a run on a device ended
 abbrev pub stop_words : Device → Stop → List (List ℕ)
 stop_words device stop.End = codes "end" ∷ []
-stop_words device (stop.Flag (Live pc a)) = codes "live" ∷ word_address_text device pc ∷ hex_digits a 4 ∷ []
-stop_words device (stop.Flag (Protected pc a)) = codes "protected" ∷ word_address_text device pc ∷ hex_digits a 4 ∷ []
+stop_words device (stop.Flag (Live pc a)) = write_words device (codes "live") pc a
+stop_words device (stop.Flag (Protected pc a)) = write_words device (codes "protected") pc a
 stop_words device (stop.Flag (Transfer pc target)) = codes "transfer" ∷ word_address_text device pc ∷ word_address_text device target ∷ []
 stop_words device (stop.Flag (Moved pc)) = codes "moved" ∷ word_address_text device pc ∷ []
 stop_words device (stop.Undefined pc) = codes "undefined" ∷ word_address_text device pc ∷ []
@@ -175,8 +183,11 @@ abbrev pub instruction_told : Image → ℕ → List (List ℕ)
 instruction_told words at = instruction_words (device_of words) (instruction_at words at) (word_at words at) at
 
 -- the number and name of a cause, and its word
+abbrev pub refused_words : Device → ℕ → List ℕ → ℕ → List (List ℕ)
+refused_words device number name at = codes "refused" ∷ decimal number ∷ name ∷ codes "at" ∷ word_address_text device at ∷ []
+
 abbrev pub cause_at : Device → ℕ → List ℕ → ℕ → List (List ℕ) → Option (List (List ℕ))
-cause_at device number name at more = Some (codes "refused" ∷ decimal number ∷ name ∷ codes "at" ∷ word_address_text device at ∷ more)
+cause_at device number name at more = Some (refused_words device number name at ++ more)
 
 -- a node's fault, told of a word with what stands there; running out of memory is none
 abbrev pub fault_words : Image → NodeFault → Option (List (List ℕ))

@@ -1,10 +1,9 @@
 //! The lines printed if there is no certificate, and the line of `demo`.
 
-ghost use Rattle.std.specs.Prelude.{◌≡◌, [], ◌∷◌, IfOk, OnOk, Some, codes, decimal};
+ghost use Rattle.std.specs.Prelude.{◌≡◌, [], ◌∷◌, IfOk, OnOk, Some, codes};
 ghost use Rattle.text_base.specs.Digits.{hex_digits};
-ghost use Rattle.assumption_files.specs.Spelling.{word_address_text};
 ghost use Rattle.text_base.specs.Writing.{with_words};
-ghost use Rattle.replies.specs.Texts.{AreWritten, instruction_told, limit_word, fault_words, why_not_words, why_not_text, demo_text};
+ghost use Rattle.replies.specs.Texts.{AreWritten, instruction_told, limit_word, fault_words, why_not_words, why_not_text, demo_text, refused_words};
 
 use crate::texts::{ended, limit_word, put_address, put_number, put_two, put_two_and_number};
 use avr_decode::text as instruction_text;
@@ -50,7 +49,7 @@ fn put_cause(
     name: &[u8],
     at: u32,
 ) -> Result<(), AllocError>
-    ensures { OnOk result (line.new ≡ with_words line.old (codes "refused" ∷ decimal number ∷ name.now ∷ codes "at" ∷ word_address_text device at ∷ [])) }
+    ensures { OnOk result (line.new ≡ with_words line.old (refused_words device number name.now at)) }
 {
     put_number(line, b"refused", u64::from(number))?;
     line.word(name)?;

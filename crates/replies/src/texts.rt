@@ -1,12 +1,12 @@
 //! The printed lines.
 
-ghost use Rattle.std.specs.Prelude.{◌≡◌, ◌<◌, [], ◌∷◌, IfOk, OnOk, Some, codes, decimal};
+ghost use Rattle.std.specs.Prelude.{◌≡◌, ◌<◌, [], ◌∷◌, IfOk, OnOk, Some, decimal};
 ghost use Rattle.std.specs.Option.{option_map};
 ghost use Rattle.elf_load.specs.Refusing.{refusal_of};
-ghost use Rattle.text_base.specs.Digits.{hex_digits};
 ghost use Rattle.assumption_files.specs.Spelling.{word_address_text};
 ghost use Rattle.text_base.specs.Writing.{with_words, with_end};
-ghost use Rattle.replies.specs.Texts.{told, usage, read_fault, too_long, raw_fault, elf_refused, firmware_outside, IsRefusalWritten, AreWritten, assumption_words, assumptions_refused, limit_word, certificate_words, certificate_refused, schedule_malformed, schedule_illegal, peripherals_refused, witness_word, accepted, reason_words, rejected, witness_rejected, stop_words, run_text};
+ghost use Rattle.peripherals.specs.Simulating.{report_of};
+ghost use Rattle.replies.specs.Texts.{told, usage, read_fault, too_long, raw_fault, elf_refused, firmware_outside, IsRefusalWritten, AreWritten, assumption_words, assumptions_refused, limit_word, certificate_words, certificate_refused, schedule_malformed, schedule_illegal, peripherals_refused, witness_word, accepted, reason_words, rejected, witness_rejected, stop_words, run_text, inst_told, write_words};
 
 use crate::raw::RawRefusal;
 use assumption_files::{AssumeText, write_word_address};
@@ -279,7 +279,7 @@ fn put_inst(
     word: &[u8],
     number: u32,
 ) -> Result<(), AllocError>
-    ensures { OnOk result (line.new ≡ with_words line.old (reason.now ∷ codes "inst" ∷ decimal at ∷ word.now ∷ decimal number ∷ [])) }
+    ensures { OnOk result (line.new ≡ with_words line.old (reason.now ∷ inst_told at word.now number)) }
 {
     put_two_and_number(line, reason, b"inst", u64::from(at))?;
     put_number(line, word, u64::from(number))
@@ -339,7 +339,7 @@ fn put_write(
     pc: u32,
     address: u16,
 ) -> Result<(), AllocError>
-    ensures { OnOk result (line.new ≡ with_words line.old (name.now ∷ word_address_text device pc ∷ hex_digits address 4 ∷ [])) }
+    ensures { OnOk result (line.new ≡ with_words line.old (write_words device name.now pc address)) }
 {
     put_address(line, device, name, pc)?;
     line.hex(u32::from(address), 4)
@@ -367,7 +367,7 @@ fn put_stop(line: &mut LineWriter, device: Device, stop: Stop) -> Result<(), All
 
 /// The line of a replay on a device.
 pub fn run_text(alloc: Global, device: Device, report: &ReplayReport) -> Result<Vec<u8>, AllocError>
-    ensures { IfOk result (λ v. v.items ≡ run_text device (record { steps = report.now.steps; depth = report.now.depth; stop = report.now.stop })) }
+    ensures { IfOk result (λ v. v.items ≡ run_text device (report_of report.now)) }
 {
     let mut line = LineWriter::new(alloc);
     put_number(&mut line, b"steps", u64::from(report.steps))?;
