@@ -1,5 +1,5 @@
 -- The top call.
-use Rattle.std.specs.Prelude.{◌≡◌, ◌≢◌, ◌⊎◌, ◌↔◌, ◌≤◌, ℕ, Bool, List, length, Option, Some, None}
+use Rattle.std.specs.Prelude.{◌≡◌, ◌≢◌, ◌⊎◌, ◌↔◌, ◌≤◌, ℕ, Bool, List, length, Option, Some, None, Result, MatchResult}
 use Rattle.avr_model.specs.declared.device.Device.{Device}
 use Rattle.text_base.specs.Outside.{Held, Bytes, Blamed, Rose, grown, GrewByPrefix}
 use Rattle.certificate.specs.Claims.{Claim}
@@ -13,6 +13,8 @@ use Rattle.replies.specs.Reading.{Contents, AllAgree, IsFirstFailed, firmware_ca
 use Rattle.replies.specs.Reply.{IsReply}
 use Rattle.replies.specs.Headline.{Mean, StandFor, Holds, IsLeastCertificate, IsSimulated, SaysWhether, SaysHowRoundsEnd, Headline, IsExact}
 use Rattle.local_rules.specs.Site.{Task}
+use Rattle.stack_core.specs.declared.reply.Reply.{Reply}
+use Rattle.stack_core.specs.Reading.{FilesReport}
 
 -- ---- the answer where no call failed and memory sufficed
 
@@ -36,6 +38,10 @@ pub record IsReplyWritten (command : Option Command) (holds : List ℕ → Held)
   pub text : List ℕ
   pub due : IsReplyDue command holds status text
   pub grew : after ≡ grown before text
+
+-- exactly the words that are no command get the usage, unless the answer could not be written or memory ran out
+abbrev pub GetsUsage : Option Command → Status → Type 0
+GetsUsage command status = status ≢ exit.WriteFault → status ≢ exit.OutOfMemory → (status ≡ exit.Usage) ↔ (command ≡ None)
 
 -- ---- a read that failed
 
@@ -69,6 +75,15 @@ IsOutcome command holds before after blamed status text = IsSettledAnswer comman
 abbrev pub IsCutOff : Option Command → (List ℕ → Held) → ℕ → ℕ → Blamed → Type 0
 IsCutOff command holds before after blamed = (after ≡ before) ⊎ ((name : List ℕ) × IsReadFault command holds before after blamed name)
 
+-- an answer, or want of memory
+abbrev pub GivesOutcome : {E : Type 0} → FilesReport → Option Command → Result Reply E → Type 0
+GivesOutcome r command result =
+    MatchResult result (λ reply. IsOutcome command r.holds r.before r.after r.blamed reply.status reply.text.items) (λ e. IsCutOff command r.holds r.before r.after r.blamed)
+
+-- the read fault of some name was written
+abbrev pub WritesReadFault : FilesReport → Option Command → Option (List ℕ) → Option (List ℕ) → Type 0
+WritesReadFault r command old new = (name : List ℕ) × IsReadFault command r.holds r.before r.after r.blamed name × (new ≡ grown old (read_fault name))
+
 -- ---- a write fault, and want of memory
 
 -- A prefix of the due text was written: that of the answer if no read failed, else that of the read fault.
@@ -76,6 +91,9 @@ abbrev pub Cuts : Option Command → (List ℕ → Held) → ℕ → ℕ → Bla
 Cuts command holds before after blamed old new =
     ((after ≡ before) × ((new ≡ old) ⊎ ((status : Status) × (text : List ℕ) × IsReplyDue command holds status text × GrewByPrefix old new text)))
     ⊎ ((name : List ℕ) × IsReadFault command holds before after blamed name × GrewByPrefix old new (read_fault name))
+
+abbrev pub CutsOff : FilesReport → Option Command → Option (List ℕ) → Option (List ℕ) → Type 0
+CutsOff r command old new = Cuts command r.holds r.before r.after r.blamed old new
 
 -- ---- over files that tell what they hold
 

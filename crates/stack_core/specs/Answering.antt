@@ -14,12 +14,11 @@ use Rattle.certificate.specs.Valid.{IsAttained, IsValid}
 use Rattle.cert_check.specs.Verdict.{IsFamilyOf}
 use Rattle.cert_words.specs.Text.{text_of}
 use Rattle.cert_format.specs.declared.fault.CertFault.{CertFault}
-use Rattle.cert_format.specs.Reading.{certificate_in}
 use Rattle.commands.specs.Commands.{Work, Report, Explain, Premises}
 use Rattle.replies.specs.declared.status.Status.TheVariants as exit
 use Rattle.replies.specs.Firmware.{words_by, fault_by, names_by, end_by, outside_fault, firmware_image, firmware_fault, firmware_names, firmware_end}
 use Rattle.replies.specs.Analysis.{TrialsFind}
-use Rattle.replies.specs.Reply.{Reply, Says, WithImage, WithList, report_by, ExplainReply, PlacesReply, CertificateReply, FlashReply}
+use Rattle.replies.specs.Reply.{Reply, WithImage, WithList, ExplainReply, PlacesReply, CertificateReply, FlashReply, TextReply, ReportReply}
 use Rattle.stack_core.specs.declared.loading.Loading.{Loading}
 use Rattle.stack_core.specs.declared.loading.Loading.TheVariants.{Loaded, Refused}
 use Rattle.stack_core.specs.declared.loading.Prepared.{Prepared}
@@ -45,6 +44,10 @@ LoadsBy device elf bytes (Refused r) = (r.status ≡ exit.BadFirmware) × (fault
 
 abbrev pub LoadsAs : Device → List ℕ → Loading → Type 0
 LoadsAs device bytes image = LoadsBy device (is_elf bytes) bytes image
+
+-- both have the same image, names and static data
+abbrev pub IsSameFirmware : Firmware → Firmware → Type 0
+IsSameFirmware before after = (after.flash ≡ before.flash) × ((after.names ≡ before.names) × (after.static_end ≡ before.static_end))
 
 -- the same firmware on a device, or its refusal if it has a word behind the device's flash
 abbrev pub NarrowedTo : Device → Firmware → Loading → Type 0
@@ -76,7 +79,7 @@ AreGivenAssumptions device (Some bytes) A = entries_in device bytes ≡ Ok A
 -- the same firmware under the assumptions of an optional file, or the answer to a list that is refused
 abbrev pub ListsAs : Firmware → Option (List ℕ) → Prepared → Type 0
 ListsAs before list (Ready loaded A) =
-    ((loaded.flash ≡ before.flash) × ((loaded.names ≡ before.names) × (loaded.static_end ≡ before.static_end))) × AreGivenAssumptions (device_of before.flash) list A
+    IsSameFirmware before loaded × AreGivenAssumptions (device_of before.flash) list A
 ListsAs before list (prepared.Refused r) = WithList (device_of before.flash) list nothing r.status r.text.items
 
 -- the firmware of a file for a device under the assumptions of an optional file, or the answer to the file that is refused
@@ -105,7 +108,7 @@ pub record IsWitnessedText (task : Task) (least : Claim) (text : List ℕ) : Typ
 -- the answer for a loaded firmware, with its names and static data
 abbrev pub LoadedReply : Device → Work → Firmware → List ℕ → List Entry → Reply
 LoadedReply device (Report certificate json) loaded bytes A =
-    CertificateReply (task_with loaded.flash A) (λ c. Says exit.Done (report_by json device loaded.names loaded.static_end c)) (certificate_in (device_of loaded.flash) bytes)
-LoadedReply device (Explain certificate) loaded bytes A = CertificateReply (task_with loaded.flash A) (ExplainReply loaded.names (task_with loaded.flash A)) (certificate_in (device_of loaded.flash) bytes)
-LoadedReply device (Premises certificate why) loaded bytes A = CertificateReply (task_with loaded.flash A) (PlacesReply why loaded.names (task_with loaded.flash A)) (certificate_in (device_of loaded.flash) bytes)
+    TextReply (task_with loaded.flash A) (ReportReply json device loaded) bytes
+LoadedReply device (Explain certificate) loaded bytes A = TextReply (task_with loaded.flash A) (ExplainReply loaded.names (task_with loaded.flash A)) bytes
+LoadedReply device (Premises certificate why) loaded bytes A = TextReply (task_with loaded.flash A) (PlacesReply why loaded.names (task_with loaded.flash A)) bytes
 LoadedReply device work loaded bytes A = FlashReply device work [] bytes (task_with loaded.flash A)

@@ -1,5 +1,5 @@
 -- The outcome of reading files. A files object's count of faults goes from `before` to `after`.
-use Rattle.std.specs.Prelude.{ℕ, ◌≡◌, List, [], Option, Some, None, ⊤}
+use Rattle.std.specs.Prelude.{ℕ, ◌≡◌, List, [], Option, Some, None, ⊤, Result, MatchResult}
 use Rattle.std.specs.Option.{option_map}
 use Rattle.std.specs.Global.{Vec}
 use Rattle.text_base.specs.Outside.{Held, Blamed, Rose, IsBlamed}
@@ -40,6 +40,36 @@ abbrev pub IsUnfetchedUnder : (List ℕ → Held) → ℕ → ℕ → ℕ → Bl
 IsUnfetchedUnder holds cap before after blamed None e = ⊥
 IsUnfetchedUnder holds cap before after blamed (Some name) e = IsUnfetched (holds name) cap name before after blamed e
 
+abbrev pub bytes_of : Option (Vec ℕ) → Option (List ℕ)
+bytes_of o = option_map (λ v. v.items) o
+
+-- ---- a call that reads, by what its files object reports
+
+-- what is held, the counts of faults before and after the call, and the name of the last read that failed
+pub record FilesReport : Type 0 where
+  pub holds : List ℕ → Held
+  pub before : ℕ
+  pub after : ℕ
+  pub blamed : Blamed
+
+abbrev pub reported : {F : Type 0} → (F → List ℕ → Held) → (F → ℕ) → (F → Blamed) → F → F → FilesReport
+reported holds faults blamed old new = record { holds = holds old; before = faults old; after = faults new; blamed = blamed new }
+
+-- the bytes of a file, or why they were not read
+abbrev pub Fetches : FilesReport → List ℕ → ℕ → Result (Vec ℕ) Unfetched → Type 0
+Fetches r name cap result =
+    MatchResult result (λ v. IsFetched (r.holds name) cap r.before r.after v.items) (λ e. IsUnfetched (r.holds name) cap name r.before r.after r.blamed e)
+
+-- those of a file that a command may have
+abbrev pub FetchesBytes : FilesReport → Option (List ℕ) → ℕ → Result (Vec ℕ) Unfetched → Type 0
+FetchesBytes r name cap result =
+    MatchResult result (λ v. AreFetched r.holds cap r.before r.after name v.items) (λ e. IsUnfetchedUnder r.holds cap r.before r.after r.blamed name e)
+
+-- the same, where no file differs from an empty one
+abbrev pub FetchesOptional : FilesReport → Option (List ℕ) → ℕ → Result (Option (Vec ℕ)) Unfetched → Type 0
+FetchesOptional r name cap result =
+    MatchResult result (λ o. IsFetchedUnder r.holds cap r.before r.after name (bytes_of o)) (λ e. IsUnfetchedUnder r.holds cap r.before r.after r.blamed name e)
+
 -- the answer to a file that is too long or could not be read; there is none if memory ran out
 abbrev pub UnreadReply : Unfetched → Reply
 UnreadReply (unread.Long n) status text = Says exit.TooLong (too_long n.now) status text
@@ -47,9 +77,6 @@ UnreadReply (unread.Failed n) status text = Says exit.ReadFault (read_fault n.no
 UnreadReply unread.Memory status text = ⊥
 
 -- ---- all files of a command
-
-abbrev pub bytes_of : Option (Vec ℕ) → Option (List ℕ)
-bytes_of o = option_map (λ v. v.items) o
 
 -- bytes exist exactly if there is a name
 abbrev pub GoTogether : Option (List ℕ) → Option (List ℕ) → Type 0
@@ -96,3 +123,8 @@ abbrev pub IsUngathered : Command → (List ℕ → Held) → ℕ → ℕ → Bl
 IsUngathered command holds before after blamed (unread.Long n) = IsTooLong command holds n.now × (after ≡ before)
 IsUngathered command holds before after blamed (unread.Failed n) = IsFirstFailed command holds blamed n.now × Rose before after
 IsUngathered command holds before after blamed unread.Memory = after ≡ before
+
+-- the contents of all files of a command, or why one was not read
+abbrev pub Gathers : FilesReport → Command → Result Contents Unfetched → Type 0
+Gathers r command result =
+    MatchResult result (λ c. IsGathered command r.holds r.before r.after c) (λ e. IsUngathered command r.holds r.before r.after r.blamed e)

@@ -1,8 +1,6 @@
 //! The answer to the words of the command line, before it is written.
-
-ghost use Rattle.std.specs.Prelude.{MatchResult};
-ghost use Rattle.stack_core.specs.Reading.{UnreadReply};
-ghost use Rattle.stack_core.specs.Answer.{IsOutcome, IsCutOff};
+ghost use Rattle.stack_core.specs.Reading.{UnreadReply, reported};
+ghost use Rattle.stack_core.specs.Answer.{GivesOutcome};
 ghost use Rattle.stack_core.specs.Clauses.{Returns, called};
 
 use crate::reading::{Unread, gather};
@@ -34,7 +32,7 @@ fn unread_reply(alloc: Global, unread: &Unread<'_>) -> Result<Reply, AllocError>
 
 /// The answer to the words of the command line.
 pub fn answer<F: Files>(alloc: Global, words: &[&str], files: &mut F) -> Result<Reply, AllocError>
-    ensures { MatchResult result (λ r. IsOutcome (called words.now) (F.holds files.old) (F.faults files.old) (F.faults files.new) (F.blamed files.new) r.status r.text.items) (λ e. IsCutOff (called words.now) (F.holds files.old) (F.faults files.old) (F.faults files.new) (F.blamed files.new)) }
+    ensures { GivesOutcome (reported F.holds F.faults F.blamed files.old files.new) (called words.now) result }
 {
     replies_are_claims();
     match command_of(alloc, words) {

@@ -2,8 +2,7 @@
 
 ghost use Rattle.std.specs.Prelude.{IfOk};
 ghost use Rattle.certificate.specs.Valid.{IsValid};
-ghost use Rattle.cert_format.specs.Reading.{certificate_in};
-ghost use Rattle.replies.specs.Reply.{AttainReply, CertificateReply};
+ghost use Rattle.replies.specs.Reply.{AttainReply, TextReply};
 ghost use Rattle.family_edges.specs.Tasks.{task_of};
 ghost use Rattle.stack_core.specs.Clauses.{Returns};
 
@@ -42,7 +41,7 @@ fn completed(task: &Task<'_>, certificate: Certificate, trials: u32) -> Result<V
 /// commands.
 #[inline(never)]
 pub fn attain(task: &Task<'_>, text: &[u8], trials: u32) -> Result<Reply, AllocError>
-    ensures { Returns result (CertificateReply (task_of task.now) (AttainReply (task_of task.now) trials) (certificate_in task.now.flash.now.device text.now)) }
+    ensures { Returns result (TextReply (task_of task.now) (AttainReply (task_of task.now) trials) text.now) }
 {
     match judge_text(task, text)? {
         Judged::Accepted(certificate, family) => {

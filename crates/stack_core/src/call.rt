@@ -1,10 +1,11 @@
 //! The call that the program makes.
 
-ghost use Rattle.std.specs.Prelude.{◌≡◌, ◌≢◌, ◌⊎◌, ◌↔◌, ℕ, List, None};
-ghost use Rattle.text_base.specs.Outside.{Rose, grown};
+ghost use Rattle.std.specs.Prelude.{◌≡◌, ◌≢◌, ◌⊎◌};
+ghost use Rattle.text_base.specs.Outside.{Rose};
 ghost use Rattle.replies.specs.Texts.{read_fault};
-ghost use Rattle.stack_core.specs.Answer.{IsReplyWritten, IsReadFault, HeldHeadline, IsHeldExact, HeldLeast, IsHeldEnd, HeldSimulated, AreHeldPeripherals, Cuts};
+ghost use Rattle.stack_core.specs.Answer.{IsReplyWritten, HeldHeadline, IsHeldExact, HeldLeast, IsHeldEnd, HeldSimulated, AreHeldPeripherals, WritesReadFault, CutsOff, GetsUsage};
 ghost use Rattle.stack_core.specs.Clauses.{IfNoneFailed, called};
+ghost use Rattle.stack_core.specs.Reading.{reported};
 
 use crate::answer::answer;
 use crate::laws::written_answers_hold;
@@ -47,16 +48,16 @@ pub fn stackbound<F: Files, K: Sink>(
     // If held firmware and assumptions are well-formed, a simulation answers 0 exactly if its peripherals are.
     ensures peripherals { IfNoneFailed result (AreHeldPeripherals (called words.now) (F.holds files.old) result) }
     // Exactly the words that are no command get this answer.
-    ensures usage { result ≢ Status.WriteFault → result ≢ Status.OutOfMemory → (result ≡ Status.Usage) ↔ (called words.now ≡ None) }
+    ensures usage { GetsUsage (called words.now) result }
     // A read fault is answered only if a read of a file of the command failed in this call; the first such file is named.
-    ensures read_fault { result ≡ Status.ReadFault → (name : List ℕ) × IsReadFault (called words.now) (F.holds files.old) (F.faults files.old) (F.faults files.new) (F.blamed files.new) name × (K.written out.new ≡ grown (K.written out.old) (read_fault name)) }
+    ensures read_fault { result ≡ Status.ReadFault → WritesReadFault (reported F.holds F.faults F.blamed files.old files.new) (called words.now) (K.written out.old) (K.written out.new) }
     // A write fault is answered only if a put failed in this call.
     ensures write_fault { result ≡ Status.WriteFault → Rose (K.faults out.old) (K.faults out.new) }
     // No failed read or put is ignored.
     ensures reads { IfNoneFailed result (F.faults files.new ≡ F.faults files.old) }
     ensures puts { result ≢ Status.WriteFault → K.faults out.new ≡ K.faults out.old }
     // After a write fault, or if memory runs out, a prefix of the due text was written.
-    ensures cut { (result ≡ Status.WriteFault) ⊎ (result ≡ Status.OutOfMemory) → Cuts (called words.now) (F.holds files.old) (F.faults files.old) (F.faults files.new) (F.blamed files.new) (K.written out.old) (K.written out.new) }
+    ensures cut { (result ≡ Status.WriteFault) ⊎ (result ≡ Status.OutOfMemory) → CutsOff (reported F.holds F.faults F.blamed files.old files.new) (called words.now) (K.written out.old) (K.written out.new) }
 {
     written_answers_hold();
     match answer(alloc, words, files) {

@@ -2,8 +2,7 @@
 
 ghost use Rattle.std.specs.Prelude.{◌≡◌, [], IfOk};
 ghost use Rattle.cert_check.specs.Verdict.{IsFamilyOf};
-ghost use Rattle.cert_format.specs.Reading.{certificate_in};
-ghost use Rattle.replies.specs.Reply.{ClearReply, PlacesReply, CertificateReply};
+ghost use Rattle.replies.specs.Reply.{ClearReply, PlacesReply, TextReply};
 ghost use Rattle.family_edges.specs.Tasks.{task_of};
 ghost use Rattle.local_rules.specs.Site.{bare};
 ghost use Rattle.stack_core.specs.Clauses.{Returns};
@@ -45,7 +44,7 @@ fn cleared(
 
 /// The answer of `clear` on the text of a certificate. There are no assumptions.
 pub fn clear(alloc: Global, flash: &Flash, text: &[u8]) -> Result<Reply, AllocError>
-    ensures { Returns result (CertificateReply (bare flash.now) (ClearReply flash.now) (certificate_in flash.now.device text.now)) }
+    ensures { Returns result (TextReply (bare flash.now) (ClearReply flash.now) text.now) }
 {
     let assumptions = Assumptions::empty(alloc);
     let task = Task {
@@ -107,7 +106,7 @@ fn told(
 
 /// The answer of `premises` on the text of a certificate, for a firmware with these names; with the causes at each place if `why`.
 pub fn premises(task: &Task<'_>, text: &[u8], names: &Names, why: bool) -> Result<Reply, AllocError>
-    ensures { Returns result (CertificateReply (task_of task.now) (PlacesReply why names.now (task_of task.now)) (certificate_in task.now.flash.now.device text.now)) }
+    ensures { Returns result (TextReply (task_of task.now) (PlacesReply why names.now (task_of task.now)) text.now) }
 {
     match judge_text(task, text)? {
         Judged::Accepted(certificate, family) => told(task, names, &certificate, &family, why),

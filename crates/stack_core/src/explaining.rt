@@ -2,8 +2,7 @@
 
 ghost use Rattle.std.specs.Prelude.{IfOk};
 ghost use Rattle.cert_check.specs.Verdict.{IsFamilyOf};
-ghost use Rattle.cert_format.specs.Reading.{certificate_in};
-ghost use Rattle.replies.specs.Reply.{ExplainReply, CertificateReply};
+ghost use Rattle.replies.specs.Reply.{ExplainReply, TextReply};
 ghost use Rattle.family_edges.specs.Tasks.{task_of};
 ghost use Rattle.stack_core.specs.Clauses.{Returns};
 
@@ -43,7 +42,7 @@ fn explained(
 
 /// The answer of `explain` on the text of a certificate, for a firmware with these names.
 pub fn explain(task: &Task<'_>, text: &[u8], names: &Names) -> Result<Reply, AllocError>
-    ensures { Returns result (CertificateReply (task_of task.now) (ExplainReply names.now (task_of task.now)) (certificate_in task.now.flash.now.device text.now)) }
+    ensures { Returns result (TextReply (task_of task.now) (ExplainReply names.now (task_of task.now)) text.now) }
 {
     match judge_text(task, text)? {
         Judged::Accepted(certificate, family) => explained(task, names, &certificate, &family),

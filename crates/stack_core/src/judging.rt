@@ -4,7 +4,7 @@ ghost use Rattle.std.specs.Prelude.{IfOk, Ok};
 ghost use Rattle.std.specs.Option.{is_some};
 ghost use Rattle.cert_format.specs.Reading.{certificate_in};
 ghost use Rattle.replies.specs.Texts.{accepted};
-ghost use Rattle.replies.specs.Reply.{Says, report_by, CertificateReply};
+ghost use Rattle.replies.specs.Reply.{TextReply, CheckReply, ReportReply};
 ghost use Rattle.stack_core.specs.Answering.{IsJudgedAs};
 ghost use Rattle.family_edges.specs.Tasks.{task_of};
 ghost use Rattle.stack_core.specs.Clauses.{Returns};
@@ -30,7 +30,7 @@ pub enum Judged {
 // The answer to an accepted certificate.
 #[tactic(auto, using(crate::proofs::Replies::copied_is_some))]
 fn checked(alloc: Global, certificate: &Certificate) -> Result<Reply, AllocError>
-    ensures { Returns result (Says Status.Done (accepted certificate.now.bound (is_some certificate.now.witness))) }
+    ensures { Returns result (CheckReply certificate.now) }
 {
     let attained = certificate.witness().is_some();
     Ok(Reply {
@@ -47,7 +47,7 @@ fn reported(
     loaded: &Loaded,
     json: bool,
 ) -> Result<Reply, AllocError>
-    ensures { Returns result (Says Status.Done (report_by json device loaded.now.names loaded.now.static_end certificate.now)) }
+    ensures { Returns result (ReportReply json device loaded.now certificate.now) }
 {
     let text = if json {
         report_json(alloc, device, certificate, &loaded.names, loaded.static_end)?
@@ -105,7 +105,7 @@ pub fn judge_text(task: &Task<'_>, text: &[u8]) -> Result<Judged, AllocError>
 
 /// The answer of `check` on the text of a certificate.
 pub fn check(task: &Task<'_>, text: &[u8]) -> Result<Reply, AllocError>
-    ensures { Returns result (CertificateReply (task_of task.now) (λ c. Says Status.Done (accepted c.bound (is_some c.witness))) (certificate_in task.now.flash.now.device text.now)) }
+    ensures { Returns result (TextReply (task_of task.now) CheckReply text.now) }
 {
     match judge_text(task, text)? {
         Judged::Accepted(certificate, family) => {
@@ -124,7 +124,7 @@ pub fn report(
     loaded: &Loaded,
     json: bool,
 ) -> Result<Reply, AllocError>
-    ensures { Returns result (CertificateReply (task_of task.now) (λ c. Says Status.Done (report_by json device loaded.now.names loaded.now.static_end c)) (certificate_in task.now.flash.now.device text.now)) }
+    ensures { Returns result (TextReply (task_of task.now) (ReportReply json device loaded.now) text.now) }
 {
     match judge_text(task, text)? {
         Judged::Accepted(certificate, family) => {

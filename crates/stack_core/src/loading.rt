@@ -3,7 +3,7 @@
 ghost use Rattle.std.specs.Prelude.{◌≡◌, IfOk, false, length};
 ghost use Rattle.avr_model.specs.Devices.{limit_of};
 ghost use Rattle.stack_core.specs.Reading.{bytes_of};
-ghost use Rattle.stack_core.specs.Answering.{LoadsBy, LoadsAs, NarrowedTo, LoadsOn, ListsAs, PreparesAs};
+ghost use Rattle.stack_core.specs.Answering.{LoadsBy, LoadsAs, NarrowedTo, LoadsOn, ListsAs, PreparesAs, IsSameFirmware};
 
 use crate::reply::Reply;
 use assumption_files::read as read_list;
@@ -106,7 +106,7 @@ fn loaded(alloc: Global, device: Device, bytes: &[u8]) -> Result<Loading, AllocE
 
 // The same firmware, with its widening thresholds if the list has the line `pairs`, so that no rule works them out at each look.
 fn marked(mut loaded: Loaded, assumptions: &Assumptions) -> Result<Loaded, AllocError>
-    ensures { IfOk result (λ l. (l.flash ≡ loaded.flash) × ((l.names ≡ loaded.names) × (l.static_end ≡ loaded.static_end))) }
+    ensures { IfOk result (IsSameFirmware loaded) }
 {
     if !assumptions.has_pairs() {
         return Ok(loaded);

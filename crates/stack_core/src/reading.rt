@@ -1,9 +1,9 @@
 //! The files of a command, read in order.
 
-ghost use Rattle.std.specs.Prelude.{◌≡◌, ℕ, List, MatchResult};
+ghost use Rattle.std.specs.Prelude.{◌≡◌, ℕ, List};
 ghost use Rattle.commands.specs.Views.{text_of, command_seen};
 ghost use Rattle.replies.specs.Reading as caps;
-ghost use Rattle.stack_core.specs.Reading.{IsFetched, IsUnfetched, AreFetched, IsFetchedUnder, IsUnfetchedUnder, bytes_of, IsGathered, IsUngathered};
+ghost use Rattle.stack_core.specs.Reading.{reported, Fetches, FetchesBytes, FetchesOptional, Gathers};
 
 use commands::{Command, Work};
 use std::alloc::Global;
@@ -49,7 +49,7 @@ fn fetch<'a, F: Files>(
     name: &'a str,
     cap: usize,
 ) -> Result<Vec<u8>, Unread<'a>>
-    ensures fetched { MatchResult result (λ v. IsFetched (F.holds files.old name.now) cap (F.faults files.old) (F.faults files.new) v.items) (λ e. IsUnfetched (F.holds files.old name.now) cap name.now (F.faults files.old) (F.faults files.new) (F.blamed files.new) e) }
+    ensures fetched { Fetches (reported F.holds F.faults F.blamed files.old files.new) name.now cap result }
     ensures holds { (n : List ℕ) → F.holds files.new n ≡ F.holds files.old n }
 {
     match files.read(alloc, name, cap) {
@@ -67,7 +67,7 @@ fn fetch_bytes<'a, F: Files>(
     name: Option<&'a str>,
     cap: usize,
 ) -> Result<Vec<u8>, Unread<'a>>
-    ensures fetched { MatchResult result (λ v. AreFetched (F.holds files.old) cap (F.faults files.old) (F.faults files.new) (text_of name.entry) v.items) (λ e. IsUnfetchedUnder (F.holds files.old) cap (F.faults files.old) (F.faults files.new) (F.blamed files.new) (text_of name.entry) e) }
+    ensures fetched { FetchesBytes (reported F.holds F.faults F.blamed files.old files.new) (text_of name.entry) cap result }
     ensures holds { (n : List ℕ) → F.holds files.new n ≡ F.holds files.old n }
 {
     match name {
@@ -83,7 +83,7 @@ fn fetch_optional<'a, F: Files>(
     name: Option<&'a str>,
     cap: usize,
 ) -> Result<Option<Vec<u8>>, Unread<'a>>
-    ensures fetched { MatchResult result (λ o. IsFetchedUnder (F.holds files.old) cap (F.faults files.old) (F.faults files.new) (text_of name.entry) (bytes_of o)) (λ e. IsUnfetchedUnder (F.holds files.old) cap (F.faults files.old) (F.faults files.new) (F.blamed files.new) (text_of name.entry) e) }
+    ensures fetched { FetchesOptional (reported F.holds F.faults F.blamed files.old files.new) (text_of name.entry) cap result }
     ensures holds { (n : List ℕ) → F.holds files.new n ≡ F.holds files.old n }
 {
     match name {
@@ -112,7 +112,7 @@ pub fn gather<'a, F: Files>(
     files: &mut F,
     command: &Command<'a>,
 ) -> Result<Contents, Unread<'a>>
-    ensures { MatchResult result (λ read. IsGathered (command_seen command.now) (F.holds files.old) (F.faults files.old) (F.faults files.new) read) (λ e. IsUngathered (command_seen command.now) (F.holds files.old) (F.faults files.old) (F.faults files.new) (F.blamed files.new) e) }
+    ensures { Gathers (reported F.holds F.faults F.blamed files.old files.new) (command_seen command.now) result }
 {
     let firmware = match fetch_bytes(alloc, files, command.firmware(), FIRMWARE_CAP) {
         Ok(bytes) => bytes,

@@ -1,11 +1,8 @@
 //! Replays of schedules, for `run`.
 
 ghost use Rattle.std.specs.Prelude.{◌≡◌, IfOk};
-ghost use Rattle.text_base.specs.Lines.{lines_of};
-ghost use Rattle.witness_replay.specs.Reading.{schedule_in};
-ghost use Rattle.witness_replay.specs.Replay.{replay_of};
 ghost use Rattle.replies.specs.Texts as told;
-ghost use Rattle.replies.specs.Reply.{RunReply, ScheduleReply};
+ghost use Rattle.replies.specs.Reply.{ReplayReply, ScheduleTextReply};
 ghost use Rattle.family_edges.specs.Tasks.{task_of};
 ghost use Rattle.stack_core.specs.Clauses.{Returns};
 
@@ -19,7 +16,7 @@ use witness_replay::{IllegalChoice, Schedule, ScheduleFault, replay};
 
 // The answer to a schedule that was read.
 fn replayed(task: &Task<'_>, schedule: &Schedule) -> Result<Reply, AllocError>
-    ensures { Returns result (RunReply task.now.flash.now.device (replay_of task.now.flash.now task.now.assumptions.now schedule.now)) }
+    ensures { Returns result (ReplayReply (task_of task.now) schedule.now) }
 {
     match replay(task.flash, task.assumptions, schedule) {
         Ok(report) => Ok(Reply {
@@ -44,7 +41,7 @@ fn schedule_malformed(alloc: Global, at: usize) -> Result<Reply, AllocError>
 
 /// The answer to the text of a schedule.
 pub fn run(task: &Task<'_>, text: &[u8]) -> Result<Reply, AllocError>
-    ensures { Returns result (ScheduleReply (task_of task.now) (schedule_in task.now.flash.now.device (record { at = 0; rest = lines_of text.now }))) }
+    ensures { Returns result (ScheduleTextReply (task_of task.now) text.now) }
 {
     let mut reader = LineReader::new(text);
     match Schedule::read(task.alloc, task.flash.device(), &mut reader) {

@@ -2,9 +2,8 @@
 
 ghost use Rattle.std.specs.Prelude.{◌≡◌, IfOk};
 ghost use Rattle.peripherals.specs.Reading.{setup_in};
-ghost use Rattle.peripherals.specs.Simulating.{simulation_of};
 ghost use Rattle.replies.specs.Texts.{run_text};
-ghost use Rattle.replies.specs.Reply.{SimulateReply};
+ghost use Rattle.replies.specs.Reply.{SimulateReply, simulation_text};
 ghost use Rattle.family_edges.specs.Tasks.{task_of};
 ghost use Rattle.stack_core.specs.Clauses.{Returns};
 
@@ -22,7 +21,7 @@ fn simulated(
     steps: ChoiceCount,
     peripherals: &Peripherals,
 ) -> Result<Vec<u8>, AllocError>
-    ensures { IfOk result (λ v. v.items ≡ run_text task.now.flash.now.device (simulation_of task.now.flash.now task.now.assumptions.now peripherals.now steps)) }
+    ensures { IfOk result (λ v. v.items ≡ simulation_text (task_of task.now) peripherals.now steps) }
 {
     let report = simulation(
         task.alloc,
