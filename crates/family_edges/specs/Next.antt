@@ -97,8 +97,12 @@ leavers_in task nodes inst = flat_map (leaver_if task inst) nodes
 abbrev pub edges_with : Task → List Node → Node → List Way → Local → List Edge
 edges_with task nodes n ws l = map local_edge l.same ++ interprocedural (leavers_in task nodes) n ws
 
+-- all edges from a node with this local part
+abbrev pub edges_by : Task → List Node → Node → Local → List Edge
+edges_by task nodes n l = edges_with task nodes n (ways_of task n.key l.calls) l
+
 abbrev pub next_by : Task → List Node → Node → Result Local NodeFault → Result (List Edge) NodeFault
-next_by task nodes n (Ok l) = Ok (edges_with task nodes n (ways_of task n.key l.calls) l)
+next_by task nodes n (Ok l) = Ok (edges_by task nodes n l)
 next_by task nodes n (Err f) = Err f
 
 -- all edges from a node, or its fault

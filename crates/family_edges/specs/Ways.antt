@@ -32,8 +32,12 @@ unfoldable pub vectors_below : Task → NodeKey → ℕ → List Way
 vectors_below task k zero = []
 vectors_below task k (suc n) = vectors_below task k n ++ at_vector task k (n + 2)
 
+-- the entries by all vectors
+abbrev pub at_vectors : Task → NodeKey → List Way
+at_vectors task k = vectors_below task k (enable_count (device_of task.flash))
+
 abbrev pub interrupts_if : Bool → Task → NodeKey → List Way
-interrupts_if true task k = vectors_below task k (enable_count (device_of task.flash))
+interrupts_if true task k = at_vectors task k
 interrupts_if false task k = []
 
 abbrev pub ways_by : SpForm → Task → NodeKey → List CallSite → List Way

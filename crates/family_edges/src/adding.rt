@@ -1,12 +1,12 @@
 //! Edges of a node, added to a list. The nodes that return to it come from a family or from the notes of a round.
 
-ghost use Rattle.std.specs.Prelude.{ℕ, ◌≡◌, ◌<◌, map};
+ghost use Rattle.std.specs.Prelude.{ℕ, ◌<◌, map};
 ghost use Rattle.abs_state.specs.Values.{value_at};
 ghost use Rattle.abs_state.specs.Formed.{NamesRegister};
 ghost use Rattle.avr_model.specs.State.{REGISTERS};
-ghost use Rattle.family_edges.specs.Next.{local_edge, entry_edge, return_by, all_returns, interprocedural, node_of};
+ghost use Rattle.family_edges.specs.Next.{local_edge, entry_edge, return_by, all_returns, interprocedural};
 ghost use Rattle.family_edges.specs.Clauses.{Grows};
-ghost use Rattle.family_edges.specs.Callers.{caller_node, leaver_of};
+ghost use Rattle.family_edges.specs.Callers.{caller_node, leaver_of, start_node};
 
 use crate::callers::{Caller, Leaver, returned};
 use crate::ways::Way;
@@ -110,7 +110,7 @@ fn add_all_returns<S: Leavers>(
     source: &S,
 ) -> Result<(), AllocError>
     requires { S.can_return source.now }
-    ensures { Grows result edges.old edges.new (all_returns (S.leavers source.now) (node_of start.now.key.now start.now.state.now) ways.now) }
+    ensures { Grows result edges.old edges.new (all_returns (S.leavers source.now) (start_node start.now) ways.now) }
 {
     for at in 0..ways.len() {
         let caller = Caller {
@@ -132,7 +132,7 @@ pub fn add_interprocedural<S: Leavers>(
     source: &S,
 ) -> Result<(), AllocError>
     requires { S.can_return source.now }
-    ensures { Grows result edges.old edges.new (interprocedural (S.leavers source.now) (node_of start.now.key.now start.now.state.now) ways.now) }
+    ensures { Grows result edges.old edges.new (interprocedural (S.leavers source.now) (start_node start.now) ways.now) }
 {
     add_entries(alloc, edges, start.state, ways)?;
     add_all_returns(edges, start, ways, source)

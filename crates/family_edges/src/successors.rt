@@ -7,11 +7,11 @@ ghost use Rattle.local_rules.specs.declared.local.NodeFault as fault_type;
 ghost use Rattle.local_rules.specs.declared.local.Node.{Node};
 ghost use Rattle.edge_rules.specs.Edges.{IsFaultless, AreEdges};
 ghost use Rattle.family_edges.specs.Shown.{AreOfSomeDevice};
-ghost use Rattle.family_edges.specs.Ways.{ways_of};
 ghost use Rattle.family_edges.specs.Exits.{AreExits, AreExitsKnown};
-ghost use Rattle.family_edges.specs.Next.{edges_with, next_of, node_of, local_of};
+ghost use Rattle.family_edges.specs.Next.{next_of, local_of, edges_by};
 ghost use Rattle.family_edges.specs.Tasks.{task_of};
 ghost use Rattle.family_edges.specs.Clauses.{AtNumber};
+ghost use Rattle.family_edges.specs.Callers.{start_node};
 
 use crate::adding::{Start, add_interprocedural, add_moves};
 use crate::filled::Filled;
@@ -28,7 +28,7 @@ use std::alloc::AllocError;
 fn edges_of(start: &Start<'_>, found: Local, known: &Known<'_>) -> Result<Listed<Edge>, AllocError>
     requires shown { AreOfSomeDevice known.now.nodes.now }
     requires given { AreExitsKnown (task_of known.now.task.now) known.now.nodes.now known.now.exits.now }
-    ensures { IfOk result (λ edges. edges ≡ edges_with (task_of known.now.task.now) known.now.nodes.now (node_of start.now.key.now start.now.state.now) (ways_of (task_of known.now.task.now) start.now.key.now found.calls) found) }
+    ensures { IfOk result (λ edges. edges ≡ edges_by (task_of known.now.task.now) known.now.nodes.now (start_node start.now) found) }
 {
     let alloc = known.task.alloc;
     let all = ways(known.task, start.key, found.calls.as_slice())?;

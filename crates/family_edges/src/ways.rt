@@ -1,9 +1,9 @@
 //! Entries of other instances from a node.
 
-ghost use Rattle.std.specs.Prelude.{◌≡◌, ◌≤◌, ◌++◌, map, true, IfOk, OnOk};
+ghost use Rattle.std.specs.Prelude.{◌≡◌, ◌≤◌, map, true, IfOk};
 ghost use Rattle.avr_model.specs.Devices.{device_of};
-ghost use Rattle.avr_model.specs.Vectors.{last_vector, enable_count, watchdog};
-ghost use Rattle.family_edges.specs.Ways.{call_way, vector_way, at_vector, vectors_below, ways_of};
+ghost use Rattle.avr_model.specs.Vectors.{last_vector, watchdog};
+ghost use Rattle.family_edges.specs.Ways.{call_way, vector_way, at_vector, ways_of, at_vectors};
 ghost use Rattle.family_edges.specs.Tasks.{task_of};
 ghost use Rattle.family_edges.specs.Clauses.{Grows};
 
@@ -96,7 +96,7 @@ fn add_vector(ways: &mut Vec<Way>, task: &Task<'_>, key: &NodeKey, v: u8) -> Res
 
 // The entries by all interrupts.
 fn add_vectors(ways: &mut Vec<Way>, task: &Task<'_>, key: &NodeKey) -> Result<(), AllocError>
-    ensures { Grows result ways.old.items ways.new.items (vectors_below (task_of task.now) key.now (enable_count (device_of task.now.flash.now))) }
+    ensures { Grows result ways.old.items ways.new.items (at_vectors (task_of task.now) key.now) }
 {
     for n in 0..task.flash.device().last_vector() - 1 {
         add_vector(ways, task, key, n + 2)?;
