@@ -4,12 +4,11 @@ ghost use Rattle.std.specs.Prelude.{◌≡◌, IfOk};
 ghost use Rattle.std.specs.Fn.{CalledAt};
 ghost use Rattle.avr_model.specs.Devices.{device_of};
 ghost use Rattle.avr_model.specs.State.{IsReset};
-ghost use Rattle.avr_model.specs.Run.{IsRun};
 ghost use Rattle.stimulus.specs.Steady.{IsSteady};
 ghost use Rattle.stimulus.specs.TrialLength.{most_trial_steps};
 ghost use Rattle.guided_trials.specs.Attaining.{AttainsIfBounded};
 ghost use Rattle.guided_trials.specs.Choosing as choosing;
-ghost use Rattle.guided_trials.specs.Trials.{fill_of, initial, trial_by, depth_by, HasDepth, IsGuidedBy, IsGuidedTried, IsGuidedFound};
+ghost use Rattle.guided_trials.specs.Trials.{fill_of, initial, depth_by, IsGuidedBy, IsGuidedTried, IsGuidedFound, HasTrialChoices, RunsFromTrial, HasTrialDepth};
 
 use crate::choosing::{after, chosen};
 use crate::guide::{Guide, TrialMoment};
@@ -66,9 +65,9 @@ fn attempt<F: FnMut(&Menu) -> Choice + Drop>(
     requires steady { IsSteady F.FnMut choose }
     requires guided { IsGuidedBy (CalledAt F.FnMut) firmware.now.flash.now guide.now t choose }
     ensures reset { IsReset (device_of firmware.now.flash.now) (initial firmware.now.flash.now guide.now t) }
-    ensures choices { IfOk result (λ x. x.choices ≡ trial_by most_trial_steps firmware.now.flash.now firmware.now.assumptions.now guide.now t) }
-    ensures run { IfOk result (λ x. IsRun firmware.now.flash.now firmware.now.assumptions.now x.choices (initial firmware.now.flash.now guide.now t)) }
-    ensures depth { IfOk result (HasDepth firmware.now.flash.now firmware.now.assumptions.now (initial firmware.now.flash.now guide.now t)) }
+    ensures choices { IfOk result (HasTrialChoices firmware.now guide.now t) }
+    ensures run { IfOk result (RunsFromTrial firmware.now guide.now t) }
+    ensures depth { IfOk result (HasTrialDepth firmware.now guide.now t) }
 {
     depth_is_kept();
     let fill = fill_of(guide, t);
