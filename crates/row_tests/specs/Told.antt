@@ -1,6 +1,7 @@
 -- The first wrong row of named tables.
 use Rattle.std.specs.Prelude.{ℕ, ◌≡◌, ◌<◌, List, Option, Some, None, length, take, slice_get}
 use Rattle.std.specs.List.{All}
+use Rattle.std.specs.Option.{option_map}
 
 module _ {R N T : Type 0} (IsRight : R → Type 0) (rows_of : T → List R) where
   -- the first tables have right rows only
@@ -20,3 +21,11 @@ module _ {R N T : Type 0} (IsRight : R → Type 0) (rows_of : T → List R) wher
   abbrev pub IsTold : List (N × T) → ℕ → Option (N × ℕ) → Type 0
   IsTold tables count None = AreRight tables count
   IsTold tables count (Some wrong) = IsFirst tables wrong.0 wrong.1
+
+  -- the same, after all tables
+  abbrev pub AreTold : List (N × T) → Option (N × ℕ) → Type 0
+  AreTold tables wrong = IsTold tables (length tables) wrong
+
+-- the number of a row that is told, if one is
+abbrev pub row_told : {N : Type 0} → Option (N × ℕ) → Option ℕ
+row_told wrong = option_map (λ w. w.1) wrong

@@ -4,7 +4,7 @@
 ghost use Rattle.std.specs.Prelude.{◌≡◌, ◌≢◌, ◌<◌, Option, Some, None, length, take, IsTrue, if◌then◌else◌};
 ghost use Rattle.std.specs.List.{All};
 ghost use Rattle.std.specs.Option.{IfSome, option_map};
-ghost use Rattle.row_tests.specs.Told.{IsTold};
+ghost use Rattle.row_tests.specs.Told.{AreTold, row_told};
 
 use std::alloc::Global;
 
@@ -49,7 +49,7 @@ pub fn tell_row(told: &mut FirstWrong, table: &'static str, wrong: Option<usize>
 
 /// Compares the rows of named tables in order and keeps the first wrong one, unless one was found before.
 pub fn tell<R: WorkedRow>(told: &mut FirstWrong, alloc: Global, tables: &[(&'static str, &[R])])
-    ensures first { told.old.wrong ≡ None → IsTold R.IsRight (λ rows. rows.now) tables.now (length tables.now) told.new.wrong }
+    ensures first { told.old.wrong ≡ None → AreTold R.IsRight (λ rows. rows.now) tables.now told.new.wrong }
     ensures kept { told.old.wrong ≢ None → told.new.wrong ≡ told.old.wrong }
 {
     for (name, rows) in tables {
@@ -59,7 +59,7 @@ pub fn tell<R: WorkedRow>(told: &mut FirstWrong, alloc: Global, tables: &[(&'sta
 
 /// Keeps the number of a fact that is wrong, unless a wrong row was found before.
 pub fn tell_fact(told: &mut FirstWrong, number: usize, holds: bool)
-    ensures first { told.old.wrong ≡ None → option_map (λ wrong. wrong.1) told.new.wrong ≡ (if holds then None else Some number) }
+    ensures first { told.old.wrong ≡ None → row_told told.new.wrong ≡ (if holds then None else Some number) }
     ensures kept { told.old.wrong ≢ None → told.new.wrong ≡ told.old.wrong }
 {
     tell_row(told, "fact", if holds { None } else { Some(number) });
