@@ -3,15 +3,19 @@ use Rattle.std.specs.Prelude.{ℕ, ◌||◌, not, Bool, true, false, if◌then�
 use Rattle.avr_model.specs.declared.instruction.Instr.{Instr}
 use Rattle.avr_model.specs.declared.instruction.Instr.TheVariants as i
 use Rattle.avr_model.specs.declared.effect.Effect.{Effect}
-use Rattle.avr_model.specs.State.{State, pair, fall}
+use Rattle.avr_model.specs.declared.instruction.Pointer.{Pointer}
+use Rattle.avr_model.specs.Bits.{with_bit}
+use Rattle.avr_model.specs.Vectors.{kept_byte}
+use Rattle.avr_model.specs.State.{State, register, pair, minus_sp, fall}
+use Rattle.avr_machine.specs.declared.stores.Onward.{Onward}
 use Rattle.avr_model.specs.declared.assumption.Entry.{Entry}
 use Rattle.avr_model.specs.declared.effect.Write.{Write}
-use Rattle.avr_model.specs.Assumptions.{is_fixed_site, recur_line}
+use Rattle.avr_model.specs.Assumptions.{is_fixed_site, recur_line, has_scratch}
 use Rattle.avr_model.specs.Masks.{reads_masks}
-use Rattle.avr_model.specs.Sites.{is_scratch}
-use Rattle.avr_model.specs.Devices.{Image, device_of}
-use Rattle.avr_model.specs.Step.{Answer, Overflow, after, all_inside, is_refused, unless_within, first_of, flagged_or, flag_by, live_write, flagged_write, moves_vectors}
-use Rattle.avr_model.specs.Effects.{going_to, extended_word}
+use Rattle.avr_model.specs.Sites.{is_scratch, pointer_register}
+use Rattle.avr_model.specs.Devices.{Image, device_of, back_of, wrapped}
+use Rattle.avr_model.specs.Step.{Answer, Overflow, after, all_inside, is_refused, unless_within, first_of, flagged_or, flag_by, live_write, flagged_write, moves_vectors, answer_to}
+use Rattle.avr_model.specs.Effects.{effect_of, going_to, extended_word, set, storing, store_effect, port, out_effect, bit_effect, pointed, further, way_back}
 
 -- jumps, calls, returns, branches and skips
 abbrev pub is_quiet_flow : Instr → Bool
@@ -49,6 +53,29 @@ moves_at image A w = moves_vectors (device_of image) (is_still image A) (w ∷ [
 abbrev pub store_answer : State → Option ℕ → Bool → Effect → Answer
 store_answer m protected moves e = flagged_or (flag_by m.pc (live_write m.memory (e.stores ++ [])) protected None moves) (after m false e)
 
+-- the answer to a store of a byte at a data address after which the machine goes on at a word
+abbrev pub onward_answer : Image → List Entry → State → Option ℕ → Write → Onward → Answer
+onward_answer image A m protected w onward =
+    store_answer m protected (moves_at image A w) (record (storing m w.address w.byte) { pc = onward.pc; delay = onward.delay })
+
+-- the byte of a register at the address of a pointer, and the answer to its store
+abbrev pub through : State → Pointer → ℕ → Write
+through m p r = record { address = pointed p (pair m (pointer_register p)); byte = register m r }
+
+abbrev pub through_answer : Image → List Entry → State → Pointer → ℕ → Answer
+through_answer image A m p r = store_answer m (protected_at image A m.pc (through m p r)) (moves_at image A (through m p r)) (store_effect m p r)
+
+-- the answer to `out`
+abbrev pub output_answer : Image → List Entry → State → ℕ → ℕ → Answer
+output_answer image A m a r =
+    store_answer m None (moves_at image A (record { address = port m.device a; byte = register m r })) (out_effect m (port m.device a) (register m r))
+
+-- the answer to `sbi` if `on`, else to `cbi`
+abbrev pub bit_answer : Image → List Entry → State → ℕ → ℕ → Bool → Answer
+bit_answer image A m a b on =
+    store_answer m None (moves_at image A (record { address = port m.device a; byte = with_bit (kept_byte m.device m.enables (port m.device a)) b on }))
+    (bit_effect m (port m.device a) b on)
+
 -- the answer to a push after which the machine continues at a word
 abbrev pub push_effect_to : State → List Write → ℕ → ℕ → Effect
 push_effect_to m pushes sp target = record (going_to m target) { sp = sp; is_open = false; pushes = pushes }
@@ -62,6 +89,21 @@ push_answer guarded m transfer pushes sp target =
 -- the word that a call enters, if that is refused: it is unlisted, or its `recur` line does not permit the call so deep
 abbrev pub refused_at : Image → List Entry → State → Option ℕ → ℕ → Option ℕ
 refused_at image A m unlisted word = first_of unlisted (if not (is_scratch image m.pc) then unless_within (recur_line A word) (fall m) word else None)
+
+-- the answer to `push`
+abbrev pub register_answer : Image → List Entry → State → ℕ → Answer
+register_answer image A m r =
+    push_answer (not (is_scratch image m.pc || has_scratch A m.pc)) m None (set m.sp (register m r)) (minus_sp m.device m.sp 1) (further m 1)
+
+-- the answer to a call of a word, with a return address
+abbrev pub called_answer : Image → List Entry → State → Option ℕ → ℕ → ℕ → Answer
+called_answer image A m unlisted target back =
+    push_answer (not (is_scratch image m.pc)) m (refused_at image A m unlisted (wrapped m.device target)) (way_back m.device m.sp back)
+    (minus_sp m.device m.sp (back_of m.device)) target
+
+-- the answer to an instruction that isn't quiet
+abbrev pub loud_answer : Image → List Entry → State → Instr → ℕ → ℕ → Answer
+loud_answer image A m instr b1 b2 = answer_to image A m instr (effect_of image (is_still image A) m instr b1 b2)
 
 -- the word in Z; if `extended`, the one in EIND and Z
 abbrev pub computed_word : State → Bool → ℕ

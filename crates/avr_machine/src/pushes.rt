@@ -1,14 +1,13 @@
 //! The rows that push or go to a computed word, and interrupt entry.
 
 ghost use Rattle.std.specs.Prelude.{◌≡◌, ◌<◌, ◌||◌, None, not, true};
-ghost use Rattle.avr_model.specs.Devices.{back_of, wrapped};
+ghost use Rattle.avr_model.specs.Devices.{wrapped};
 ghost use Rattle.avr_model.specs.Vectors.{is_vector, watchdog};
-ghost use Rattle.avr_model.specs.Assumptions.{jump_line, recur_line, has_scratch};
+ghost use Rattle.avr_model.specs.Assumptions.{jump_line, recur_line};
 ghost use Rattle.avr_model.specs.Sites.{is_scratch};
-ghost use Rattle.avr_model.specs.State.{register, minus_sp, fall};
-ghost use Rattle.avr_model.specs.Effects.{set, way_back, further};
+ghost use Rattle.avr_model.specs.State.{fall};
 ghost use Rattle.avr_model.specs.Step.{all_inside, unless_listed, unless_within, entering, take, result_of, state_after};
-ghost use Rattle.avr_machine.specs.Quiet.{push_answer, refused_at, computed_word, jump_answer};
+ghost use Rattle.avr_machine.specs.Quiet.{push_answer, register_answer, called_answer, refused_at, computed_word, jump_answer};
 
 use crate::firmware::Firmware;
 use crate::flags::{flag_by, lists_word};
@@ -74,8 +73,8 @@ impl Processor {
     /// `push`, guarded unless it makes a compiler's small frame or has a `scratch` line.
     pub fn push(&mut self, firmware: &Firmware<'_>, r: u16) -> StepResult
         requires { r < 32 }
-        ensures answer { result ≡ result_of (push_answer (not (is_scratch firmware.now.flash.now self.old.pc || has_scratch firmware.now.assumptions.now self.old.pc)) self.old None (set self.old.sp (register self.old r)) (minus_sp self.old.device self.old.sp 1) (further self.old 1)) }
-        ensures state { self.new ≡ state_after self.old (push_answer (not (is_scratch firmware.now.flash.now self.old.pc || has_scratch firmware.now.assumptions.now self.old.pc)) self.old None (set self.old.sp (register self.old r)) (minus_sp self.old.device self.old.sp 1) (further self.old 1)) }
+        ensures answer { result ≡ result_of (register_answer firmware.now.flash.now firmware.now.assumptions.now self.old r) }
+        ensures state { self.new ≡ state_after self.old (register_answer firmware.now.flash.now firmware.now.assumptions.now self.old r) }
     {
         let pushes = Writes::one(Write {
             address: self.sp,
@@ -121,8 +120,8 @@ impl Processor {
         target: u32,
         back: u32,
     ) -> StepResult
-        ensures answer { result ≡ result_of (push_answer (not (is_scratch firmware.now.flash.now self.old.pc)) self.old (refused_at firmware.now.flash.now firmware.now.assumptions.now self.old unlisted (wrapped self.old.device target)) (way_back self.old.device self.old.sp back) (minus_sp self.old.device self.old.sp (back_of self.old.device)) target) }
-        ensures state { self.new ≡ state_after self.old (push_answer (not (is_scratch firmware.now.flash.now self.old.pc)) self.old (refused_at firmware.now.flash.now firmware.now.assumptions.now self.old unlisted (wrapped self.old.device target)) (way_back self.old.device self.old.sp back) (minus_sp self.old.device self.old.sp (back_of self.old.device)) target) }
+        ensures answer { result ≡ result_of (called_answer firmware.now.flash.now firmware.now.assumptions.now self.old unlisted target back) }
+        ensures state { self.new ≡ state_after self.old (called_answer firmware.now.flash.now firmware.now.assumptions.now self.old unlisted target back) }
     {
         let pushes = self.way_back(back);
         let count = self.device.back();

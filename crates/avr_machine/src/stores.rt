@@ -4,11 +4,9 @@ ghost use Rattle.std.specs.Prelude.{◌≡◌, ◌<◌, false, None};
 ghost use Rattle.avr_model.specs.Bits.{with_bit};
 ghost use Rattle.avr_model.specs.Devices.{words_of};
 ghost use Rattle.avr_model.specs.Sites.{pointer_register};
-ghost use Rattle.avr_model.specs.State.{pair, register};
-ghost use Rattle.avr_model.specs.Vectors.{kept_byte};
-ghost use Rattle.avr_model.specs.Effects.{delay_of_out, storing, store_effect, port, out_effect, bit_effect, pointed};
+ghost use Rattle.avr_model.specs.Effects.{delay_of_out, pointed};
 ghost use Rattle.avr_model.specs.Step.{result_of, state_after};
-ghost use Rattle.avr_machine.specs.Quiet.{protected_at, moves_at, store_answer};
+ghost use Rattle.avr_machine.specs.Quiet.{onward_answer, through_answer, output_answer, bit_answer};
 
 use crate::bits::{has_bit, with_bit};
 use crate::firmware::Firmware;
@@ -43,8 +41,8 @@ impl Processor {
         onward: Onward,
     ) -> StepResult
         requires { onward.pc < words_of self.old.device }
-        ensures answer { result ≡ result_of (store_answer self.old protected (moves_at firmware.now.flash.now firmware.now.assumptions.now write) (record (storing self.old write.address write.byte) { pc = onward.pc; delay = onward.delay })) }
-        ensures state { self.new ≡ state_after self.old (store_answer self.old protected (moves_at firmware.now.flash.now firmware.now.assumptions.now write) (record (storing self.old write.address write.byte) { pc = onward.pc; delay = onward.delay })) }
+        ensures answer { result ≡ result_of (onward_answer firmware.now.flash.now firmware.now.assumptions.now self.old protected write onward) }
+        ensures state { self.new ≡ state_after self.old (onward_answer firmware.now.flash.now firmware.now.assumptions.now self.old protected write onward) }
     {
         let live = self.memory.live_write(&[write]);
         let moves = moves_at(firmware, write);
@@ -64,8 +62,8 @@ impl Processor {
     #[tactic(auto, unfolding(avr_model::specs::Step::memory_after))]
     pub fn store_through(&mut self, firmware: &Firmware<'_>, pointer: Pointer, r: u16) -> StepResult
         requires { r < 32 }
-        ensures answer { result ≡ result_of (store_answer self.old (protected_at firmware.now.flash.now firmware.now.assumptions.now self.old.pc (record { address = pointed pointer (pair self.old (pointer_register pointer)); byte = register self.old r })) (moves_at firmware.now.flash.now firmware.now.assumptions.now (record { address = pointed pointer (pair self.old (pointer_register pointer)); byte = register self.old r })) (store_effect self.old pointer r)) }
-        ensures state { self.new ≡ state_after self.old (store_answer self.old (protected_at firmware.now.flash.now firmware.now.assumptions.now self.old.pc (record { address = pointed pointer (pair self.old (pointer_register pointer)); byte = register self.old r })) (moves_at firmware.now.flash.now firmware.now.assumptions.now (record { address = pointed pointer (pair self.old (pointer_register pointer)); byte = register self.old r })) (store_effect self.old pointer r)) }
+        ensures answer { result ≡ result_of (through_answer firmware.now.flash.now firmware.now.assumptions.now self.old pointer r) }
+        ensures state { self.new ≡ state_after self.old (through_answer firmware.now.flash.now firmware.now.assumptions.now self.old pointer r) }
     {
         let at = self.pair(pointer_register(pointer));
         let address = pointed(pointer, at);
@@ -95,8 +93,8 @@ impl Processor {
     pub fn output(&mut self, firmware: &Firmware<'_>, address: u16, r: u16) -> StepResult
         requires address { address < 64 }
         requires r { r < 32 }
-        ensures answer { result ≡ result_of (store_answer self.old None (moves_at firmware.now.flash.now firmware.now.assumptions.now (record { address = port self.old.device address; byte = register self.old r })) (out_effect self.old (port self.old.device address) (register self.old r))) }
-        ensures state { self.new ≡ state_after self.old (store_answer self.old None (moves_at firmware.now.flash.now firmware.now.assumptions.now (record { address = port self.old.device address; byte = register self.old r })) (out_effect self.old (port self.old.device address) (register self.old r))) }
+        ensures answer { result ≡ result_of (output_answer firmware.now.flash.now firmware.now.assumptions.now self.old address r) }
+        ensures state { self.new ≡ state_after self.old (output_answer firmware.now.flash.now firmware.now.assumptions.now self.old address r) }
     {
         let address = self.port(address);
         let byte = self.register(r);
@@ -116,8 +114,8 @@ impl Processor {
     ) -> StepResult
         requires address { address < 64 }
         requires index { index < 8 }
-        ensures answer { result ≡ result_of (store_answer self.old None (moves_at firmware.now.flash.now firmware.now.assumptions.now (record { address = port self.old.device address; byte = with_bit (kept_byte self.old.device self.old.enables (port self.old.device address)) index on })) (bit_effect self.old (port self.old.device address) index on)) }
-        ensures state { self.new ≡ state_after self.old (store_answer self.old None (moves_at firmware.now.flash.now firmware.now.assumptions.now (record { address = port self.old.device address; byte = with_bit (kept_byte self.old.device self.old.enables (port self.old.device address)) index on })) (bit_effect self.old (port self.old.device address) index on)) }
+        ensures answer { result ≡ result_of (bit_answer firmware.now.flash.now firmware.now.assumptions.now self.old address index on) }
+        ensures state { self.new ≡ state_after self.old (bit_answer firmware.now.flash.now firmware.now.assumptions.now self.old address index on) }
     {
         let address = self.port(address);
         let byte = with_bit(self.kept_byte(address), index, on);
