@@ -3,8 +3,8 @@
 
 use crate::names::{LONGEST, Name, names, texts};
 use crate::rows::{
-    DeviceKind, Enable, EnablePlace, MovingPlace, Row, enable_place, enable_places, has, kind, moving,
-    row, rows,
+    DeviceKind, Enable, EnablePlace, MovingPlace, Row, enable_place, enable_places, has, kind,
+    moving, row, rows,
 };
 
 /// The devices by their index: the name and the fields of `Row` in their order.
