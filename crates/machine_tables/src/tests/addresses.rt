@@ -40,6 +40,14 @@ const PUSHES: &[u16] = &[0x920F, 0xCFFE];
 // `sbi 0x1D, 0`, `sei` and a loop.
 const SET_BIT: &[u16] = &[0x9AE8, 0x9478, 0xCFFF];
 
+// The same by `out 0x3F, r16` in place of `sei`.
+const OUT_STATUS_OF_M328: &[u16] = &[0x9AE8, 0xE800, 0xBF0F, 0xCFFF];
+
+// RTC_INTCTRL is 1, and I is set by `out 0x3F, r16`, or by `sts 0x003F, r16`.
+const OUT_STATUS: &[u16] = &[0xE001, 0x9300, 0x0142, 0xE800, 0xBF0F, 0xCFFF];
+
+const STORED_STATUS: &[u16] = &[0xE001, 0x9300, 0x0142, 0xE800, 0x9300, 0x003F, 0xCFFF];
+
 // SP at 003E by `out`, with C set; then `pop r17`.
 const POPS_STATUS: &[u16] = &[0x9408, 0xE000, 0xBF0E, 0xE30E, 0xBF0D, 0x911F];
 
@@ -303,6 +311,12 @@ pub static ENTERED: [(&str, &[Entered]); 1] = [(
             4,
             true,
         ),
+        // `out` to SREG sets I, and one more instruction comes before an interrupt; `sts` to it does not wait
+        Entered(Device::M328, (OUT_STATUS_OF_M328, 3), 2, false),
+        Entered(Device::M328, (OUT_STATUS_OF_M328, 4), 2, true),
+        Entered(Device::T1614, (OUT_STATUS, 4), 7, false),
+        Entered(Device::T1614, (OUT_STATUS, 5), 7, true),
+        Entered(Device::T1614, (STORED_STATUS, 4), 7, true),
         // reserved
         Entered(Device::T1614, (&[0x9478, 0xCFFF], 2), 6, false),
     ],
