@@ -35,6 +35,8 @@ fn tell_bits(told: &mut FirstWrong, alloc: Global) {
 // Devices, and their enable bits.
 fn tell_devices(told: &mut FirstWrong, alloc: Global) {
     tell(told, alloc, &devices::NAMES);
+    tell(told, alloc, &devices::PLACED);
+    tell(told, alloc, &devices::ADDRESSED);
     tell(told, alloc, &enables::PLACES);
     tell(told, alloc, &enables::WRITES);
     tell(told, alloc, &enables::ADDRESSES);
@@ -57,6 +59,7 @@ fn tell_facts(told: &mut FirstWrong, alloc: Global) {
     tell_fact(told, 1, keys::is_begin());
     tell_fact(told, 2, states::is_root(alloc));
     tell_fact(told, 3, states::are_untagged());
+    tell_fact(told, 4, devices::is_hidden());
 }
 
 #[test]

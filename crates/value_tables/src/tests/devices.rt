@@ -1,6 +1,6 @@
 //! What names of devices mean.
 
-use avr_model::device::Device;
+use avr_model::device::{Device, Special};
 use avr_model::naming::{class_of, device_named, device_of_class};
 use row_tests::WorkedRow;
 use std::alloc::Global;
@@ -201,6 +201,7 @@ pub static NAMES: [(&str, &[Named]); 1] = [(
         Named("atmega328pbx", "", NONE),
         Named("ATmega328P", "", NONE),
         Named("attiny10", "", NONE),
+        Named("attiny1614", "", NONE),
         Named("atmega3290pa\0", "", NONE),
     ],
 )];
@@ -244,4 +245,102 @@ impl WorkedRow for Named {
             None => self.1.is_empty() && own.is_none(),
         }
     }
+}
+
+/// A device; the data address of I/O address 0, the last guarded address, the words that flash has, the data address at which it is mapped,
+/// and how many bytes of it; whether it is an AVRxt.
+pub struct Placed(Device, [u32; 5], bool);
+
+/// Source: the data sheets' address maps.
+pub static PLACED: [(&str, &[Placed]); 1] = [(
+    "placed",
+    &[
+        Placed(Device::M48, [0x20, 0xC1, 2048, 0, 0], false),
+        Placed(Device::M328, [0x20, 0xC1, 16384, 0, 0], false),
+        Placed(Device::T1614, [0, 0x1003, 8192, 0x8000, 16384], true),
+    ],
+)];
+
+impl WorkedRow for Placed {
+    fn holds(&self, _alloc: Global) -> bool {
+        let device = self.0;
+        let numbers = [
+            u32::from(device.io_base()),
+            u32::from(device.guarded_end()),
+            device.flash_words(),
+            u32::from(device.map_at()),
+            device.map_bytes(),
+        ];
+        numbers == self.1 && device.is_xt() == self.2
+    }
+}
+
+/// What a data address is of the core.
+#[derive(Clone, Copy, PartialEq, Eq)]
+enum Core {
+    Register(u16),
+    Spl,
+    Sph,
+    Sreg,
+    Nothing,
+}
+
+/// A device, a data address and what it is there.
+pub struct Addressed(Device, u16, Core);
+
+pub static ADDRESSED: [(&str, &[Addressed]); 1] = [(
+    "addressed",
+    &[
+        Addressed(Device::M328, 0x00, Core::Register(0)),
+        Addressed(Device::M328, 0x1F, Core::Register(31)),
+        Addressed(Device::M328, 0x20, Core::Nothing),
+        Addressed(Device::M328, 0x3D, Core::Nothing),
+        // no RAMPZ or EIND
+        Addressed(Device::M328, 0x5B, Core::Nothing),
+        Addressed(Device::M328, 0x5C, Core::Nothing),
+        Addressed(Device::M328, 0x5D, Core::Spl),
+        Addressed(Device::M328, 0x5E, Core::Sph),
+        Addressed(Device::M328, 0x5F, Core::Sreg),
+        Addressed(Device::T1614, 0x00, Core::Nothing),
+        Addressed(Device::T1614, 0x1F, Core::Nothing),
+        Addressed(Device::T1614, 0x3B, Core::Nothing),
+        Addressed(Device::T1614, 0x3C, Core::Nothing),
+        Addressed(Device::T1614, 0x3D, Core::Spl),
+        Addressed(Device::T1614, 0x3E, Core::Sph),
+        Addressed(Device::T1614, 0x3F, Core::Sreg),
+        Addressed(Device::T1614, 0x5D, Core::Nothing),
+        Addressed(Device::T1614, 0x5E, Core::Nothing),
+        Addressed(Device::T1614, 0x5F, Core::Nothing),
+    ],
+)];
+
+fn core_at(device: Device, address: u16) -> Core {
+    match (device.register_at(address), device.special(address)) {
+        (Some(register), None) => Core::Register(register),
+        (None, Some(Special::Spl)) => Core::Spl,
+        (None, Some(Special::Sph)) => Core::Sph,
+        (None, Some(Special::Sreg)) => Core::Sreg,
+        _ => Core::Nothing,
+    }
+}
+
+impl WorkedRow for Addressed {
+    fn holds(&self, _alloc: Global) -> bool {
+        core_at(self.0, self.1) == self.2
+    }
+}
+
+// The ATtiny1614's numbers, as those of the names.
+const HIDDEN: Numbers = [
+    8192, 0x37FF, 2048, 31, 0, 16384, 2048, 1, 1, 0, 1, 2, 2, 1, 1, 1, 0, 0, 0, 0,
+];
+
+/// The ATtiny1614 has its numbers, and in texts the name of every index without one, which does not mean it.
+pub fn is_hidden() -> bool {
+    let name = class_of(Device::T1614);
+    numbers(Device::T1614) == HIDDEN
+        && name == b"atmega328p".as_slice()
+        && device_named(name) == Some(Device::M328)
+        && device_of_class(name) == Some(Device::M328)
+        && device_of_class(b"attiny1614").is_none()
 }
