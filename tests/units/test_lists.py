@@ -47,33 +47,34 @@ class Complete(unittest.TestCase):
 class Written(unittest.TestCase):
     def test_a_text_is_read_and_written_alike(self) -> None:
         text = "pairs\nmasks\njump 0010 0020 0030\nstore 0040 006E\nnever 0020\nrecur 0050 12\n"
-        lines = Lines(CHIP, text)
+        lines = Lines.read(CHIP, text)
         self.assertEqual(sorted(lines.text().splitlines()), sorted(text.splitlines()))
         self.assertEqual(lines.of(0x10, "jump"), {0x20, 0x30})
         self.assertEqual(lines.written(), [])
 
     def test_given_lines_do_not_grow(self) -> None:
-        lines = Lines(CHIP, "jump 0010 0020\n")
+        lines = Lines.read(CHIP, "jump 0010 0020\n")
         self.assertFalse(lines.may_add(0x10, "jump", {0x30}))
         self.assertTrue(lines.may_add(0x12, "jump", set(range(MOST_ITEMS))))
         self.assertFalse(lines.may_add(0x12, "jump", set(range(MOST_ITEMS + 1))))
 
     def test_words_have_the_digits_of_the_device(self) -> None:
-        lines = Lines(of_class("atmega2560"), "jump 00010 10020\nstore 00012 005B\n")
+        lines = Lines.read(of_class("atmega2560"), "jump 00010 10020\nstore 00012 005B\n")
         self.assertEqual(lines.text(), "jump 00010 10020\nstore 00012 005B\n")
 
-    def test_a_copy_is_apart(self) -> None:
+    def test_other_lines_are_made_and_these_stay(self) -> None:
         lines = Lines(CHIP)
-        other = lines.copy()
-        self.assertTrue(other.add(0x10, "jump", {1}))
-        self.assertFalse(other.add(0x10, "jump", {1}))
-        self.assertEqual(lines.text(), "")
+        other = lines.add(0x10, "jump", {1})
+        self.assertIs(other.add(0x10, "jump", {1}), other)
+        self.assertEqual((lines.text(), other.text()), ("", "jump 0010 0001\n"))
+        self.assertEqual(other.drop(0x10, "jump"), lines)
+        other.of(0x10, "jump").clear()
+        self.assertEqual(other.text(), "jump 0010 0001\n")
 
     def test_a_line_of_a_spec_says_the_same(self) -> None:
         elf = Elf(path("chance.records.elf"))
         site = opcodes.sites(elf, elf.named("one")[0], opcodes.is_indirect)[0]
-        lines = Lines(CHIP)
-        lines.put(site, "jump", {it.address // 2 for name in ("near", "far") for it in elf.named(name)})
+        lines = Lines(CHIP).put(site, "jump", {it.address // 2 for name in ("near", "far") for it in elf.named(name)})
         text = spec_line(elf, elf.chip, lines, site, "jump")
         self.assertEqual(text, "jump one 1 near far")
         self.assertEqual(Spec(elf, str(text), elf.chip).text(), lines.text())

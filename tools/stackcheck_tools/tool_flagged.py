@@ -3,11 +3,14 @@
 from __future__ import annotations
 
 import tempfile
-from typing import Iterator, Optional, Tuple
+from typing import Iterator, NamedTuple, Optional, Set
 
-from stackcheck_tools.analysis.mending import Analysis
+from stackcheck_tools.analysis.dialogue import Dialogue
+from stackcheck_tools.analysis.runs import Stop
+from stackcheck_tools.analysis.state import Facts
+from stackcheck_tools.analysis.stops import admitted
 from stackcheck_tools.analysis.telling import line_of_spec, text_of_stop, why_not
-from stackcheck_tools.analysis.trials import Stop, Trials, handled
+from stackcheck_tools.analysis.trials import Trials, handled, next_stop, told_apart
 from stackcheck_tools.firmware.firmware import Firmware
 from stackcheck_tools.habits import FAULTS, MISUSE, Words, tell
 from stackcheck_tools.spec.lines import Lines
@@ -25,31 +28,33 @@ Status 0: none was found; 1: some were; 3: usage error, or a file or the program
 """
 
 
-def found(search: Analysis) -> Iterator[Tuple[Stop, Optional[str]]]:
-    """Yields each stop once, with the kind of the line that admits it, which is added."""
-    seen, is_new = set(), True
-    vectors = handled(search.elf, search.device)
-    while is_new:
-        is_new = False
-        for stop in Trials(search.program(), search.folder, search.elf, search.device, vectors).stops():
-            if stop.key() not in seen:
-                seen.add(stop.key())
-                kind = search.admit(stop)
-                yield stop, kind
-                is_new = kind is not None
-                if is_new:
-                    break
+class Found(NamedTuple):
+    """A flagged step, the kind of the line that admits it (None if none does), and the lines with that line."""
+
+    stop: Stop
+    kind: Optional[str]
+    lines: Lines
 
 
-def text_of(search: Analysis, stop: Stop, kind: Optional[str]) -> Iterator[str]:
-    yield text_of_stop(search.firmware, stop)
-    if not kind:
-        yield f"  {why_not(search.firmware, stop)}"
+def found(firmware: Firmware, lines: Lines, folder: str) -> Iterator[Found]:
+    """Yields each flagged step once; the runs go on with the line that admits it."""
+    facts, dialogue = Facts(firmware), Dialogue(firmware, folder)
+    seen: Set[Stop] = set()
+    vectors, told = tuple(handled(firmware.elf, firmware.device)), tuple(told_apart(firmware.elf, firmware.device))
+    while stop := dialogue.run(next_stop(Trials(lines, vectors, frozenset(), told), seen)):
+        seen.add(stop)
+        lines, kind = dialogue.run(admitted(facts, lines, stop))
+        yield Found(stop, kind, lines)
+
+
+def text_of(firmware: Firmware, it: Found) -> Iterator[str]:
+    yield text_of_stop(firmware, it.stop)
+    if not it.kind:
+        yield f"  {why_not(firmware, it.stop)}"
         return
-    yield f"  {search.lines.line(stop.word, kind)}"
-    added = Lines(search.firmware.device)
-    added.put(stop.word, kind, {stop.other} if kind in ("jump", "store") else ())
-    if spec := line_of_spec(search.firmware, added, stop.word, kind):
+    yield f"  {it.lines.line(it.stop.word, it.kind)}"
+    added = Lines(firmware.device).put(it.stop.word, it.kind, {it.stop.other} if it.kind in ("jump", "store") else ())
+    if spec := line_of_spec(firmware, added, it.stop.word, it.kind):
         yield f"  spec: {spec}"
 
 
@@ -69,11 +74,10 @@ def main() -> int:
             with open(words.assume or words.spec, encoding="utf8") as file:
                 text = file.read() if words.assume else assumptions(firmware.elf, file.read(), firmware.device)
         with tempfile.TemporaryDirectory() as folder:
-            search = Analysis(firmware, folder, text)
-            search.lines.given = set()  # a line grows by what admits a stop
-            for stop, kind in found(search):
+            given = Lines.read(firmware.device, text).none_given()  # a line grows by what admits a stop
+            for it in found(firmware, given, folder):
                 count += 1
-                print("\n".join(text_of(search, stop, kind)), flush=True)
+                print("\n".join(text_of(firmware, it)), flush=True)
     except BrokenPipeError:
         raise
     except FAULTS as fault:

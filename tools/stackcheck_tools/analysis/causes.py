@@ -2,17 +2,14 @@
 
 from __future__ import annotations
 
-import os
 import re
-from typing import TYPE_CHECKING, Dict, Iterable, List, Optional, Set
+from typing import Dict, Iterable, List, Optional, Set
 
+from stackcheck_tools.analysis.questions import Refusal, Search, analyse, premises
 from stackcheck_tools.analysis.telling import line_of_spec
 from stackcheck_tools.firmware.devices import Device
 from stackcheck_tools.firmware.firmware import Firmware
-
-if TYPE_CHECKING:
-    from stackcheck_tools.analysis.mending import Mending
-    from stackcheck_tools.spec.lines import Lines
+from stackcheck_tools.spec.lines import Lines
 
 POINTER = r"(?: [XYZ] [0-9A-F]{4} [0-9A-F]{4})?"  # the least and the greatest number of the place's pointer
 TOLD = re.compile(r" in \S+(?: protected((?: [0-9A-F]{4})+)( \.\.)?)?( live)?( transfer)?( moves)?" + POINTER + "$")
@@ -62,27 +59,22 @@ def by_word(device: Device, lines: List[str]) -> Dict[int, Cause]:
     return {int(line.split()[1], 16): of_line(device, line) for line in lines if line.startswith("at ")}
 
 
-def without(work: Mending, lines: Lines, folder: str) -> Optional[Set[int]]:
+def without(lines: Lines) -> Search[Optional[Set[int]]]:
     """The words at which a step may be flagged under other lines; None where there is no bound under them."""
-    is_accepted, text = work.analyse(lines)
-    if not is_accepted:
+    answer = yield from analyse(lines)
+    if isinstance(answer, Refusal):
         return None
-    certificate = os.path.join(folder, "tried")
-    with open(certificate, "w", encoding="ascii", newline="\n") as file:
-        file.write(text)
-    told = work.program(lines).lines("premises", certificate) or []
+    told = yield from premises(lines, answer.text)
     return {int(line.split()[1], 16) for line in told if line.startswith("at ")}
 
 
-def closers(firmware: Firmware, work: Mending, causes: Dict[int, Cause], folder: str) -> Dict[int, str]:
+def closers(firmware: Firmware, lines: Lines, causes: Dict[int, Cause]) -> Search[Dict[int, str]]:
     """For places at which a store may write a few protected registers and nothing else, the line of a spec that takes them off the list:
     tried, by word."""
-    found, few = {}, [word for word, it in sorted(causes.items()) if it.is_few() and work.lines.may_add(word, "store", it.addresses)]
+    found, few = {}, [word for word, it in sorted(causes.items()) if it.is_few() and lines.may_add(word, "store", it.addresses)]
     for word in few[:MOST_TRIED]:
-        lines = work.lines.copy()
-        lines.add(word, "store", causes[word].addresses)
-        left = without(work, lines, folder)
+        more = lines.add(word, "store", causes[word].addresses)
+        left = yield from without(more)
         if left is not None and word not in left:
-            found[word] = line_of_spec(firmware, lines, word, "store") or lines.line(word, "store")
-    work.program()  # whose assumption file the trials wrote anew
+            found[word] = line_of_spec(firmware, more, word, "store") or more.line(word, "store")
     return found

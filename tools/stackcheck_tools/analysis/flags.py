@@ -2,9 +2,13 @@
 
 from __future__ import annotations
 
-from typing import TYPE_CHECKING, Dict, Optional, Set, Tuple
+from typing import Dict, Optional, Tuple
 
 from stackcheck_tools.analysis.locations import of_word
+from stackcheck_tools.analysis.questions import Search
+from stackcheck_tools.analysis.runs import Stop
+from stackcheck_tools.analysis.state import Facts, State
+from stackcheck_tools.analysis.stops import admitted
 from stackcheck_tools.analysis.telling import line_of_spec
 from stackcheck_tools.finding import ERROR, NOTE, Finding, Related, Review
 from stackcheck_tools.firmware.firmware import Firmware
@@ -12,10 +16,7 @@ from stackcheck_tools.rules import BY_ID
 from stackcheck_tools.spec import recursion
 from stackcheck_tools.spec.lines import Lines
 
-if TYPE_CHECKING:
-    from stackcheck_tools.analysis.mending import Mending
-    from stackcheck_tools.analysis.trials import Stop
-
+ADMITTED = ("SB202", "SB203", "SB204", "SB205")  # rules of steps that a line may admit
 STOPS = {"protected": "SB202", "live": "SB203", "transfer": "SB204", "moved": "SB205"}
 COVERS = "the bound covers only what comes before"
 MESSAGES = {
@@ -28,11 +29,11 @@ MESSAGES = {
 }
 
 
-def rule_of(work: Mending, stop: Stop) -> str:
+def rule_of(state: State, stop: Stop) -> str:
     """The rule of a flagged step."""
-    if stop.kind == "transfer" and recursion.line_at(work.recursions, stop.other):
+    if stop.kind == "transfer" and recursion.line_at(state.recursions, stop.other):
         return "SB206"
-    if stop.kind == "transfer" and work.lines.has(stop.other, "never") and not work.lines.is_given(stop.other, "never"):
+    if stop.kind == "transfer" and state.lines.has(stop.other, "never") and not state.lines.is_given(stop.other, "never"):
         return "SB201"
     return STOPS[stop.kind]
 
@@ -42,9 +43,9 @@ def target(firmware: Firmware, word: int) -> str:
     return firmware.place(word) if firmware.elf.symbol_at(2 * word) else f"word {firmware.device.word(word)}"
 
 
-def message(firmware: Firmware, work: Mending, stop: Stop, rule: str) -> str:
+def message(firmware: Firmware, state: State, stop: Stop, rule: str) -> str:
     """A flagged step as one sentence without its place."""
-    device, limit = firmware.device, recursion.line_at(work.recursions, stop.other) if rule == "SB206" else None
+    device, limit = firmware.device, recursion.line_at(state.recursions, stop.other) if rule == "SB206" else None
     words: Dict[str, object] = {"address": f"{stop.other:04X}"}
     if rule == "SB201":
         words["vector"] = device.vectors[device.vector_of(stop.other)]
@@ -57,28 +58,24 @@ def message(firmware: Firmware, work: Mending, stop: Stop, rule: str) -> str:
     return MESSAGES[rule].format(**words)
 
 
-def line_that_admits(firmware: Firmware, work: Mending, stop: Stop) -> Optional[str]:
+def line_that_admits(facts: Facts, lines: Lines, stop: Stop) -> Search[Optional[str]]:
     """The line that admits a flagged step, whether or not one was given there; None if there is none."""
-    free = work.copy()
-    free.lines.given = set()
-    kind = free.admit(stop)
+    free, kind = yield from admitted(facts, lines.none_given(), stop)
     if not kind:
         return None
-    items: Set[int] = free.lines.of(stop.word, kind)
-    line = Lines(firmware.device)
-    line.put(stop.word, kind, items)
-    return line_of_spec(firmware, line, stop.word, kind) or line.line(stop.word, kind)
+    line = Lines(facts.device).put(stop.word, kind, free.of(stop.word, kind))
+    return line_of_spec(facts.firmware, line, stop.word, kind) or line.line(stop.word, kind)
 
 
-def finding(firmware: Firmware, work: Mending, stop: Stop) -> Finding:
+def finding(facts: Facts, state: State, stop: Stop) -> Search[Finding]:
     """The finding of a flagged step."""
-    rule = rule_of(work, stop)
-    admitting = line_that_admits(firmware, work, stop) if rule in ("SB202", "SB203", "SB204", "SB205") else None
+    rule, firmware = rule_of(state, stop), facts.firmware
+    admitting = (yield from line_that_admits(facts, state.lines, stop)) if rule in ADMITTED else None
     help_ = BY_ID[rule].help
     related: Tuple[Related, ...] = ()
     if stop.kind == "transfer":
         related = (Related("target", "the step goes here", of_word(firmware, stop.other)),)
-    return Finding(rule, ERROR, message(firmware, work, stop, rule), (of_word(firmware, stop.word),), related, (COVERS,),
+    return Finding(rule, ERROR, message(firmware, state, stop, rule), (of_word(firmware, stop.word),), related, (COVERS,),
                    cure=f"{help_[:1].lower()}{help_[1:].rstrip('.')}", spec_lines=(admitting,) if admitting else ())
 
 

@@ -8,7 +8,8 @@ import shutil
 import subprocess
 from typing import Dict, NamedTuple
 
-from stackcheck_tools.analysis.program import TOP, NoProgram
+from stackcheck_tools.analysis.program import NoProgram, called
+from stackcheck_tools.habits import version as version_of_tools
 
 BUILT = os.path.join("crates", "stack_cli", "out", "stack_cli")  # the program of a checkout, by its path beside the launcher
 
@@ -32,9 +33,8 @@ def file_of(called: str) -> str:
     return built if is_script and os.path.isfile(built) else path
 
 
-def judge_of(called: str = "") -> Judge:
-    """The program at a path, or the one that the tools call."""
-    called = called or os.environ.get("STACKBOUND") or os.path.join(TOP, "stackbound")
+def judge_of(called: str) -> Judge:
+    """The program at a path."""
     try:
         path = file_of(called)
         with open(path, "rb") as file:
@@ -43,3 +43,11 @@ def judge_of(called: str = "") -> Judge:
     except OSError as fault:
         raise NoProgram(f"{called}: {fault.strerror}") from None
     return Judge(path, said.stdout.decode("ascii", "replace").strip().rpartition(" ")[2] or "unknown", digest)
+
+
+def checked() -> Judge:
+    """The program that the tools call. It has to be of their version: then it has each command and each kind of lines that they ask for."""
+    found = judge_of(called())
+    if found.version != version_of_tools():
+        raise NoProgram(f"{os.path.normpath(called())} is of version {found.version}, and these tools are of {version_of_tools()}")
+    return found

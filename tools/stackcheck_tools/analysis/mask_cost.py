@@ -2,18 +2,21 @@
 
 from __future__ import annotations
 
-from typing import TYPE_CHECKING, Dict, List, NamedTuple, Optional
+from dataclasses import replace
+from typing import Dict, List, NamedTuple, Optional, Sequence
 
 from stackcheck_tools.analysis import causes, places, warnings_of_words
 from stackcheck_tools.analysis.kinds import ORDINARY, SAFETY, WHOLE
-from stackcheck_tools.analysis.widening import Lists, bound_of
+from stackcheck_tools.analysis.mending import tried_from
+from stackcheck_tools.analysis.questions import Search
+from stackcheck_tools.analysis.settling import analysed
+from stackcheck_tools.analysis.state import Facts, Lists, State
+from stackcheck_tools.analysis.state import told as told_of
+from stackcheck_tools.analysis.widening import bound_of
 from stackcheck_tools.firmware.firmware import Firmware
 from stackcheck_tools.spec.lines import Lines
 from stackcheck_tools.spec.recursion import Recursion
 from stackcheck_tools.spec.spec import MASKS, NOWHERE
-
-if TYPE_CHECKING:
-    from stackcheck_tools.analysis.mending import Mending
 
 MANY = 10_000  # nodes from which on it is looked: some seconds of analysis
 TIMES = 4  # as many nodes as without the line, from which on it costs too much
@@ -29,8 +32,8 @@ class Answer(NamedTuple):
     certificate: str
     own: Lines
     lists: Lists
-    recursions: List[Recursion]
-    premises: Optional[List[str]]
+    recursions: Sequence[Recursion]
+    premises: List[str]
     causes: Dict[int, causes.Cause]
     closers: Dict[int, str]
     warnings: List[warnings_of_words.Warned]
@@ -46,42 +49,36 @@ def sort_of(kind: str) -> str:
     return "ordinary" if kind in ORDINARY else LANGUAGE if kind in (SAFETY, WHOLE) else GIVEN
 
 
-def places_of(work: "Mending") -> Dict[str, str]:
+def places_of(facts: Facts, state: State) -> Search[Dict[str, str]]:
     """The places of an answer, each with who is at fault there."""
-    told, firmware, certificate = work.told(), work.firmware, work.certificate or ""
-    answer = Answer(firmware, certificate, work.lines, work.lists, work.recursions, told, causes.by_word(firmware.device, told or []), {},
+    told, firmware, certificate = (yield from told_of(state)), facts.firmware, state.certificate or ""
+    answer = Answer(firmware, certificate, state.lines, state.lists, state.recursions, told, causes.by_word(firmware.device, told), {},
                     warnings_of_words.warnings(firmware, certificate))
     return {str(word): sort_of(kind) for entry in places.entries(answer) for word, kind in entry.kinds.items()}
 
 
-def lean(work: "Mending") -> Optional["Mending"]:
+def lean(facts: Facts, state: State) -> Search[Optional[State]]:
     """The same lines without `masks`, where the bound is the same and the certificate much smaller."""
-    other = work.copy()
-    other.lines.drop(NOWHERE, MASKS)
-    if not other.analyse_once() or bound_of(other.certificate) != bound_of(work.certificate):
+    other = yield from analysed(facts, state.look().under(state.lines.drop(NOWHERE, MASKS)))
+    if other.certificate is None or bound_of(other.certificate) != bound_of(state.certificate):
         return None
-    return other if nodes_in(work.certificate or "") > TIMES * nodes_in(other.certificate or "") else None
+    return other if nodes_in(state.certificate or "") > TIMES * nodes_in(other.certificate) else None
 
 
-def weigh(work: "Mending") -> None:
+def weighed(facts: Facts, state: State) -> Search[State]:
     """Leaves the line out where bound, places and trial runs are the same without it, and it costs much; else notes what it costs and
     saves."""
-    nodes = nodes_in(work.certificate or "")
-    if nodes <= MANY or work.lines.is_given(NOWHERE, MASKS) or not (work.lines.has_masks() and work.device.is_first()):
-        return
-    before = places_of(work)
-    other = lean(work)
+    nodes = nodes_in(state.certificate or "")
+    if nodes <= MANY or state.lines.is_given(NOWHERE, MASKS) or not (state.lines.has_masks() and facts.device.is_first()):
+        return state
+    other = yield from lean(facts, state)
     if other is None:
-        work.program()  # whose assumption file the look wrote anew
-        return
-    times, after = round(nodes / nodes_in(other.certificate or "")), places_of(other)
-    if after == before and not work.stop:
-        other.try_from(0)
+        return state
+    before, after = (yield from places_of(facts, state)), (yield from places_of(facts, other))
+    times = round(nodes / nodes_in(other.certificate or ""))
+    if after == before and not state.stop:
+        other, _ = yield from tried_from(facts, other, 0)
         if not other.stop:
-            work.use(other)
-            work.told_of_masks = LEFT_OUT.format(times)
-            return
+            return replace(state.adopt(other), told_of_masks=LEFT_OUT.format(times))
     saved = list(after.values()).count("ordinary") - list(before.values()).count("ordinary")
-    if saved > 0:
-        work.told_of_masks = KEPT.format(times, saved, "" if saved == 1 else "s")
-    work.program()
+    return replace(state, told_of_masks=KEPT.format(times, saved, "" if saved == 1 else "s")) if saved > 0 else state

@@ -6,14 +6,14 @@ import json
 import os
 from argparse import Namespace
 from dataclasses import dataclass, field
-from typing import TYPE_CHECKING, Dict, Iterator, List, Optional, Union
+from typing import TYPE_CHECKING, Dict, Iterator, List, Optional, Sequence, Union
 
-from stackcheck_tools.analysis import causes, flags, refused, warnings_of_words
+from stackcheck_tools.analysis import causes, flags, refused, search, warnings_of_words
+from stackcheck_tools.analysis.dialogue import Dialogue
 from stackcheck_tools.analysis.locations import of_word
-from stackcheck_tools.analysis.mending import Mending
-from stackcheck_tools.analysis.program import OK, USAGE, NoProgram, Program
-from stackcheck_tools.analysis.trials import Run, Stop
-from stackcheck_tools.analysis.widening import Lists
+from stackcheck_tools.analysis.program import OK, NoProgram, Program
+from stackcheck_tools.analysis.runs import Run, Stop
+from stackcheck_tools.analysis.state import Facts, Lists, State
 from stackcheck_tools.finding import Finding, Link
 from stackcheck_tools.firmware import intel_hex
 from stackcheck_tools.firmware.firmware import Firmware
@@ -46,7 +46,7 @@ class Accepted:
     certificate: str
     own: Lines
     lists: Lists  # of calls through pointers
-    recursions: List[recursion.Recursion]  # of the spec or by runs, with the depths that they came to
+    recursions: Sequence[recursion.Recursion]  # of the spec or by runs, with the depths that they came to
     cure: Optional[str] = None  # of a recursion that is as deep as the runs
     told_of_masks: Optional[str] = None  # what the line `masks` costs, or why it was left out
     stop: Optional[Stop] = None  # the flagged step of a simulated run
@@ -86,14 +86,6 @@ def read_report(found: Accepted, program: Program, certificate: str) -> None:
     found.is_attained = found.is_attained or report["witness"] == "attained"
 
 
-def lines_of(program: Program, command: str, *words: str) -> List[str]:
-    """The lines of a command that each program of this version has."""
-    told = program.lines(command, *words)
-    if told is None:
-        raise NoProgram(f"{program.path} has no command {command}: it is of another version")
-    return told
-
-
 def links(firmware: Firmware, lines: List[str]) -> Iterator[Link]:
     """Yields the links of the deepest chain."""
     for words in (it.split() for it in lines if it.startswith("link ")):
@@ -110,7 +102,7 @@ def links(firmware: Firmware, lines: List[str]) -> Iterator[Link]:
 
 def read_premises(found: Accepted, program: Program, certificate: str) -> None:
     """Reads the places at which a step may be flagged, and what may happen there."""
-    found.premises = lines_of(program, "premises", certificate, "--why")[1:]
+    found.premises = program.lines("premises", certificate, "--why")[1:]
     found.causes = causes.by_word(found.firmware.device, found.premises)
 
 
@@ -125,44 +117,53 @@ def accept(found: Accepted, program: Program, certificate: str, text: str) -> st
     return said.split()[3]
 
 
-def attain(found: Accepted, program: Program, certificate: str, witness: str) -> None:
-    """Has a schedule sought that goes as deep as the bound, where the certificate has none and the program has the command."""
-    status, text = program.call("attain", certificate) if witness == "open" else (USAGE, "")
-    if status == OK:
-        accept(found, program, certificate, text)
-    elif status != USAGE:
+def attain(found: Accepted, program: Program, certificate: str) -> None:
+    """Has a schedule sought that goes as deep as the bound, where the certificate has none."""
+    status, text = program.call("attain", certificate)
+    if status != OK:
         raise NoProgram(f"attain: status {status}: {text.strip()}")
+    accept(found, program, certificate, text)
 
 
-def take(firmware: Firmware, spec: str, given: str, work: Mending, words: Namespace, folder: str) -> Accepted:
+def take(dialogue: Dialogue, found: Accepted, state: State, words: Namespace) -> Accepted:
     """Judges the certificate that was found, and gathers what the program says of it."""
-    made = work.certificate or ""
-    found = Accepted(firmware, spec, given, made, work.lines, work.lists, work.recursions, work.cure_of_recursion(),
-                     work.told_of_masks, work.stop, flags.finding(firmware, work, work.stop) if work.stop else None, seen=work.deepest)
-    program, certificate = work.program(), os.path.join(folder, "certificate")
-    witness = accept(found, program, certificate, made)
-    if witness == "open" and work.deepest is not None and work.deepest >= found.bound:
-        found.is_attained, found.deepest = True, work.deepest_run  # a run of `simulate` is one of those of which `check` speaks
-    elif not words.no_attain and work.sought != work.certificate:
-        attain(found, program, certificate, witness)
+    program, certificate = dialogue.program(state.lines), os.path.join(dialogue.folder, "certificate")
+    witness = accept(found, program, certificate, found.certificate)
+    if witness == "open" and state.deepest is not None and state.deepest >= found.bound:
+        found.is_attained, found.deepest = True, state.deepest_run  # a run of `simulate` is one of those of which `check` speaks
+    elif witness == "open" and not words.no_attain and state.sought != state.certificate:
+        attain(found, program, certificate)
     for command in (("report", certificate, "--json"), ("explain", certificate), ("premises", certificate, "--why")):
         program.begin(*command)
     try:
         read_report(found, program, certificate)
         if found.is_attained and words.trials != 0:
             found.seen = found.bound  # the certificate's own schedule is a run
-        found.chain = list(links(firmware, lines_of(program, "explain", certificate)))
+        found.chain = list(links(found.firmware, program.lines("explain", certificate)))
         read_premises(found, program, certificate)
     finally:
         program.end()
-    found.warnings = warnings_of_words.warnings(firmware, found.certificate)
-    found.closers = causes.closers(firmware, work, found.causes, folder)
+    found.warnings = warnings_of_words.warnings(found.firmware, found.certificate)
+    found.closers = dialogue.run(causes.closers(found.firmware, state.lines, found.causes))
     return found
+
+
+def searched(facts: Facts, dialogue: Dialogue, spec: str, read: Optional[Spec], words: Namespace) -> Outcome:
+    """Looks for lines under which the firmware has a bound, and judges what is found."""
+    firmware, given = facts.firmware, read.text() if read else ""
+    begin = State(Lines.read(firmware.device, given), recursions=tuple(read.recursions) if read else ())
+    state = dialogue.run((search.plain if words.plain else search.search)(facts, begin))
+    if state.refusal:
+        return Refused(firmware, spec, given, state.lines, dialogue.run(refused.finding(facts, state)))
+    flag = dialogue.run(flags.finding(facts, state, state.stop)) if state.stop else None
+    found = Accepted(firmware, spec, given, state.certificate or "", state.lines, state.lists, state.recursions,
+                     search.cure_of_recursion(facts, state), state.told_of_masks, state.stop, flag, seen=state.deepest)
+    return take(dialogue, found, state, words)
 
 
 def judge(words: Namespace, folder: str) -> Outcome:
     """Analyses and judges the firmware of the command's words; files are made in the folder."""
-    spec, given, recursions = "", "", []
+    spec = ""
     if words.spec:
         with open(words.spec, encoding="utf8") as file:
             spec = file.read()
@@ -170,12 +171,5 @@ def judge(words: Namespace, folder: str) -> Outcome:
     path, device = words.firmware, words.device or (lines.device.value if lines.device else None)
     firmware = intel_hex.firmware(path, device, folder) if intel_hex.is_one(path) else Firmware(path, device)
     firmware.check_start()
-    if words.spec:
-        read = Spec(firmware.elf, spec, firmware.device)
-        given, recursions = read.text(), read.recursions
-    work = Mending(firmware, folder, given, words.trials, recursions)
-    work.seeks = not words.no_attain
-    work.run(words.plain)
-    if work.refusal:
-        return Refused(firmware, spec, given, work.lines, refused.finding(firmware, work))
-    return take(firmware, spec, given, work, words, folder)
+    read = Spec(firmware.elf, spec, firmware.device) if words.spec else None
+    return searched(Facts(firmware, words.trials, not words.no_attain), Dialogue(firmware, folder), spec, read, words)

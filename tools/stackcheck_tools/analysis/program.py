@@ -9,7 +9,7 @@ from typing import Dict, List, Optional, Tuple
 from stackcheck_tools import progress
 from stackcheck_tools.finding import Fault
 
-OK, REJECTED, USAGE, SCHEDULE, REFUSED, DEVICES = 0, 1, 2, 9, 10, 14
+OK, SCHEDULE, REFUSED = 0, 9, 10
 UNBUILT = 70  # the launcher's, where no proved program stands that is of its sources
 WORK = {"analyse": "analysing", "check": "checking", "attain": "seeking a run as deep as the bound"}  # what takes long, but for trial runs
 TOP = os.path.join(os.path.dirname(os.path.realpath(__file__)), "..", "..", "..")
@@ -21,11 +21,16 @@ class NoProgram(Fault):
     rule = "SB009"
 
 
+def called() -> str:
+    """The path of the program."""
+    return os.environ.get("STACKBOUND") or os.path.join(TOP, "stackbound")
+
+
 class Program:
     """Calls on one firmware, device and assumption file."""
 
     def __init__(self, firmware: str, device: str, assumptions: Optional[str] = None) -> None:
-        self.path = os.environ.get("STACKBOUND") or os.path.join(TOP, "stackbound")
+        self.path = called()
         self.firmware, self.options = firmware, ["--device", device] + (["--assume", assumptions] if assumptions else [])
         self.begun: Dict[Tuple[str, ...], subprocess.Popen[bytes]] = {}
 
@@ -64,11 +69,9 @@ class Program:
                             f"$STACKBOUND")
         return said.returncode, text.decode("ascii", "replace")
 
-    def lines(self, command: str, *words: str) -> Optional[List[str]]:
-        """The lines of a command that this program may not have yet: None where it answers `usage`."""
+    def lines(self, command: str, *words: str) -> List[str]:
+        """The lines of a command that has no other answer."""
         status, text = self.call(command, *words)
-        if status == USAGE:
-            return None
         if status != OK:
             raise NoProgram(f"{command}: status {status}: {text.strip()}")
         return text.splitlines()

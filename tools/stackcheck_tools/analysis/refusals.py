@@ -2,7 +2,7 @@
 
 from __future__ import annotations
 
-from typing import TYPE_CHECKING, Dict, Iterator, List, Optional, Set, Tuple
+from typing import Dict, Iterator, List, Optional, Set, Tuple
 
 from stackcheck_tools.analysis import registers
 from stackcheck_tools.analysis.cures import parts
@@ -15,9 +15,6 @@ from stackcheck_tools.firmware.devices import Device
 from stackcheck_tools.firmware.elf import Elf
 from stackcheck_tools.firmware.firmware import Firmware
 from stackcheck_tools.spec.lines import Lines
-
-if TYPE_CHECKING:
-    from stackcheck_tools.analysis.mending import Mending
 
 OUT_SREG, RETI, SBI = 0xBE0F, 0x9518, 0x9A00
 MOST_REASONS, NEAR, GUARD = 8, 5, 6
@@ -36,7 +33,7 @@ class Step:
         self.site, self.target, self.own = site, target, own
 
 
-def steps(firmware: Firmware, work: Mending) -> Dict[int, List[Step]]:
+def steps(firmware: Firmware, lines: Lines) -> Dict[int, List[Step]]:
     """By its first word, what each function enters: by name, and by `jump` lines."""
     elf = firmware.elf
     found: Dict[int, List[Step]] = {}
@@ -49,8 +46,8 @@ def steps(firmware: Firmware, work: Mending) -> Dict[int, List[Step]]:
             if other and (other.address != symbol.address or call == symbol.address // 2):
                 held.append(Step(at, other.address // 2, None))
             elif opcodes.is_indirect(opcode):
-                own = None if work.lines.is_given(at, "jump") else line_of_spec(firmware, work.lines, at, "jump") or "jump"
-                held += [Step(at, it, own) for it in sorted(work.lines.of(at, "jump"))]
+                own = None if lines.is_given(at, "jump") else line_of_spec(firmware, lines, at, "jump") or "jump"
+                held += [Step(at, it, own) for it in sorted(lines.of(at, "jump"))]
     return found
 
 
@@ -77,9 +74,9 @@ def reason(firmware: Firmware, text: str, word: Optional[int] = None) -> Related
     return Related("reason", text) if word is None else Related("reason", f"{text} at {firmware.place(word)}", of_word(firmware, word))
 
 
-def of_recursion(firmware: Firmware, work: Mending, word: int) -> Iterator[Related]:
+def of_recursion(firmware: Firmware, lines: Lines, word: int) -> Iterator[Related]:
     """The way on which a function comes back to itself, with the `jump` lines of this tool on it."""
-    for at, it in way_back(steps(firmware, work), word):
+    for at, it in way_back(steps(firmware, lines), word):
         how = f", by a line of this tool, which lists all that may be called: `{it.own}`" if it.own else ""
         text = f"{firmware.function(at)} enters {firmware.function(it.target)} at {firmware.place(it.site)}{how}"
         yield Related("reason", text, of_word(firmware, it.site))
@@ -179,25 +176,25 @@ def stays_enabled(device: Device, vector: int) -> str:
             "even after it is cleared")
 
 
-def of_re_entry(firmware: Firmware, work: Mending, vector: int) -> Iterator[Related]:
+def of_re_entry(firmware: Firmware, lines: Lines, vector: int) -> Iterator[Related]:
     """Each place that lets interrupts in while a handler runs, and each that may set its enable bit then: in the handler, or in one that
     comes meanwhile."""
     elf, device = firmware.elf, firmware.device
     entry = opcodes.jump_target(elf, device.vector_word(vector))
     if entry is None:
         return
-    graph = steps(firmware, work)
+    graph = steps(firmware, lines)
     own = reached(graph, entry)
     opened = list(openers(firmware, own, entry))
     yield from (reason(firmware, f"{firmware.function(at)} enables interrupts (`{text}`)", at) for at, text in opened)
     if stays := stays_enabled(device, vector):
         yield reason(firmware, stays)
         return
-    sets = [(at, name, "") for at, name in setters(firmware, work.lines, own, vector)]
+    sets = [(at, name, "") for at, name in setters(firmware, lines, own, vector)]
     for other in handled(elf, device):
         target = opcodes.jump_target(elf, device.vector_word(other))
         if other != vector and target is not None:
-            sets += [(at, name, device.vectors[other]) for at, name in setters(firmware, work.lines, reached(graph, target) - own, vector)]
+            sets += [(at, name, device.vectors[other]) for at, name in setters(firmware, lines, reached(graph, target) - own, vector)]
     for at, name, by in sets:
         function = firmware.function(at)
         why = "" if not by else ", which may come meanwhile," if function == by else f", called by {by}, which may come meanwhile,"
@@ -218,16 +215,16 @@ def of_cause(firmware: Firmware, name: str) -> Iterator[Related]:
                 yield reason(firmware, f"{firmware.name(symbol)} goes to address 0", at)
 
 
-def reasons(firmware: Firmware, work: Mending, refusal: str) -> List[Related]:
+def reasons(firmware: Firmware, lines: Lines, refusal: str) -> List[Related]:
     """What leads to a refusal here: of recursion the way back, of a re-entry the places that let it in."""
     number, _, vector, place, _ = parts(refusal)
     if not firmware.elf.code:
         return []
     found: Iterator[Related] = iter(())
     if number == "2" and place:
-        found = of_recursion(firmware, work, int(place, 16))
+        found = of_recursion(firmware, lines, int(place, 16))
     elif number == "3" and vector:
-        found = of_re_entry(firmware, work, int(vector))
+        found = of_re_entry(firmware, lines, int(vector))
     told = list(dict.fromkeys(found))
     more = len(told) - MOST_REASONS
     return told[:MOST_REASONS] + ([reason(firmware, f"and {more} more")] if more > 0 else [])

@@ -2,17 +2,17 @@
 
 from __future__ import annotations
 
-from typing import TYPE_CHECKING, Iterator, List, Optional, Tuple
+from typing import List, Optional, Tuple
 
 from stackcheck_tools.analysis import cures, cycles, refusals
 from stackcheck_tools.analysis.added import by_tool
 from stackcheck_tools.analysis.locations import of_vector, of_word, of_words
+from stackcheck_tools.analysis.questions import Refusal, Search, analyse
+from stackcheck_tools.analysis.settling import at_refusal
+from stackcheck_tools.analysis.state import Facts, State
 from stackcheck_tools.finding import ERROR, Finding, Location, Related
 from stackcheck_tools.firmware import candidates, opcodes
 from stackcheck_tools.firmware.firmware import Firmware
-
-if TYPE_CHECKING:
-    from stackcheck_tools.analysis.mending import Mending
 
 MOST_OTHERS = 8  # vectors that are tried behind the first that lets itself in
 # causes that lines cure
@@ -38,64 +38,67 @@ def message(firmware: Firmware, refusal: str) -> str:
                                    device=firmware.device.name, need=(text or "").rpartition(" ")[2], sram=firmware.device.sram())
 
 
-def lines_for(firmware: Firmware, work: Mending, name: str) -> List[str]:
+def lines_for(facts: Facts, state: State, name: str) -> Search[List[str]]:
     """The lines of a spec that this tool would write for a refusal of this cause, with all candidates."""
-    more = work.copy()
-    more.lines.given = set(more.lines.items)
-    if name == "division" and more.lines.add_pairs() or name in BY_LINES and more.at_refusal(work.refusal or ""):
-        return [it.spec or it.assumption for it in by_tool(firmware, more.lines)]
-    return []
+    given = state.under(state.lines.all_given())
+    more = given
+    if name == "division":
+        more = given.under(given.lines.add_pairs())
+    if more is given and name in BY_LINES:
+        more = yield from at_refusal(facts, given, state.refusal or "")
+    return [] if more.lines is given.lines else [it.spec or it.assumption for it in by_tool(facts.firmware, more.lines)]
 
 
-def others(firmware: Firmware, work: Mending, name: str, word: Optional[int]) -> List[int]:
+def others(facts: Facts, state: State, name: str, word: Optional[int]) -> Search[List[int]]:
     """The other words of the same kind, as far as the file or the program tells them."""
-    elf = firmware.elf
+    elf = facts.elf
     if name in ("recursion", "put"):
         found = [it.address // 2 for it in elf.code if it.is_function and it.address // 2 in candidates.reached(elf, it.address // 2)]
     elif name == "written flash":
         found = [at for words in candidates.code(elf) for at, opcode in words if opcode == opcodes.SPM]
     elif name in ("re-entry", "noblock", "merged"):
-        return list(other_vectors(firmware, work))
+        return (yield from other_vectors(state))
     else:
         return []
     return sorted(set(found) - {word})
 
 
-def other_vectors(firmware: Firmware, work: Mending) -> Iterator[int]:
-    """Yields the words of the vectors that let themselves in, beside the first: each with the ones before it left out."""
-    probe, text = work.copy(), work.refusal or ""
+def other_vectors(state: State) -> Search[List[int]]:
+    """The words of the vectors that let themselves in, beside the first: each with the ones before it left out."""
+    found: List[int] = []
+    lines, words = state.lines, (state.refusal or "").split()
     for _ in range(MOST_OTHERS):
-        words = text.split()
         if words[:3] != ["refused", "3", "re-entry"]:
-            return
-        probe.lines.add(int(words[6], 16), "never")
-        text = probe.analyse()[1].strip()
-        words = text.split()
+            break
+        lines = lines.add(int(words[6], 16), "never")
+        answer = yield from analyse(lines)
+        words = answer.text.split() if isinstance(answer, Refusal) else []
         if words[:3] == ["refused", "3", "re-entry"]:
-            yield int(words[6], 16)
+            found.append(int(words[6], 16))
+    return found
 
 
-def locations(firmware: Firmware, work: Mending, name: str, word: Optional[int]) -> Tuple[Location, ...]:
+def locations(facts: Facts, state: State, name: str, word: Optional[int]) -> Search[Tuple[Location, ...]]:
     """The place of a refusal, of a re-entry the handler, and all others of the same kind."""
     first: Tuple[Location, ...] = ()
+    firmware, vector = facts.firmware, cures.parts(state.refusal or "")[2]
     if word is not None:
-        first = of_vector(firmware, word) if cures.parts(work.refusal or "")[2] else (of_word(firmware, word),)
-    more = others(firmware, work, name, word)
-    if not cures.parts(work.refusal or "")[2]:
-        return first + of_words(firmware, more)
-    return first + tuple(of_vector(firmware, it)[0] for it in more)
+        first = of_vector(firmware, word) if vector else (of_word(firmware, word),)
+    more = yield from others(facts, state, name, word)
+    return first + (tuple(of_vector(firmware, it)[0] for it in more) if vector else of_words(firmware, more))
 
 
-def finding(firmware: Firmware, work: Mending) -> Finding:
+def finding(facts: Facts, state: State) -> Search[Finding]:
     """The one finding of an analysis that has no bound."""
-    refusal = work.refusal or ""
-    name, word = cures.cure(firmware.elf, firmware.device, refusal, work.lines)
-    reasons: List[Related] = refusals.reasons(firmware, work, refusal) or list(refusals.of_cause(firmware, name))
+    refusal, firmware = state.refusal or "", facts.firmware
+    name, word = cures.cure(firmware.elf, firmware.device, refusal, state.lines)
+    reasons: List[Related] = refusals.reasons(firmware, state.lines, refusal) or list(refusals.of_cause(firmware, name))
     _, why, cure = cures.CURES[name]
     cause, why, cure = refusals.overriding(name, reasons) or (name, why, cure)
-    notes = [Related("reason", note, of_word(firmware, at)) for at, note in work.notes]
+    notes = [Related("reason", note, of_word(firmware, at)) for at, note in state.notes]
+    lines = (yield from lines_for(facts, state, name)) or (yield from cycles.lines(facts, state))
     return Finding(
-        RULES[cures.parts(refusal)[0]], ERROR, message(firmware, refusal), locations(firmware, work, name, word),
+        RULES[cures.parts(refusal)[0]], ERROR, message(firmware, refusal), (yield from locations(facts, state, name, word)),
         tuple(it for it in (*reasons, *notes) if it.location.is_known()),
         (refusal, *(it.message for it in reasons if not it.location.is_known())),
-        cause=cause, why=why, cure=cure, spec_lines=tuple(lines_for(firmware, work, name) or list(cycles.lines(work))))
+        cause=cause, why=why, cure=cure, spec_lines=tuple(lines))

@@ -33,8 +33,7 @@ def narrower(outcome: Accepted) -> Iterator[Finding]:
         return
     told = []
     for site, words in sorted(lists.narrower.items()):
-        less = Lines(firmware.device)
-        less.put(site, "jump", words)
+        less = Lines(firmware.device).put(site, "jump", words)
         if words != lines.of(site, "jump"):
             told.append(line_of_spec(firmware, less, site, "jump") or less.line(site, "jump"))
     these = "this line" if len(told) == 1 else "these lines"

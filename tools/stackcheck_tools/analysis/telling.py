@@ -2,19 +2,17 @@
 
 from __future__ import annotations
 
-from typing import TYPE_CHECKING, Optional, Set
+from typing import AbstractSet, Optional
 
+from stackcheck_tools.analysis.runs import Stop
 from stackcheck_tools.firmware import candidates
 from stackcheck_tools.firmware.elf import Elf
 from stackcheck_tools.firmware.firmware import Firmware
 from stackcheck_tools.firmware.targets import constructors, tables
 from stackcheck_tools.spec.lines import Lines, spec_line
 
-if TYPE_CHECKING:
-    from stackcheck_tools.analysis.trials import Stop
 
-
-def names_of_tables(elf: Elf, items: Set[int]) -> Optional[str]:
+def names_of_tables(elf: Elf, items: AbstractSet[int]) -> Optional[str]:
     """`@constructors` and `@tables` where they are these words; None else."""
     known = {"@constructors": candidates.or_none(constructors, elf), "@tables": candidates.or_none(tables, elf)}
     found = [name for name, words in known.items() if words and words <= items]

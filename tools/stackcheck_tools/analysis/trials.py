@@ -2,40 +2,22 @@
 
 from __future__ import annotations
 
-import os
-import re
-from typing import Iterable, Iterator, List, NamedTuple, Optional, Set, Tuple
+from typing import FrozenSet, Iterator, List, NamedTuple, Optional, Set, Tuple
 
-from stackcheck_tools import progress
 from stackcheck_tools.analysis import core_registers
-from stackcheck_tools.analysis.program import OK, SCHEDULE, USAGE, Program
+from stackcheck_tools.analysis.questions import Search, trial
+from stackcheck_tools.analysis.runs import Ran, Run, Stop
 from stackcheck_tools.firmware import opcodes
 from stackcheck_tools.firmware.candidates import start
 from stackcheck_tools.firmware.devices import Device
 from stackcheck_tools.firmware.elf import Elf
+from stackcheck_tools.spec.lines import Lines
 
-STOP = re.compile(r"steps (\d+) depth (\d+) stop (\w+)(?: ([0-9A-F]{4,5}))?(?: ([0-9A-F]{4,5}))?")
-FLAGGED = ("live", "protected", "transfer", "moved")
 BYTES = (0x00, 0xFF, 0x55, 0xAA, 0x01, 0x20)
 LONG = 60_000  # steps of a run of the tool `flagged`
 MOST_TAKES = 40
+STEPS = (20, 60, 150, 400, 1500, 9000)  # at which a schedule of one take is tried
 DEVICE_LINES, MOST_RECEIVED = 32, 64
-
-
-NO_OTHER = -1  # no address and no target
-
-
-class Stop:
-    """A stop: its kind, the word of the step, and the address or target where it has one."""
-
-    def __init__(self, kind: str, word: int, other: int) -> None:
-        self.kind, self.word, self.other = kind, word, other
-
-    def has_other(self) -> bool:
-        return self.other != NO_OTHER
-
-    def key(self) -> Tuple[str, int, int]:
-        return self.kind, self.word, self.other
 
 
 class Kind(NamedTuple):
@@ -73,28 +55,20 @@ class Scope(NamedTuple):
     bound: int
     is_attained: bool
     may_flag: bool
-    entered: Optional[Set[int]]
+    entered: Optional[FrozenSet[int]]
 
     def is_told(self, deepest: Optional[int]) -> bool:
         """Whether no further run can tell anything, after runs so deep."""
         return not self.may_flag and (self.is_attained or deepest is not None and deepest >= self.bound)
 
 
-def scope(certificate: str, told: Optional[List[str]]) -> Scope:
+def scope(certificate: str, told: List[str]) -> Scope:
     """The scope of a certificate, by the lines that `premises` prints of it: a run is flagged at its places alone, or where it takes the
     vector of one of its `never` lines."""
     lines = certificate.splitlines()
     bound = next(int(it.split()[1]) for it in lines if it.startswith("bound "))
-    entered = None if told is None else {int(it.split()[1], 16) for it in told if it.startswith("never ")}
-    return Scope(bound, "witness attained" in lines, told is None or bool(told), entered)
-
-
-class Run(NamedTuple):
-    """A run as it can be done again: the command of `stackbound`, its file's text and the options behind it."""
-
-    command: str
-    text: str
-    options: Tuple[str, ...]
+    entered = frozenset(int(it.split()[1], 16) for it in told if it.startswith("never "))
+    return Scope(bound, "witness attained" in lines, bool(told), entered)
 
 
 def handled(elf: Elf, device: Device) -> List[int]:
@@ -125,99 +99,44 @@ def is_receiver(device: Device, vector: int) -> bool:
     return not device.vectors[vector].startswith(("TIM", "WDT", "WATCHDOG"))
 
 
-class Trials:
-    """Runs on one program, whose files are made in a folder. `deepest` is how deep they went before a flagged step, `deepest_run` the run;
-    None where none was done. `idle` are those of the vectors that no run takes."""
+class Tried(NamedTuple):
+    """What runs behind a bound have shown: the number of the flagged one, or the number of all, its flagged step, and how deep they went before
+    one, with the deepest run."""
 
-    def __init__(self, program: Program, folder: str, elf: Elf, device: Device, vectors: List[int], idle: Iterable[int] = ()) -> None:
-        self.program, self.folder, self.device, self.vectors, self.idle = program, folder, device, vectors, set(idle)
-        self.has_simulate = True
-        self.deepest: Optional[int] = None
-        self.deepest_run: Optional[Run] = None
-        self.bytes = told_apart(elf, device)
+    number: int
+    stop: Optional[Stop] = None
+    deepest: Optional[int] = None
+    deepest_run: Optional[Run] = None
 
-    def answer(self, run: Run) -> Tuple[int, str]:
-        path = os.path.join(self.folder, run.command)
-        with open(path, "w", encoding="ascii", newline="\n") as file:
-            file.write(run.text)
-        return self.program.call(run.command, path, *run.options)
+    def behind(self, number: int, run: Run, ran: Ran) -> Tried:
+        """The same after another run."""
+        deepest, its = self.deepest, self.deepest_run
+        if ran.depth is not None and (deepest is None or ran.depth > deepest):
+            deepest, its = ran.depth, run
+        return Tried(number, ran.stop, deepest, its)
 
-    def stop(self, status: int, text: str, run: Run) -> Optional[Stop]:
-        found = STOP.match(text) if status == OK else None
-        if not found:
-            return None
-        if self.deepest is None or int(found[2]) > self.deepest:
-            self.deepest, self.deepest_run = int(found[2]), run
-        if found[3] not in FLAGGED:
-            return None
-        return Stop(found[3], int(found[4], 16), int(found[5], 16) if found[5] else NO_OTHER)
 
-    def simulation(self, fill: int, lines: List[str], steps: int) -> Optional[Stop]:
-        """The stop of a run with these timers and receivers; None also where the program has no `simulate`."""
-        text = "\n".join(["devices 1", f"fill {fill:02X}", *lines[:DEVICE_LINES], "end", ""])
-        run = Run("simulate", text, ("--steps", str(steps)))
-        status, text = self.answer(run)
-        self.has_simulate = self.has_simulate and status != USAGE
-        return self.stop(status, text, run)
+def simulation(fill: int, lines: List[str], steps: int) -> Run:
+    """A run with these timers and receivers."""
+    return Run("simulate", "\n".join(["devices 1", f"fill {fill:02X}", *lines[:DEVICE_LINES], "end", ""]), ("--steps", str(steps)))
 
-    def simulated(self, byte: int) -> Iterator[Optional[Stop]]:
-        """Yields the stops of runs that take each vector whenever it may be taken: by `simulate`, where the program has it."""
-        for first in (0, 50, 1000):
-            yield self.simulation(byte, [f"timer {vector} {first + 7 * n} {23 + 10 * n}" for n, vector in enumerate(self.vectors)], LONG)
-            if not self.has_simulate:
-                return
 
-    def legal(self, byte: int, takes: List[Tuple[int, int]]) -> Tuple[Optional[Stop], Optional[int]]:
-        """The stop of a schedule with these takes (step, vector) and a long run behind them; the number of the first take that isn't
-        legal."""
-        lines, at, numbers = ["schedule 1", f"fill {byte:02X}"], 0, {}
-        for number, (step, vector) in enumerate(takes):
-            if step > at:
-                lines.append(f"go {step - at} {byte:02X} {byte:02X}")
-            numbers[step + number] = number
-            lines.append(f"take {vector} 0")
-            at = step
-        run = Run("run", "\n".join([*lines, f"go {LONG - at} {byte:02X} {byte:02X}", "end", ""]), ())
-        status, text = self.answer(run)
-        if status == SCHEDULE and text.startswith("schedule illegal step "):
-            return None, numbers.get(int(text.split()[3]), -1)
-        return self.stop(status, text, run), None
+class Trials(NamedTuple):
+    """The trial runs of a firmware: the lines under which they run, the vectors that they take, those of them that no run takes, and the bytes
+    that the firmware tells apart."""
 
-    def replayed(self, byte: int) -> Iterator[Optional[Stop]]:
-        """Yields the stops of schedules: none, each vector alone at several steps, and then all that could be taken, one behind the
-        other."""
-        yield self.legal(byte, [])[0]
-        taken = []
-        for vector in self.vectors:
-            for step in (20, 60, 150, 400, 1500, 9000):
-                stop, illegal = self.legal(byte, [(step, vector)])
-                if illegal is None:
-                    yield stop
-                    taken.append(vector)
-                    break
-        if not taken:
-            return
-        takes = [(400 + 97 * n, taken[n % len(taken)]) for n in range(MOST_TAKES)]
-        while takes:
-            stop, illegal = self.legal(byte, takes)
-            if illegal is None:
-                yield stop
-                return
-            takes = takes[:illegal] + takes[illegal + 1:] if illegal >= 0 else []
+    lines: Lines
+    vectors: Tuple[int, ...]
+    idle: FrozenSet[int]
+    bytes: Tuple[int, ...]
 
-    def stops(self) -> Iterator[Stop]:
-        for byte in BYTES:
-            yield from (it for it in self.replayed(byte) if it)
-            if self.has_simulate:
-                yield from (it for it in self.simulated(byte) if it)
-
-    def turned(self, kind: Kind) -> List[int]:
+    def turned(self, kind: Kind) -> Tuple[int, ...]:
         """The bytes that the firmware tells apart, from another one on in each run."""
         at = kind.turn % len(self.bytes)
         return self.bytes[at:] + self.bytes[:at]
 
-    def polled(self, kind: Kind) -> Optional[Stop]:
-        """The stop of a schedule without interrupts, in which the inputs are one byte after the other."""
+    def polled(self, kind: Kind) -> Run:
+        """A schedule without interrupts, in which the inputs are one byte after the other."""
         found, last = self.turned(kind), ""
         lines = ["schedule 1", f"fill {found[0]:02X}"]
         counts: List[int] = []
@@ -230,35 +149,101 @@ class Trials:
                 counts.append(kind.period)
             last = pair
         lines[2:] = [f"go {count} {pair}" for count, pair in zip(counts, lines[2:])]
-        run = Run("run", "\n".join([*lines, "end", ""]), ())
-        return self.stop(*self.answer(run), run)
+        return Run("run", "\n".join([*lines, "end", ""]))
 
-    def asked(self, kind: Kind) -> Optional[Stop]:
-        """The stop of a run with timers and receivers: all vectors as timers, or those whose interrupt brings a byte as receivers."""
+    def asked(self, kind: Kind) -> Run:
+        """A run with timers and receivers: all vectors as timers, or those whose interrupt brings a byte as receivers."""
         found, lines = self.turned(kind), []
         received = " ".join(f"{found[n % len(found)]:02X}" for n in range(MOST_RECEIVED))
         for n, vector in enumerate(self.vectors):
             first, period = kind.first + 7 * n, kind.period + 10 * n
             if vector in self.idle:  # its request would only cost time
                 continue
-            if kind.what == "bytes" and is_receiver(self.device, vector):
+            if kind.what == "bytes" and is_receiver(self.lines.device, vector):
                 lines.append(f"bytes {vector} {first} {period} {received}")
             else:
                 lines.append(f"timer {vector} {first} {period if kind.what == 'timers' else 3 * period}")
-        return self.simulation(found[0], lines, kind.steps)
+        return simulation(found[0], lines, kind.steps)
 
-    def short(self, number: int) -> Optional[Stop]:
-        """The stop of a run of those behind a bound, by its number."""
+    def run(self, number: int) -> Run:
+        """A run of those behind a bound, by its number."""
         kind = KINDS[number % len(KINDS)]
-        progress.at(f"simulated run {number + 1}")
-        return self.polled(kind) if kind.what == "polls" or not self.has_simulate else self.asked(kind)
+        return self.polled(kind) if kind.what == "polls" else self.asked(kind)
 
-    def first_flagged(self, scope: Scope, count: Optional[int] = None, begin: int = 0) -> Tuple[int, Optional[Stop]]:
-        """The number and the stop of the first of these runs that is flagged, from a number on, as long as they can tell something."""
-        end = len(KINDS) if count is None else count
-        for number in range(begin, end):
-            if scope.is_told(self.deepest):
-                break
-            if stop := self.short(number):
-                return number, stop
-        return end, None
+    def simulated(self, byte: int) -> Iterator[Run]:
+        """Yields runs that take each vector whenever it may be taken."""
+        for first in (0, 50, 1000):
+            yield simulation(byte, [f"timer {vector} {first + 7 * n} {23 + 10 * n}" for n, vector in enumerate(self.vectors)], LONG)
+
+
+def short(trials: Trials, number: int) -> Search[Ran]:
+    """What comes of a run of those behind a bound, by its number."""
+    return (yield from trial(trials.lines, trials.run(number), number))
+
+
+def first_flagged(trials: Trials, scope: Scope, end: Optional[int], tried: Tried) -> Search[Tried]:
+    """The first of these runs that is flagged, from the number on at which others have come, as long as they can tell something."""
+    last = len(KINDS) if end is None else end
+    for number in range(tried.number, last):
+        if scope.is_told(tried.deepest):
+            break
+        tried = tried.behind(number, trials.run(number), (yield from short(trials, number)))
+        if tried.stop:
+            return tried
+    return tried._replace(number=last, stop=None)
+
+
+def schedule(byte: int, takes: List[Tuple[int, int]]) -> Run:
+    """A schedule with these takes (step, vector) and a long run behind them."""
+    lines, at = ["schedule 1", f"fill {byte:02X}"], 0
+    for step, vector in takes:
+        if step > at:
+            lines.append(f"go {step - at} {byte:02X} {byte:02X}")
+        lines.append(f"take {vector} 0")
+        at = step
+    return Run("run", "\n".join([*lines, f"go {LONG - at} {byte:02X} {byte:02X}", "end", ""]))
+
+
+def illegal_take(takes: List[Tuple[int, int]], step: int) -> int:
+    """The number of the first take of a schedule that isn't legal, by the step that the program names; -1 where it is none of them."""
+    return next((number for number, (at, _) in enumerate(takes) if at + number == step), -1)
+
+
+def unseen(ran: Ran, seen: Set[Stop]) -> Optional[Stop]:
+    """The flagged step of a run, if it is none of those seen."""
+    return ran.stop if ran.stop and ran.stop not in seen else None
+
+
+def replayed(trials: Trials, byte: int, seen: Set[Stop]) -> Search[Optional[Stop]]:
+    """The first unseen stop of schedules: none, each vector alone at several steps, and then all that could be taken, one behind the other."""
+    taken: List[int] = []
+    ran = yield from trial(trials.lines, schedule(byte, []))
+    if found := unseen(ran, seen):
+        return found
+    for vector, step in ((vector, step) for vector in trials.vectors for step in STEPS):
+        if vector in taken:
+            continue
+        ran = yield from trial(trials.lines, schedule(byte, [(step, vector)]))
+        if ran.illegal is None:
+            taken.append(vector)
+        if found := unseen(ran, seen):
+            return found
+    takes = [(400 + 97 * n, taken[n % len(taken)]) for n in range(MOST_TAKES if taken else 0)]
+    while takes:
+        ran = yield from trial(trials.lines, schedule(byte, takes))
+        if ran.illegal is None:
+            return unseen(ran, seen)
+        illegal = illegal_take(takes, ran.illegal)
+        takes = takes[:illegal] + takes[illegal + 1:] if illegal >= 0 else []
+    return None
+
+
+def next_stop(trials: Trials, seen: Set[Stop]) -> Search[Optional[Stop]]:
+    """The first stop of the runs of the tool `flagged` that isn't among those seen."""
+    for byte in BYTES:
+        if found := (yield from replayed(trials, byte, seen)):
+            return found
+        for run in trials.simulated(byte):
+            if found := unseen((yield from trial(trials.lines, run)), seen):
+                return found
+    return None

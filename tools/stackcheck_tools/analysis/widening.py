@@ -3,17 +3,16 @@ but those that can't have them all."""
 
 from __future__ import annotations
 
-from dataclasses import dataclass, field
-from typing import TYPE_CHECKING, Dict, FrozenSet, List, Optional, Set
+from dataclasses import replace
+from typing import Dict, FrozenSet, List, Optional
 
+from stackcheck_tools.analysis.questions import Search
+from stackcheck_tools.analysis.settling import attempt, with_own
+from stackcheck_tools.analysis.state import Facts, State
 from stackcheck_tools.dataflow import calls
 from stackcheck_tools.firmware import candidates, debug_lines, switches
 from stackcheck_tools.firmware.elf import Elf
-from stackcheck_tools.spec.lines import Lines
 from stackcheck_tools.spec.spec import MOST_ITEMS
-
-if TYPE_CHECKING:
-    from stackcheck_tools.analysis.mending import Mending
 
 # avr-libc's functions that call what they are given: a stream's functions, a comparison
 GIVEN_ONE = ("fputc", "fgetc", "fputs", "fputs_P", "puts", "puts_P", "fwrite", "fread", "fgets", "gets", "ungetc", "bsearch", "qsort")
@@ -38,20 +37,6 @@ TOO_MANY = "{} functions have their address taken, and a list has at most {}"
 RECORDS = "link with -Wl,--emit-relocs: then the linker's records name every function whose address is taken"
 
 
-@dataclass
-class Lists:
-    """What is known of the lists of calls through pointers: at which sites they are complete, why at others they aren't, and the lines
-    under which the bound was lower, with that bound."""
-
-    whole: Set[int] = field(default_factory=set)
-    why: Dict[int, str] = field(default_factory=dict)
-    narrower: Dict[int, Set[int]] = field(default_factory=dict)
-    bound: Optional[int] = None
-
-    def copy(self) -> "Lists":
-        return Lists(set(self.whole), dict(self.why), dict(self.narrower), self.bound)
-
-
 def bound_of(certificate: Optional[str]) -> int:
     """The bound that a certificate has."""
     return next((int(line.split()[1]) for line in (certificate or "").splitlines() if line.startswith("bound ")), 0)
@@ -69,96 +54,116 @@ def is_of_streams(elf: Elf, site: int) -> bool:
     return symbol is not None and symbol.name in GIVEN_ONE and not debug_lines.of(elf).source(2 * site)
 
 
+def why_none(facts: Facts, site: int) -> str:
+    """Why no complete list of a site is known."""
+    return UNKNOWN_TABLE if site in switches.of_helper_itself(facts.elf) else UNNAMED
+
+
+def complete(found: calls.Complete) -> str:
+    """Why a list is complete."""
+    return COMPLETE[found.kind].format(RECORDED if found.by_records else SEARCHED)
+
+
 class Widening:
-    """The lists of a firmware that has a bound."""
+    """The lists of a firmware that has a bound: `reached` are the words that its certificate reaches. All else is in states."""
 
-    def __init__(self, work: "Mending") -> None:
-        self.work, self.elf, self.device = work, work.elf, work.device
-        self.reached = nodes_of(work.certificate)
-        self.wanted: Dict[int, Set[int]] = {}
-        self.found: Dict[int, calls.Complete] = {}
+    def __init__(self, facts: Facts, reached: FrozenSet[int]) -> None:
+        self.facts, self.reached = facts, reached
+        self.lists: Dict[int, Optional[calls.Complete]] = {}
 
-    def open_sites(self) -> List[int]:
+    def list_of(self, site: int) -> Optional[calls.Complete]:
+        """What a site may enter, which no line changes."""
+        if site not in self.lists:
+            self.lists[site] = calls.of_site(self.facts.elf, self.facts.device, site, self.reached)
+        return self.lists[site]
+
+    def open_sites(self, state: State) -> List[int]:
         """The sites of calls through pointers whose lines this tool wrote and of which nothing is known yet."""
-        lists = self.work.lists
-        known = {*candidates.indirect(self.elf), *switches.of_helper_itself(self.elf)}
-        return [site for site, kind in self.work.lines.written() if kind == "jump" and site in known and site not in lists.whole
+        elf, lists = self.facts.elf, state.lists
+        known = {*candidates.indirect(elf), *switches.of_helper_itself(elf)}
+        return [site for site, kind in state.lines.written() if kind == "jump" and site in known and site not in lists.whole
                 and site not in lists.why]
 
-    def want(self, site: int) -> None:
-        """Works out the complete list of a site, or why there is none."""
-        lists, found = self.work.lists, calls.of_site(self.elf, self.device, site, self.reached)
-        if found is None:
-            lists.why[site] = UNKNOWN_TABLE if site in switches.of_helper_itself(self.elf) else UNNAMED
-            return
-        self.found[site] = found
-        now, seen = self.work.lines.of(site, "jump"), {word for at, word in self.work.pinned if at == site}
+    def why_not(self, state: State, site: int, found: calls.Complete) -> Optional[str]:
+        """Why a list that is known is no complete one; None where it is."""
+        seen = {word for at, word in state.pinned if at == site}
         if refuting := seen - set(found.words):
-            lists.why[site] = REFUTED.format(" ".join(map(self.work.firmware.function, sorted(refuting))))
-            return
-        if not found.words and not is_of_streams(self.elf, site):
-            lists.why[site] = EMPTY
-            return
-        words = set(found.words) or set(now)
-        if words == now:
-            self.take(site)
-        elif len(words) > MOST_ITEMS:
-            lists.why[site] = TOO_MANY.format(len(words), MOST_ITEMS)
-        else:
-            self.wanted[site] = words
+            return REFUTED.format(" ".join(map(self.facts.firmware.function, sorted(refuting))))
+        return None if found.words or is_of_streams(self.facts.elf, site) else EMPTY
 
-    def take(self, site: int) -> None:
-        found = self.found[site]
-        self.work.lists.whole.add(site)
-        self.work.lists.why[site] = COMPLETE[found.kind].format(RECORDED if found.by_records else SEARCHED)
+    def wanted(self, state: State, site: int) -> FrozenSet[int]:
+        """The complete list of a site; what it has now where no function is known that it could have."""
+        found = self.list_of(site)
+        return frozenset(found.words if found else ()) or frozenset(state.lines.of(site, "jump"))
 
-    def attempt(self, sites: List[int]) -> bool:
-        """Whether there is a bound where these sites have their complete lists, which they keep then."""
-        def widen(lines: Lines) -> None:
-            for site in sites:
-                lines.put(site, "jump", self.wanted[site])
+    def told(self, state: State, site: int) -> State:
+        """Notes a list that is complete as it is, or why none is; the same where the complete list is still to be tried."""
+        found = self.list_of(site)
+        why = why_none(self.facts, site) if found is None else self.why_not(state, site, found)
+        if found is None or why:
+            return replace(state, lists=state.lists.told(site, why or ""))
+        words = self.wanted(state, site)
+        if words == state.lines.of(site, "jump"):
+            return self.taken(state, site)
+        if len(words) > MOST_ITEMS:
+            return replace(state, lists=state.lists.told(site, TOO_MANY.format(len(words), MOST_ITEMS)))
+        return state
 
-        work = self.work
-        before, lines = work.certificate, {site: set(work.lines.of(site, "jump")) for site in sites}
-        work.lists.whole |= set(sites)
-        if not work.attempt(widen):
-            work.lists.whole -= set(sites)
-            return False
-        if work.lists.bound is None:
-            work.lists.bound = bound_of(before)
-        work.lists.narrower.update(lines)
+    def taken(self, state: State, site: int) -> State:
+        """Notes that a list is complete."""
+        found, lists = self.list_of(site), state.lists
+        return replace(state, lists=replace(lists, whole=lists.whole | {site}).told(site, complete(found) if found else ""))
+
+    def attempt(self, state: State, sites: List[int]) -> Search[Optional[State]]:
+        """These sites with their complete lists, where there is a bound then."""
+        lines, narrower = state.lines, {site: frozenset(state.lines.of(site, "jump")) for site in sites}
         for site in sites:
-            self.take(site)
-        return True
+            lines = lines.put(site, "jump", self.wanted(state, site))
+        whole = replace(state, lists=replace(state.lists, whole=state.lists.whole | set(sites)))
+        found = yield from attempt(self.facts, whole, lines)
+        if found is None:
+            return None
+        bound = bound_of(state.certificate) if found.lists.bound is None else found.lists.bound
+        found = replace(found, lists=replace(found.lists, bound=bound, narrower={**found.lists.narrower, **narrower}))
+        for site in sites:
+            found = self.taken(found, site)
+        return found
 
-    def round(self) -> None:
+    def given_up(self, state: State, site: int, why: str) -> State:
+        """Notes why a list isn't complete, if it lacks anything."""
+        state = replace(state, lists=state.lists.told(site, why))
+        return self.taken(state, site) if self.wanted(state, site) <= state.lines.of(site, "jump") else state
+
+    def round(self, state: State) -> Search[State]:
         """The lists of all open sites, all together or else one by one."""
-        self.wanted = {}
-        for site in self.open_sites():
-            self.want(site)
-        sites = sorted(self.wanted)
-        if not sites or self.attempt(sites):
-            return
+        for site in self.open_sites(state):
+            state = self.told(state, site)
+        sites = sorted(self.open_sites(state))
+        if not sites:
+            return state
+        if found := (yield from self.attempt(state, sites)):
+            return found
         for number, site in enumerate(sites):
-            if len(sites) == 1 or number >= MOST_TRIED or not self.attempt([site]):
-                has_all = self.wanted[site] <= self.work.lines.of(site, "jump")
-                self.work.lists.why[site] = UNTRIED if number >= MOST_TRIED else NONE
-                if has_all:
-                    self.take(site)
+            is_tried = number < MOST_TRIED
+            found = (yield from self.attempt(state, [site])) if is_tried and len(sites) > 1 else None
+            state = found or self.given_up(state, site, NONE if is_tried else UNTRIED)
+        return state
 
-    def run(self) -> None:
+    def run(self, state: State) -> Search[State]:
         for _ in range(ROUNDS):
-            if not self.open_sites():
+            if not self.open_sites(state):
                 break
-            self.round()
-        lists = self.work.lists
-        for _ in range(ROUNDS if lists.narrower else 0):  # stores that are reached only now
-            if not self.work.add_own():
+            state = yield from self.round(state)
+        for _ in range(ROUNDS if state.lists.narrower else 0):  # stores that are reached only now
+            state, is_new = yield from with_own(self.facts, state)
+            if not is_new:
                 break
-        lists = self.work.lists
-        if lists.bound is not None and bound_of(self.work.certificate) <= lists.bound:
-            lists.bound, lists.narrower = None, {}
+        lists = state.lists
+        if lists.bound is not None and bound_of(state.certificate) <= lists.bound:
+            lists = replace(lists, bound=None, narrower={})
+        return replace(state, lists=lists)
 
 
-def widen(work: "Mending") -> None:
-    Widening(work).run()
+def widened(facts: Facts, state: State) -> Search[State]:
+    """With complete lists, where there is a bound then."""
+    return (yield from Widening(facts, nodes_of(state.certificate)).run(state))

@@ -21,9 +21,7 @@ def assumed(certificate: str) -> str:
 
 def with_never(device: Device, text: str, word: int) -> str:
     """An assumption file with a `never` line more, in its place."""
-    lines = Lines(device, text)
-    lines.add(word, "never")
-    return lines.text()
+    return Lines.read(device, text).add(word, "never").text()
 
 
 def bound_without(outcome: Accepted, word: int, folder: str) -> Optional[int]:

@@ -2,7 +2,8 @@
 
 from __future__ import annotations
 
-from typing import Iterable, List, Optional, Set, Tuple
+from dataclasses import dataclass, field, replace
+from typing import Dict, FrozenSet, Iterable, List, Mapping, Optional, Set, Tuple
 
 from stackcheck_tools.firmware import opcodes
 from stackcheck_tools.firmware.devices import Device
@@ -13,22 +14,41 @@ from stackcheck_tools.spec.sites import SITES, STORES
 from stackcheck_tools.spec.spec import KINDS, MASKS, MOST_ITEMS, NOWHERE, PAIRS, Spec, assumption_line, words_of
 
 
-class Lines:
-    """Lines with their items. Those of a text are given: they never change, and what is added later stands at other sites or is of other
-    kinds."""
+Key = Tuple[int, int]  # a site, and the number of a kind
 
-    def __init__(self, device: Device, text: str = "") -> None:
-        self.device, self.items, self.given = device, {}, set()
+
+def read_items(kind: str, words: List[str]) -> Tuple[int, FrozenSet[int]]:
+    """The site and the items of a line of an assumption file, by the words behind its kind."""
+    site, *items = [int(it, 10 if at and kind == recursion.KIND else 16) for at, it in enumerate(words)] or [NOWHERE]
+    return site, frozenset(items)
+
+
+@dataclass(frozen=True)
+class Lines:
+    """Lines with their items, which never change: what is added or dropped makes other lines. Those that are given stay as they are: what is
+    added later stands at other sites or is of other kinds."""
+
+    device: Device
+    items: Mapping[Key, FrozenSet[int]] = field(default_factory=dict)
+    given: FrozenSet[Key] = frozenset()
+
+    @classmethod
+    def read(cls, device: Device, text: str) -> Lines:
+        """The lines of an assumption file, all of them given."""
+        found: Dict[Key, FrozenSet[int]] = {}
         for line in text.splitlines():
             kind, *words = line.split()
-            site, *items = [int(it, 10 if at and kind == recursion.KIND else 16) for at, it in enumerate(words)] or [NOWHERE]
-            self.items[site, KINDS.index(kind)] = set(items)
-        self.given = set(self.items)
+            site, items = read_items(kind, words)
+            found[site, KINDS.index(kind)] = items
+        return cls(device, found, frozenset(found))
 
-    def copy(self) -> Lines:
-        other = Lines(self.device)
-        other.items, other.given = {key: set(items) for key, items in self.items.items()}, set(self.given)
-        return other
+    def all_given(self) -> Lines:
+        """The same, as if a spec had all of them."""
+        return replace(self, given=frozenset(self.items))
+
+    def none_given(self) -> Lines:
+        """The same, as if a spec had none of them."""
+        return replace(self, given=frozenset())
 
     def has(self, site: int, kind: str) -> bool:
         return (site, KINDS.index(kind)) in self.items
@@ -37,38 +57,48 @@ class Lines:
         return (site, KINDS.index(kind)) in self.given
 
     def of(self, site: int, kind: str) -> Set[int]:
-        return self.items.get((site, KINDS.index(kind)), set())
+        """The items of a line, which the caller may change; none where there is no line."""
+        return set(self.items.get((site, KINDS.index(kind)), ()))
 
     def may_add(self, site: int, kind: str, items: Iterable[int] = ()) -> bool:
         """Whether a line may be added or grow by these items: none that was given, and none that would grow too long."""
         return not self.is_given(site, kind) and len(self.of(site, kind) | set(items)) <= MOST_ITEMS
 
-    def add(self, site: int, kind: str, items: Iterable[int] = ()) -> bool:
-        """Adds a line or its items; whether that says something new."""
-        key, is_new = (site, KINDS.index(kind)), not self.has(site, kind) or not set(items) <= self.of(site, kind)
-        self.items.setdefault(key, set()).update(items)
-        return is_new
+    def add(self, site: int, kind: str, items: Iterable[int] = ()) -> Lines:
+        """With a line or its items; the same object where that says nothing new."""
+        more = frozenset(items)
+        if self.has(site, kind) and more <= self.of(site, kind):
+            return self
+        return self.put(site, kind, self.of(site, kind) | more)
+
+    def add_each(self, sites: Iterable[int], kind: str) -> Lines:
+        """With a line of this kind at each of these sites; the same object where each is there."""
+        lines = self
+        for site in sites:
+            lines = lines.add(site, kind)
+        return lines
 
     def has_pairs(self) -> bool:
         return self.has(NOWHERE, PAIRS)
 
-    def add_pairs(self) -> bool:
-        """Adds the line `pairs`, at the head of all others."""
+    def add_pairs(self) -> Lines:
+        """With the line `pairs`, at the head of all others."""
         return self.add(NOWHERE, PAIRS)
 
     def has_masks(self) -> bool:
         return self.has(NOWHERE, MASKS)
 
-    def put(self, site: int, kind: str, items: Iterable[int]) -> None:
-        self.items[site, KINDS.index(kind)] = set(items)
+    def put(self, site: int, kind: str, items: Iterable[int]) -> Lines:
+        """With these items at a site, in place of those that stand there."""
+        return replace(self, items={**self.items, (site, KINDS.index(kind)): frozenset(items)})
 
-    def give(self, site: int, kind: str, items: Set[int]) -> None:
-        """Puts a line that counts as given."""
-        self.put(site, kind, items)
-        self.given.add((site, KINDS.index(kind)))
+    def give(self, site: int, kind: str, items: Iterable[int]) -> Lines:
+        """With a line that counts as given."""
+        return replace(self.put(site, kind, items), given=self.given | {(site, KINDS.index(kind))})
 
-    def drop(self, site: int, kind: str) -> None:
-        del self.items[site, KINDS.index(kind)]
+    def drop(self, site: int, kind: str) -> Lines:
+        """Without a line."""
+        return replace(self, items={key: it for key, it in self.items.items() if key != (site, KINDS.index(kind))})
 
     def sites(self, kind: str) -> List[int]:
         """The sites of all lines of a kind, in ascending order."""

@@ -4,7 +4,8 @@ assumption file: no call enters ENTRY while more than K bytes are on the stack, 
 from __future__ import annotations
 
 import itertools
-from typing import TYPE_CHECKING, Dict, Iterator, List, NamedTuple, Optional, Tuple
+from dataclasses import dataclass, field, replace
+from typing import TYPE_CHECKING, Dict, Iterator, List, Mapping, NamedTuple, Optional, Sequence, Tuple
 
 from stackcheck_tools.firmware import opcodes
 from stackcheck_tools.firmware.devices import Device
@@ -25,15 +26,22 @@ LEAST_GREATEST = 2048  # the greatest K on a device with less SRAM
 Counts = Tuple[int, ...]
 
 
+@dataclass(frozen=True)
 class Recursion:
-    """A line of a spec: its number and text, the words of the function, the most activations at a time, why, and the depth of each word.
-    One without a number in the spec has as many activations as simulated runs reached."""
+    """A line of a spec: its number and the function, its words, the most activations at a time, why, and the depth of each word with the bytes
+    that one activation more takes. One without a number in the spec has as many activations as simulated runs reached."""
 
-    def __init__(self, number: Optional[int], name: str, entries: List[int], count: int, why: str) -> None:
-        self.number, self.name, self.entries, self.count = number, name, entries, count
-        self.why = why or f"`recursion {name} {count}`"
-        self.depths: Dict[int, int] = {}
-        self.steps: Dict[int, int] = {}
+    number: Optional[int]
+    name: str
+    entries: Tuple[int, ...]
+    count: int
+    reason: str = ""
+    depths: Mapping[int, int] = field(default_factory=dict)
+    steps: Mapping[int, int] = field(default_factory=dict)
+
+    @property
+    def why(self) -> str:
+        return self.reason or f"`recursion {self.name} {self.count}`"
 
     def end(self) -> str:
         return ""
@@ -58,7 +66,7 @@ def read(elf: Elf, number: int, words: List[str], why: str) -> Recursion:
         raise SpecFault("expected `recursion FUNCTION N`")
     if not words[2].isdecimal() or int(words[2]) < 1 or int(words[2]) > LEAST_GREATEST:
         raise SpecFault(f"{words[2]} is no number of activations: 1 to {LEAST_GREATEST}")
-    return Recursion(number, words[1], sorted({it.address // 2 for it in functions(elf, words[1])}), int(words[2]), why)
+    return Recursion(number, words[1], tuple(sorted({it.address // 2 for it in functions(elf, words[1])})), int(words[2]), why)
 
 
 def greatest(device: Device) -> int:
@@ -160,7 +168,7 @@ class Nest:
                 base[to, edge.to] = depth + self.device.back
 
 
-def numbered(recursions: List[Recursion]) -> List[Tuple[int, Recursion]]:
+def numbered(recursions: Sequence[Recursion]) -> List[Tuple[int, Recursion]]:
     """The words with their lines, in ascending order."""
     found: Dict[int, Recursion] = {}
     for it in recursions:
@@ -171,8 +179,8 @@ def numbered(recursions: List[Recursion]) -> List[Tuple[int, Recursion]]:
     return sorted(found.items(), key=lambda it: it[0])
 
 
-def settle(firmware: Firmware, certificate: str, recursions: List[Recursion]) -> Dict[int, int]:
-    """The K of each word by a certificate under depth 0, noted at the lines too."""
+def settled(firmware: Firmware, certificate: str, recursions: Sequence[Recursion]) -> Tuple[Recursion, ...]:
+    """The lines with the K of each word, by a certificate under depth 0."""
     words = numbered(recursions)
     nest = Nest(firmware, certificate, [entry for entry, _ in words])
     states = len(nest.ranks)
@@ -181,31 +189,32 @@ def settle(firmware: Firmware, certificate: str, recursions: List[Recursion]) ->
     if states > MOST_STATES:
         raise SpecFault("the numbers of these lines are too great together: fewer functions of a cycle, or smaller ones",
                         words[-1][1].number, "SB008")
-    found: Dict[int, int] = {}
-    for (entry, it), depths in zip(words, nest.depths(tuple(it.count for _, it in words))):
-        known = [depth for depth in depths if depth >= 0]
-        found[entry] = it.depths[entry] = min(max(known, default=0), greatest(firmware.device))
-        it.steps[entry] = max(known) - max(known[:-1]) if len(known) > 1 else 0
-    return found
+    depths: Dict[int, int] = {}
+    steps: Dict[int, int] = {}
+    for (entry, it), found in zip(words, nest.depths(tuple(it.count for _, it in words))):
+        known = [depth for depth in found if depth >= 0]
+        depths[entry] = min(max(known, default=0), greatest(firmware.device))
+        steps[entry] = max(known) - max(known[:-1]) if len(known) > 1 else 0
+    return tuple(replace(it, depths={at: depths[at] for at in it.entries}, steps={at: steps[at] for at in it.entries}) for it in recursions)
 
 
-def line_at(recursions: List[Recursion], word: Optional[int]) -> Optional[Recursion]:
+def line_at(recursions: Sequence[Recursion], word: Optional[int]) -> Optional[Recursion]:
     """The line that speaks of calls of a word."""
     return next((it for it in recursions if word in it.entries), None)
 
 
-def conditions(recursions: List[Recursion]) -> Iterator[str]:
+def conditions(recursions: Sequence[Recursion]) -> Iterator[str]:
     """Yields what the first line says of them."""
     yield from (f"{it.name} nests at most {it.count} deep" for it in recursions if not it.is_by_runs())
 
 
-def conditions_by_runs(recursions: List[Recursion]) -> Iterator[str]:
+def conditions_by_runs(recursions: Sequence[Recursion]) -> Iterator[str]:
     """Yields the same of those without a line in the spec."""
     if by_runs := [f"{it.name} nests at most {it.count} deep" for it in recursions if it.is_by_runs()]:
         yield " and ".join(by_runs) + ", as deep as the runs of this call"
 
 
-def of_call(elf: Elf, lines: Lines, recursions: List[Recursion], word: int) -> Optional[Recursion]:
+def of_call(elf: Elf, lines: Lines, recursions: Sequence[Recursion], word: int) -> Optional[Recursion]:
     """The line that speaks of the call at a word, by name or by a `jump` line."""
     target = opcodes.call_target(elf, word)
     targets = {target} if target is not None else lines.of(word, "jump") if opcodes.is_call(elf.word(word)) else set()

@@ -3,7 +3,7 @@
 from __future__ import annotations
 
 import re
-from typing import Dict, List, Optional, Set, Tuple
+from typing import AbstractSet, Dict, List, Optional, Set, Tuple
 
 from stackcheck_tools.firmware import opcodes
 from stackcheck_tools.firmware.devices import Device
@@ -26,7 +26,7 @@ AT_SITES = ("jump", "store", "prove", "free")  # those whose site may be told by
 START_UP = "@startup"
 
 
-def assumption_line(device: Device, kind: str, place: int, items: Set[int]) -> str:
+def assumption_line(device: Device, kind: str, place: int, items: AbstractSet[int]) -> str:
     """The line of an assumption file of this kind, at this word, with these items: a depth, data addresses or words."""
     def item(number: int) -> str:
         return str(number) if kind == recursion.KIND else f"{number:04X}" if kind == "store" else device.word(number)
