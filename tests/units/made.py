@@ -10,6 +10,7 @@ from stackcheck_tools.finding import (
     Count,
     Finding,
     Frame,
+    Judge,
     Link,
     Location,
     Need,
@@ -33,9 +34,12 @@ HEAP = Finding("SB501", WARNING, "malloc is linked", (Location(function="malloc"
 BOUND = Bound(8, "if 1 call below stays within its list", True, 8, 100, 128, (Count("calls", 1), Count("memory safety", 1)))
 
 
+JUDGE = Judge("/opt/stackbound", "0.10.0", 64 * "a")
+
+
 def result(*findings: Finding, bound: bool = True) -> Result:
     """A result with these findings."""
-    head = ("stackcheck", "a b.elf"), "0.10.0", "build/a b.elf", "elf", "atmega328p", None, (0x100, 0x17F), None
+    head = ("stackcheck", "a b.elf"), "0.10.0", JUDGE, "build/a b.elf", "elf", "atmega328p", None, (0x100, 0x17F), None
     lines = (Added("tool", "pairs", "pairs", "pairs", "", False),)
     if not bound:
         return Result(*head, lines, findings)

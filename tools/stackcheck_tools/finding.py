@@ -199,11 +199,21 @@ class Bound:
 
 
 @dataclass(frozen=True)
+class Judge:
+    """The program that accepted or refused: the path of its file, what it says of its version, and the SHA-256 of its bytes."""
+
+    path: str
+    version: str
+    sha256: str
+
+
+@dataclass(frozen=True)
 class Result:
     """One call: what was analysed and what was found. Without a bound all that follows `findings` is empty."""
 
     command: Tuple[str, ...]
     version: str
+    judge: Judge
     firmware: str
     format: str
     device: str

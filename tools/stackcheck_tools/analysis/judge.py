@@ -6,22 +6,12 @@ import hashlib
 import os
 import shutil
 import subprocess
-from typing import Dict, NamedTuple
 
 from stackcheck_tools.analysis.program import NoProgram, called
+from stackcheck_tools.finding import Judge
 from stackcheck_tools.habits import version as version_of_tools
 
 BUILT = os.path.join("crates", "stack_cli", "out", "stack_cli")  # the program of a checkout, by its path beside the launcher
-
-
-class Judge(NamedTuple):
-    """The file of the program, what it says of its version, and the SHA-256 of its bytes."""
-    path: str
-    version: str
-    sha256: str
-
-    def as_json(self) -> Dict[str, str]:
-        return {"path": self.path, "version": self.version, "sha256": self.sha256}
 
 
 def file_of(called: str) -> str:

@@ -14,7 +14,7 @@ from stackcheck_tools.analysis.locations import of_word
 from stackcheck_tools.analysis.program import OK, NoProgram, Program
 from stackcheck_tools.analysis.runs import Run, Stop
 from stackcheck_tools.analysis.state import Facts, Lists, State
-from stackcheck_tools.finding import Finding, Link
+from stackcheck_tools.finding import Finding, Judge, Link
 from stackcheck_tools.firmware import intel_hex
 from stackcheck_tools.firmware.firmware import Firmware
 from stackcheck_tools.spec import recursion, settings
@@ -34,6 +34,7 @@ class Refused:
     given: str  # the text of the assumption file that it makes
     own: Lines
     finding: Finding
+    judge: Judge
 
 
 @dataclass
@@ -46,6 +47,7 @@ class Accepted:
     certificate: str
     own: Lines
     lists: Lists  # of calls through pointers
+    judge: Judge
     recursions: Sequence[recursion.Recursion]  # of the spec or by runs, with the depths that they came to
     cure: Optional[str] = None  # of a recursion that is as deep as the runs
     told_of_masks: Optional[str] = None  # what the line `masks` costs, or why it was left out
@@ -154,9 +156,9 @@ def searched(facts: Facts, dialogue: Dialogue, spec: str, read: Optional[Spec], 
     begin = State(Lines.read(firmware.device, given), recursions=tuple(read.recursions) if read else ())
     state = dialogue.run((search.plain if words.plain else search.search)(facts, begin))
     if state.refusal:
-        return Refused(firmware, spec, given, state.lines, dialogue.run(refused.finding(facts, state)))
+        return Refused(firmware, spec, given, state.lines, dialogue.run(refused.finding(facts, state)), dialogue.judge)
     flag = dialogue.run(flags.finding(facts, state, state.stop)) if state.stop else None
-    found = Accepted(firmware, spec, given, state.certificate or "", state.lines, state.lists, state.recursions,
+    found = Accepted(firmware, spec, given, state.certificate or "", state.lines, state.lists, dialogue.judge, state.recursions,
                      search.cure_of_recursion(facts, state), state.told_of_masks, state.stop, flag, seen=state.deepest)
     return take(dialogue, found, state, words)
 

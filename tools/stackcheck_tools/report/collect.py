@@ -68,7 +68,7 @@ def result(outcome: Outcome, words: Namespace, command: Tuple[str, ...], folder:
     """The result of a call by its words; files are made in the folder."""
     firmware = outcome.firmware
     device = firmware.device
-    head = Result(command, version(), readable(firmware.path), "hex" if intel_hex.is_one(firmware.path) else "elf", device.name,
+    head = Result(command, version(), outcome.judge, readable(firmware.path), "hex" if intel_hex.is_one(firmware.path) else "elf", device.name,
                   firmware.linked_for, (device.first, device.last), words.spec and readable(words.spec), lines(outcome), ())
     if isinstance(outcome, Refused):
         return replace(head, findings=(outcome.finding,))

@@ -29,7 +29,8 @@ def bound(it: Optional[Bound]) -> Optional[Dict[str, object]]:
 
 def value(it: Result) -> Dict[str, object]:
     return {
-        "schema": "stackcheck", "version": VERSION, "tool": {"name": "stackcheck", "version": it.version}, "command": list(it.command),
+        "schema": "stackcheck", "version": VERSION, "tool": {"name": "stackcheck", "version": it.version}, "program": asdict(it.judge),
+        "command": list(it.command),
         "firmware": {"path": it.firmware, "format": it.format, "device": it.device, "linked_for": it.linked_for},
         "spec": it.spec, "certificate": it.certificate, "status": it.status(), "bound": bound(it.bound),
         "findings": [finding(*one) for one in numbered(it.findings)], "lines": [asdict(one) for one in it.lines],

@@ -224,10 +224,11 @@ def refused(result: Result) -> Iterator[str]:
 
 
 def footer(result: Result) -> str:
-    """Who wrote the page, by which command."""
+    """Who wrote the page, by which command, and which program judged."""
     spec = f" · spec {escape(result.spec)}" if result.spec else ""
     call = f"<code>{escape(shlex.join(result.command))}</code>"
-    return f"<footer>stackcheck {escape(result.version)} · {call} · {escape(result.device)}{spec} · {TERMS}</footer>"
+    judge = f"judged by {escape(result.judge.path)} (stackbound {escape(result.judge.version)}, SHA-256 {escape(result.judge.sha256)})"
+    return f"<footer>stackcheck {escape(result.version)} · {call} · {escape(result.device)}{spec} · {judge} · {TERMS}</footer>"
 
 
 def html(result: Result) -> str:
