@@ -45,6 +45,9 @@ def of_location(it, at) -> Iterator[str]:
 
 def of_rule(it) -> Iterator[str]:
     yield from unknown(it, RULE, it["id"])
+    uri = urlparse(it.get("helpUri", ""))
+    if not uri.scheme or uri.fragment != it["id"].lower():
+        yield f"{it['id']}: helpUri {it.get('helpUri')!r} is not the absolute URI of its heading (3.49.12)"
     if it.get("defaultConfiguration", {}).get("level") not in LEVELS:
         yield f"{it['id']}: level"
     if not all(it.get(name, {}).get("text") for name in ("shortDescription", "fullDescription", "help")):

@@ -118,6 +118,11 @@ class Sarif(unittest.TestCase):
         self.assertEqual(first["locations"][0]["physicalLocation"]["artifactLocation"], {"uri": "src/a%20b%25.c", "uriBaseId": "%SRCROOT%"})
         self.assertEqual(second["locations"][0]["physicalLocation"]["artifactLocation"], {"uri": "file:///usr/share/b%C3%B6se.c"})
 
+    def test_each_rule_names_the_page_that_has_its_heading(self) -> None:
+        for it in self.log()["runs"][0]["tool"]["driver"]["rules"]:
+            path, _, fragment = it["helpUri"].removeprefix("file://").partition("#")
+            self.assertEqual((os.path.realpath(path), fragment), (os.path.realpath(PAGE), it["id"].lower()))
+
     def test_a_fault_of_the_spec_is_a_result_and_others_are_told(self) -> None:
         for place, results in ((Location("stack.spec", 3), 1), (Location(), 0)):
             log = json.loads(sarif.text_of_fault(Fault("there is no function x", "SB006", place), ("stackcheck",), "0.10.0", 3))
@@ -135,6 +140,8 @@ class Sarif(unittest.TestCase):
             lambda run, it: it.update(locations=[]), lambda run, it: it.update(ruleId="SB9"), lambda run, it: it.update(ruleIndex=1),
             lambda run, it: it.update(level="bad"), lambda run, it: it.update(kind="review"), lambda run, it: it.pop("partialFingerprints"),
             lambda run, it: run["results"].append(copy.deepcopy(it)), lambda run, it: it["message"].pop("text"),
+            lambda run, it: run["tool"]["driver"]["rules"][0].update(helpUri="docs/FINDINGS.md#sb201"),
+            lambda run, it: run["tool"]["driver"]["rules"][0].pop("helpUri"),
             lambda run, it: run["tool"]["driver"]["rules"][0].pop("help"), lambda run, it: run.update(results=None),
             lambda run, it: run["invocations"][0].pop("executionSuccessful"), lambda run, it: run.update(more=1)]
         for number, edit in enumerate(edits):

@@ -17,7 +17,7 @@ from stackcheck_tools.analysis.search import search
 from stackcheck_tools.analysis.state import Facts, State
 from stackcheck_tools.firmware import candidates, opcodes
 from stackcheck_tools.firmware.firmware import Firmware
-from stackcheck_tools.habits import version
+from stackcheck_tools.home import version
 from stackcheck_tools.spec.lines import Lines
 
 NAMES = ("uart.elf", "reentry.elf", "virtual.elf", "moved.elf")
@@ -43,8 +43,9 @@ def words_of(facts: Facts) -> List[int]:
 def refusal(dice: random.Random, facts: Facts, words: List[int]) -> Refusal:
     at = facts.device.word(dice.choice(words))
     vector = dice.choice(sorted(facts.device.vectors))
-    return Refusal(dice.choice((f"refused 1 unresolved-jump at {at} ijmp", f"refused 2 recursion at {at}", f"refused 3 re-entry of {vector} at {at}",
-                                f"refused 4 untracked-sp at {at} out 0x3E, r29", f"refused 5 unsupported at {at} opcode FFFF",
+    return Refusal(dice.choice((f"refused 1 unresolved-jump at {at} ijmp", f"refused 2 recursion at {at}",
+                                f"refused 3 re-entry of {vector} at {at}", f"refused 4 untracked-sp at {at} out 0x3E, r29",
+                                f"refused 5 unsupported at {at} opcode FFFF",
                                 f"refused 6 too-deep at {at} need 5000", "refused 7 too-large nodes",
                                 f"refused 8 unknown-pointer at {at} st X, r24")))
 

@@ -11,21 +11,10 @@ from argparse import Namespace
 from typing import Callable, NoReturn, Optional, Sequence, Union
 
 from stackcheck_tools.finding import Fault, Location
+from stackcheck_tools.home import version
 
-HERE = os.path.dirname(os.path.realpath(__file__))
 DONE, MISUSE, INTERRUPTED, CLOSED_PIPE = 0, 3, 130, 141
 UNREADABLE = "SB001"
-
-
-def version() -> str:
-    """The version of the repository: that of the file in the package, at the top of the checkout, or beside the tools as installed."""
-    for folder in (HERE, os.path.join(HERE, "..", "..")):
-        try:
-            with open(os.path.join(folder, "VERSION"), encoding="ascii") as file:
-                return file.read().strip()
-        except OSError:
-            continue
-    return "unknown"
 
 
 def in_words(fault: BaseException) -> str:

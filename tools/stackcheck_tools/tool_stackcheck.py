@@ -8,7 +8,7 @@ from argparse import Namespace
 from contextlib import ExitStack
 from typing import List, NoReturn
 
-from stackcheck_tools import habits, options, progress
+from stackcheck_tools import habits, home, options, progress
 from stackcheck_tools.analysis import cures
 from stackcheck_tools.analysis.outcome import judge
 from stackcheck_tools.firmware import nearby
@@ -62,5 +62,5 @@ def main() -> int:
     except habits.FAULTS as fault:
         told = habits.tell(TOOL, fault, words.spec)
         if words.sarif:
-            outputs.put_or_print(words.sarif, sarif.text_of_fault(told, (TOOL, *given), habits.version(), habits.MISUSE))
+            outputs.put_or_print(words.sarif, sarif.text_of_fault(told, (TOOL, *given), home.version(), habits.MISUSE))
         return habits.MISUSE

@@ -81,7 +81,8 @@ class Limits:
         return not lines.has(stop.word, "jump") or stop.other in lines.of(stop.word, "jump")
 
     def counted(self) -> Optional[Limits]:
-        """With the least number of activations in each line that explains how deep runs called its word; None if there are no such numbers."""
+        """With the least number of activations in each line that explains how deep runs called its word; None if there are no such
+        numbers."""
         most, together = 2, min(len(self.depths), len(MOST_COUNTS))
         while most <= MOST_COUNTS[together - 1]:
             held = self.nest.depths((most,) * len(self.depths) + self.given)

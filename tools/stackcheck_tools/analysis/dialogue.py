@@ -17,8 +17,8 @@ MOST_KEPT = 1_000_000  # letters of an answer
 
 
 class Dialogue:
-    """Answers about one firmware, which are kept unless they are long; files are made in a folder, none of which is ever written anew with another
-    text."""
+    """Answers about one firmware, which are kept unless they are long; files are made in a folder, none of which is ever written anew with
+    another text."""
 
     def __init__(self, firmware: Firmware, folder: str) -> None:
         self.firmware, self.folder = firmware, folder

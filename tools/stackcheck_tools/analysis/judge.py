@@ -7,9 +7,9 @@ import os
 import shutil
 import subprocess
 
-from stackcheck_tools.analysis.program import NoProgram, called
+from stackcheck_tools import home
+from stackcheck_tools.analysis.program import NoProgram
 from stackcheck_tools.finding import Judge
-from stackcheck_tools.habits import version as version_of_tools
 
 BUILT = os.path.join("crates", "stack_cli", "out", "stack_cli")  # the program of a checkout, by its path beside the launcher
 
@@ -37,7 +37,7 @@ def judge_of(called: str) -> Judge:
 
 def checked() -> Judge:
     """The program that the tools call. It has to be of their version: then it has each command and each kind of lines that they ask for."""
-    found = judge_of(called())
-    if found.version != version_of_tools():
-        raise NoProgram(f"{os.path.normpath(called())} is of version {found.version}, and these tools are of {version_of_tools()}")
+    found = judge_of(home.program())
+    if found.version != home.version():
+        raise NoProgram(f"{os.path.normpath(home.program())} is of version {found.version}, and these tools are of {home.version()}")
     return found

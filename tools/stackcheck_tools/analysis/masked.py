@@ -19,8 +19,8 @@ R0 = 0  # a register that no compiled store means
 
 
 def with_masks(facts: Facts, lines: Lines) -> Tuple[Lines, bool]:
-    """With `masks`, where the device doesn't make it needless, and `never` lines for the vectors that have no handler; whether that was done: it
-    mustn't be given."""
+    """With `masks`, where the device doesn't make it needless, and `never` lines for the vectors that have no handler; whether that was
+    done: it mustn't be given."""
     if lines.has_masks() and facts.device.is_first():
         return lines, False
     lines = with_never(facts, lines)

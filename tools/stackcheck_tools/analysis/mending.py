@@ -1,5 +1,5 @@
-"""Looks for the lines of an assumption file under which a firmware has a bound that no trial run shows to be empty: adds lines for refusals, for
-places and for what trial runs show, until nothing changes."""
+"""Looks for the lines of an assumption file under which a firmware has a bound that no trial run shows to be empty: adds lines for
+refusals, for places and for what trial runs show, until nothing changes."""
 
 from __future__ import annotations
 

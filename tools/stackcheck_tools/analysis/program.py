@@ -6,13 +6,12 @@ import os
 import subprocess
 from typing import Dict, List, Optional, Tuple
 
-from stackcheck_tools import progress
+from stackcheck_tools import home, progress
 from stackcheck_tools.finding import Fault
 
 OK, SCHEDULE, REFUSED = 0, 9, 10
 UNBUILT = 70  # the launcher's, where no proved program stands that is of its sources
 WORK = {"analyse": "analysing", "check": "checking", "attain": "seeking a run as deep as the bound"}  # what takes long, but for trial runs
-TOP = os.path.join(os.path.dirname(os.path.realpath(__file__)), "..", "..", "..")
 
 
 class NoProgram(Fault):
@@ -21,16 +20,11 @@ class NoProgram(Fault):
     rule = "SB009"
 
 
-def called() -> str:
-    """The path of the program."""
-    return os.environ.get("STACKBOUND") or os.path.join(TOP, "stackbound")
-
-
 class Program:
     """Calls on one firmware, device and assumption file."""
 
     def __init__(self, firmware: str, device: str, assumptions: Optional[str] = None) -> None:
-        self.path = called()
+        self.path = home.program()
         self.firmware, self.options = firmware, ["--device", device] + (["--assume", assumptions] if assumptions else [])
         self.begun: Dict[Tuple[str, ...], subprocess.Popen[bytes]] = {}
 

@@ -48,7 +48,8 @@ def with_targets(facts: Facts, state: State, sites: Iterable[int]) -> State:
 
 def with_never(facts: Facts, lines: Lines) -> Lines:
     """A `never` line for each vector that leads to the compiler's default, which begins the program anew."""
-    return lines.add_each((facts.device.vector_word(it) for it in facts.device.vectors if is_unhandled(facts.elf, facts.device, it)), "never")
+    found = [facts.device.vector_word(it) for it in facts.device.vectors if is_unhandled(facts.elf, facts.device, it)]
+    return lines.add_each(found, "never")
 
 
 def with_frames(facts: Facts, lines: Lines) -> Lines:

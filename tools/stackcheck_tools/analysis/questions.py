@@ -1,7 +1,7 @@
 """What a search asks of the program, as values, and what it is told to each.
 
-A search is a generator that yields questions and is sent the answers. So it needs no program: a dialogue answers by `stackbound`, a test by a
-table. Each question has the lines under which it is asked, and no look at other lines changes what another one is told."""
+A search is a generator that yields questions and is sent the answers. So it needs no program: a dialogue answers by `stackbound`, a test by
+a table. Each question has the lines under which it is asked, and no look at other lines changes what another one is told."""
 
 from __future__ import annotations
 

@@ -33,8 +33,8 @@ class Run(NamedTuple):
 
 
 class Ran(NamedTuple):
-    """What came of a run: how deep it went before a flagged step (None where it was none), that step, and the number of a schedule's step that
-    isn't legal."""
+    """What came of a run: how deep it went before a flagged step (None where it was none), that step, and the number of a schedule's step
+    that isn't legal."""
 
     depth: Optional[int] = None
     stop: Optional[Stop] = None

@@ -20,8 +20,8 @@ if TYPE_CHECKING:
 
 
 class Facts(NamedTuple):
-    """What a search may know without the program: the firmware, how many trial runs are asked for (None: all), and whether runs as deep as the
-    bound are sought."""
+    """What a search may know without the program: the firmware, how many trial runs are asked for (None: all), and whether runs as deep as
+    the bound are sought."""
 
     firmware: Firmware
     runs: Optional[int] = None
@@ -103,8 +103,8 @@ def scope(state: State) -> Search[Scope]:
 
 
 def trials_of(facts: Facts, lines: Lines, certificate: Scope) -> Trials:
-    """Trial runs that take each vector that has a handler, and each that a `never` line of this tool names, as far as a run takes so many. One
-    that no known bit enables isn't taken without a handler: that it may come says nothing of the firmware."""
+    """Trial runs that take each vector that has a handler, and each that a `never` line of this tool names, as far as a run takes so many.
+    One that no known bit enables isn't taken without a handler: that it may come says nothing of the firmware."""
     device, has_handler, vectors = facts.device, handled(facts.elf, facts.device), []
     for vector in device.vectors:
         word = device.vector_word(vector)

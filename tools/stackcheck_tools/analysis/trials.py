@@ -100,8 +100,8 @@ def is_receiver(device: Device, vector: int) -> bool:
 
 
 class Tried(NamedTuple):
-    """What runs behind a bound have shown: the number of the flagged one, or the number of all, its flagged step, and how deep they went before
-    one, with the deepest run."""
+    """What runs behind a bound have shown: the number of the flagged one, or the number of all, its flagged step, and how deep they went
+    before one, with the deepest run."""
 
     number: int
     stop: Optional[Stop] = None
@@ -122,8 +122,8 @@ def simulation(fill: int, lines: List[str], steps: int) -> Run:
 
 
 class Trials(NamedTuple):
-    """The trial runs of a firmware: the lines under which they run, the vectors that they take, those of them that no run takes, and the bytes
-    that the firmware tells apart."""
+    """The trial runs of a firmware: the lines under which they run, the vectors that they take, those of them that no run takes, and the
+    bytes that the firmware tells apart."""
 
     lines: Lines
     vectors: Tuple[int, ...]
@@ -215,7 +215,8 @@ def unseen(ran: Ran, seen: Set[Stop]) -> Optional[Stop]:
 
 
 def replayed(trials: Trials, byte: int, seen: Set[Stop]) -> Search[Optional[Stop]]:
-    """The first unseen stop of schedules: none, each vector alone at several steps, and then all that could be taken, one behind the other."""
+    """The first unseen stop of schedules: none, each vector alone at several steps, and then all that could be taken, one behind the
+    other."""
     taken: List[int] = []
     ran = yield from trial(trials.lines, schedule(byte, []))
     if found := unseen(ran, seen):

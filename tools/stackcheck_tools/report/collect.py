@@ -12,7 +12,7 @@ from stackcheck_tools.analysis.outcome import Accepted, Outcome, Refused
 from stackcheck_tools.finding import Added, Bound, Count, Edge, Finding, Need, Nesting, Result, Review
 from stackcheck_tools.firmware import intel_hex
 from stackcheck_tools.firmware.paths import readable
-from stackcheck_tools.habits import version
+from stackcheck_tools.home import version
 from stackcheck_tools.report import call_graph, frames, interrupts, needs, verdict
 from stackcheck_tools.report.call_graph import Graph
 from stackcheck_tools.spec import settings
@@ -68,8 +68,9 @@ def result(outcome: Outcome, words: Namespace, command: Tuple[str, ...], folder:
     """The result of a call by its words; files are made in the folder."""
     firmware = outcome.firmware
     device = firmware.device
-    head = Result(command, version(), outcome.judge, readable(firmware.path), "hex" if intel_hex.is_one(firmware.path) else "elf", device.name,
-                  firmware.linked_for, (device.first, device.last), words.spec and readable(words.spec), lines(outcome), ())
+    path, form = readable(firmware.path), "hex" if intel_hex.is_one(firmware.path) else "elf"
+    head = Result(command, version(), outcome.judge, path, form, device.name, firmware.linked_for,
+                  (device.first, device.last), words.spec and readable(words.spec), lines(outcome), ())
     if isinstance(outcome, Refused):
         return replace(head, findings=(outcome.finding,))
     spec = Spec(firmware.elf, outcome.spec, device)

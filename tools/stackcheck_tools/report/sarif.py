@@ -8,6 +8,7 @@ import shlex
 from typing import Dict, Iterable, List, Optional
 from urllib.parse import quote
 
+from stackcheck_tools import home
 from stackcheck_tools.finding import Fault, Finding, Link, Location, Result
 from stackcheck_tools.report.fingerprint import numbered
 from stackcheck_tools.rules import BY_ID, DOCUMENT, Rule
@@ -74,11 +75,17 @@ def entry(it: Finding, fingerprint: str, whole: Result, index: Dict[str, int]) -
     return found
 
 
+def help_uri(it: Rule) -> Dict[str, object]:
+    """Where the rule's own words stand on this machine; nothing where the documents were not installed."""
+    path = home.document(os.path.basename(DOCUMENT))
+    return {} if path is None else {"helpUri": f"file://{quote(path)}#{it.id.lower()}"}
+
+
 def rule(it: Rule) -> Dict[str, object]:
     """One of the driver's `rules`."""
     more = f"{it.help} See {DOCUMENT}#{it.id.lower()}."
-    return {"id": it.id, "name": "".join(part.capitalize() for part in it.name.split("-")), "shortDescription": {"text": it.message},
-            "fullDescription": {"text": it.message}, "help": {"text": more, "markdown": more},
+    return {"id": it.id, "name": "".join(part.capitalize() for part in it.name.split("-")), **help_uri(it),
+            "shortDescription": {"text": it.message}, "fullDescription": {"text": it.message}, "help": {"text": more, "markdown": more},
             "defaultConfiguration": {"level": it.level}, "properties": {"tags": ["stack", "embedded"]}}
 
 

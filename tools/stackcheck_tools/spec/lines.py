@@ -25,8 +25,8 @@ def read_items(kind: str, words: List[str]) -> Tuple[int, FrozenSet[int]]:
 
 @dataclass(frozen=True)
 class Lines:
-    """Lines with their items, which never change: what is added or dropped makes other lines. Those that are given stay as they are: what is
-    added later stands at other sites or is of other kinds."""
+    """Lines with their items, which never change: what is added or dropped makes other lines. Those that are given stay as they are: what
+    is added later stands at other sites or is of other kinds."""
 
     device: Device
     items: Mapping[Key, FrozenSet[int]] = field(default_factory=dict)

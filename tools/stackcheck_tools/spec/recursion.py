@@ -28,8 +28,8 @@ Counts = Tuple[int, ...]
 
 @dataclass(frozen=True)
 class Recursion:
-    """A line of a spec: its number and the function, its words, the most activations at a time, why, and the depth of each word with the bytes
-    that one activation more takes. One without a number in the spec has as many activations as simulated runs reached."""
+    """A line of a spec: its number and the function, its words, the most activations at a time, why, and the depth of each word with the
+    bytes that one activation more takes. One without a number in the spec has as many activations as simulated runs reached."""
 
     number: Optional[int]
     name: str
