@@ -13,6 +13,9 @@ from stackcheck_tools.firmware.targets import constructors, tables
 from stackcheck_tools.spec.lines import Lines
 from stackcheck_tools.spec.spec import is_unhandled
 
+# The refusals of `analyse`, by the numbers that it prints.
+UNRESOLVED_JUMP, RECURSION, RE_ENTRY, UNTRACKED_SP = "1", "2", "3", "4"
+UNSUPPORTED, TOO_DEEP, TOO_LARGE, UNKNOWN_POINTER = "5", "6", "7", "8"
 # By name: the text and where it stands, the usual cause, the cure.
 CURES = {
     "tables": (
@@ -204,9 +207,9 @@ def calls_by_pointer(elf: Elf, lines: Lines, entry: int) -> bool:
 
 def needs_optimiser(elf: Elf, lines: Lines, number: str, word: int) -> bool:
     """Whether a refusal of a sketch most likely comes of calls through pointers that the compiler resolves with -flto."""
-    if not is_sketch(elf) or number == "2" and word in candidates.reached(elf, word):
+    if not is_sketch(elf) or number == RECURSION and word in candidates.reached(elf, word):
         return False
-    entry = word if number == "2" else opcodes.jump_target(elf, word)
+    entry = word if number == RECURSION else opcodes.jump_target(elf, word)
     return entry is not None and calls_by_pointer(elf, lines, entry)
 
 
@@ -311,34 +314,34 @@ def cure(elf: Elf, device: Device, refusal: str, lines: Lines) -> Tuple[str, Opt
     """The name of the row of CURES for a refusal under some lines, and the word that it names (None where it names none)."""
     number, _, _, place, text = parts(refusal)
     word, text = int(place, 16) if place else None, text or ""
-    if number == "7" or word is None:
-        return "masks" if number == "7" else "deep" if number == "6" else "unfollowed", word
+    if number == TOO_LARGE or word is None:
+        return "masks" if number == TOO_LARGE else "deep" if number == TOO_DEEP else "unfollowed", word
     symbol = elf.symbol_at(2 * word)
     name, moves = symbol.name if symbol else "", text.startswith("out 0x3E" if device.has_sph else "out 0x3D")
-    if number == "1":
+    if number == UNRESOLVED_JUMP:
         return of_jump(elf, name), word
-    if number in "23" and needs_optimiser(elf, lines, number, word):
+    if number in (RECURSION, RE_ENTRY) and needs_optimiser(elf, lines, number, word):
         return "sketch", word
-    if number == "3":
+    if number == RE_ENTRY:
         return of_re_entry(elf, word), word
-    if number == "5":
+    if number == UNSUPPORTED:
         return of_opcode(elf, device, lines, text), word
-    if number == "8":
+    if number == UNKNOWN_POINTER:
         return "proved" if lines.has(word, "prove") else "copy" if text.endswith("+, r0") else "array", word
-    if number in "24" and not moves and goes_through_tables(elf, lines):
+    if number in (RECURSION, UNTRACKED_SP) and not moves and goes_through_tables(elf, lines):
         return "two tables", word
-    if number == "2" and word not in candidates.reached(elf, word) and is_joined(elf, lines):
+    if number == RECURSION and word not in candidates.reached(elf, word) and is_joined(elf, lines):
         return "joined", word
-    if number == "2":
+    if number == RECURSION:
         return of_recursion(elf, device, word), word
-    if number == "4" and moves:
+    if number == UNTRACKED_SP and moves:
         return of_stack_pointer(elf, device, lines, word, name), word
-    if number == "4" and text.startswith("out 0x3D"):
+    if number == UNTRACKED_SP and text.startswith("out 0x3D"):
         return of_low_byte(elf, word, name), word
-    if number == "4" and device.has_sph and is_low_first(elf, word):
+    if number == UNTRACKED_SP and device.has_sph and is_low_first(elf, word):
         return "low byte first", word
     is_other = name not in JUMPERS and is_joined(elf, lines)
-    return "joined" if is_other and word else "deep" if number == "6" else "unfollowed", word
+    return "joined" if is_other and word else "deep" if number == TOO_DEEP else "unfollowed", word
 
 
 def table() -> List[str]:

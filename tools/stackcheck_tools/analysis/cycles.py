@@ -7,6 +7,7 @@ from dataclasses import dataclass, replace
 from typing import Iterable, List, Mapping, Optional, Sequence, Tuple
 
 from stackcheck_tools.analysis import questions, refusals
+from stackcheck_tools.analysis.cures import RECURSION
 from stackcheck_tools.analysis.questions import Certificate, Search
 from stackcheck_tools.analysis.runs import Ran, Stop
 from stackcheck_tools.analysis.state import Facts, State, trials_of
@@ -16,7 +17,7 @@ from stackcheck_tools.spec import recursion
 from stackcheck_tools.spec.lines import Lines, name_of
 from stackcheck_tools.spec.recursion import Nest, Recursion
 
-RECURSION = "refused 2 "
+REFUSED = f"refused {RECURSION} "
 MOST_CYCLES, MOST_TOGETHER = 8, 3
 MOST_COUNTS = (512, 64, 24)  # activations, by how many functions are counted together
 ANY = Scope(0, False, True, None)  # of no certificate
@@ -25,7 +26,7 @@ RUNS = (3, 8, 2)  # trial runs by their numbers: a short one with timers, two in
 
 def is_refused(state: State) -> bool:
     """Whether a recursion is what a firmware is refused for."""
-    return (state.refusal or "").startswith(RECURSION)
+    return (state.refusal or "").startswith(REFUSED)
 
 
 def lines_at(lines: Lines, entries: Iterable[int], depth: int) -> Lines:
@@ -39,7 +40,7 @@ def cut(state: State) -> Search[Tuple[List[int], Optional[str]]]:
     """The words at which an analysis refuses cycles, one after the other, and the certificate where each is cut."""
     found: List[int] = []
     text = state.refusal or ""
-    while text.startswith(RECURSION) and len(found) < MOST_CYCLES:
+    while text.startswith(REFUSED) and len(found) < MOST_CYCLES:
         word = int(text.split()[4], 16)
         if word in found:
             break

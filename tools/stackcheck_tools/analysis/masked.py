@@ -5,7 +5,7 @@ from __future__ import annotations
 from dataclasses import replace
 from typing import Iterator, Set, Tuple
 
-from stackcheck_tools.analysis.cures import REFUSAL
+from stackcheck_tools.analysis.cures import RE_ENTRY, REFUSAL
 from stackcheck_tools.analysis.mending import mended
 from stackcheck_tools.analysis.proposals import wild_stores, with_never
 from stackcheck_tools.analysis.questions import Search
@@ -37,7 +37,7 @@ def groups(facts: Facts, refusal: str, wild: Set[int]) -> Iterator[Set[int]]:
     """Stores that may lead to a refusal of handlers: those of the handler that is named with what it calls, then those of all
     handlers."""
     elf, device, found = facts.elf, facts.device, REFUSAL.match(refusal)
-    entry = opcodes.jump_target(elf, int(found[4], 16)) if found and found[1] == "3" and found[4] else None
+    entry = opcodes.jump_target(elf, int(found[4], 16)) if found and found[1] == RE_ENTRY and found[4] else None
     entries = [] if entry is None else [{entry}]
     entries.append({it for it in (opcodes.jump_target(elf, device.vector_word(vector)) for vector in device.vectors) if it is not None})
     last: Set[int] = set()

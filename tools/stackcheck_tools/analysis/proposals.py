@@ -6,7 +6,7 @@ from dataclasses import replace
 from typing import Callable, Dict, FrozenSet, Iterable, Iterator, List, NamedTuple, Set, Tuple
 
 from stackcheck_tools.analysis import causes
-from stackcheck_tools.analysis.cures import parts
+from stackcheck_tools.analysis.cures import RECURSION, UNKNOWN_POINTER, UNRESOLVED_JUMP, UNTRACKED_SP, parts
 from stackcheck_tools.analysis.node_values import Nodes
 from stackcheck_tools.analysis.state import Facts, State
 from stackcheck_tools.dataflow import calls
@@ -87,17 +87,17 @@ Step = Tuple[str, Callable[[State], State]]  # why, and what is done
 def steps(facts: Facts, number: str, word: int) -> Iterator[Step]:
     """Yields what may help against a refusal, the likeliest first."""
     targets: Step = "the targets of all calls through pointers", lambda state: with_targets(facts, state, candidates.indirect(facts.elf))
-    if number == "1":
+    if number == UNRESOLVED_JUMP:
         yield targets[0], lambda state: with_targets(facts, state, [word, *candidates.indirect(facts.elf)])
-    elif number == "8":
+    elif number == UNKNOWN_POINTER:
         yield "the pointer need not be known", lambda state: state.under(with_free(state.lines, word))
     else:
-        if number == "4" and candidates.is_start_up(facts.elf, word):
+        if number == UNTRACKED_SP and candidates.is_start_up(facts.elf, word):
             yield "vectors without a handler are not entered", lambda state: state.under(with_never(facts, state.lines))
-        if number == "4":
+        if number == UNTRACKED_SP:
             yield "frames that are given back otherwise", lambda state: state.under(with_frames(facts, state.lines))
         yield targets
-        if number == "2":
+        if number == RECURSION:
             yield "no call leads back to where it stands", lambda state: state.under(narrowed(facts, state))
 
 

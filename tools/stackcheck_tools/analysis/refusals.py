@@ -5,7 +5,7 @@ from __future__ import annotations
 from typing import Dict, Iterator, List, Optional, Set, Tuple
 
 from stackcheck_tools.analysis import registers
-from stackcheck_tools.analysis.cures import parts
+from stackcheck_tools.analysis.cures import RE_ENTRY, RECURSION, parts
 from stackcheck_tools.analysis.locations import of_word
 from stackcheck_tools.analysis.telling import line_of_spec
 from stackcheck_tools.analysis.trials import handled
@@ -221,9 +221,9 @@ def reasons(firmware: Firmware, lines: Lines, refusal: str) -> List[Related]:
     if not firmware.elf.code:
         return []
     found: Iterator[Related] = iter(())
-    if number == "2" and place:
+    if number == RECURSION and place:
         found = of_recursion(firmware, lines, int(place, 16))
-    elif number == "3" and vector:
+    elif number == RE_ENTRY and vector:
         found = of_re_entry(firmware, lines, int(vector))
     told = list(dict.fromkeys(found))
     more = len(told) - MOST_REASONS

@@ -17,16 +17,17 @@ from stackcheck_tools.firmware.firmware import Firmware
 MOST_OTHERS = 8  # vectors that are tried behind the first that lets itself in
 # causes that lines cure
 BY_LINES = ("tables", "constructors", "pointer", "stream", "prologues", "high byte", "unhandled", "joined", "array", "copy")
-RULES = {"1": "SB101", "2": "SB102", "3": "SB103", "4": "SB104", "5": "SB105", "6": "SB106", "7": "SB107", "8": "SB108"}
+RULES = {cures.UNRESOLVED_JUMP: "SB101", cures.RECURSION: "SB102", cures.RE_ENTRY: "SB103", cures.UNTRACKED_SP: "SB104",
+         cures.UNSUPPORTED: "SB105", cures.TOO_DEEP: "SB106", cures.TOO_LARGE: "SB107", cures.UNKNOWN_POINTER: "SB108"}
 MESSAGES = {
-    "1": "{function} calls or jumps through a pointer whose targets are not listed (`{text}`)",
-    "2": "{function} calls itself, directly or through others",
-    "3": "{vector} can be interrupted by its own vector",
-    "4": "the stack pointer cannot be followed at `{text}` in {function}",
-    "5": "{text} in {function} is not an instruction of {device}, or one that writes flash",
-    "6": "the stack would exceed SRAM ({need} bytes of {sram})",
-    "7": "the analysis needs more {text} than a certificate may have",
-    "8": "the pointer of `{text}` in {function} has to be known and is not",
+    cures.UNRESOLVED_JUMP: "{function} calls or jumps through a pointer whose targets are not listed (`{text}`)",
+    cures.RECURSION: "{function} calls itself, directly or through others",
+    cures.RE_ENTRY: "{vector} can be interrupted by its own vector",
+    cures.UNTRACKED_SP: "the stack pointer cannot be followed at `{text}` in {function}",
+    cures.UNSUPPORTED: "{text} in {function} is not an instruction of {device}, or one that writes flash",
+    cures.TOO_DEEP: "the stack would exceed SRAM ({need} bytes of {sram})",
+    cures.TOO_LARGE: "the analysis needs more {text} than a certificate may have",
+    cures.UNKNOWN_POINTER: "the pointer of `{text}` in {function} has to be known and is not",
 }
 
 
@@ -68,12 +69,12 @@ def other_vectors(state: State) -> Search[List[int]]:
     found: List[int] = []
     lines, words = state.lines, (state.refusal or "").split()
     for _ in range(MOST_OTHERS):
-        if words[:3] != ["refused", "3", "re-entry"]:
+        if words[:3] != ["refused", cures.RE_ENTRY, "re-entry"]:
             break
         lines = lines.add(int(words[6], 16), "never")
         answer = yield from analyse(lines)
         words = answer.text.split() if isinstance(answer, Refusal) else []
-        if words[:3] == ["refused", "3", "re-entry"]:
+        if words[:3] == ["refused", cures.RE_ENTRY, "re-entry"]:
             found.append(int(words[6], 16))
     return found
 

@@ -10,7 +10,7 @@ from dataclasses import replace
 from typing import Optional, Tuple
 
 from stackcheck_tools.analysis import proposals, questions
-from stackcheck_tools.analysis.cures import REFUSAL, parts
+from stackcheck_tools.analysis.cures import RE_ENTRY, REFUSAL, UNKNOWN_POINTER, parts
 from stackcheck_tools.analysis.proposals import Wanted
 from stackcheck_tools.analysis.questions import Refusal, Search
 from stackcheck_tools.analysis.state import Facts, State, told
@@ -49,7 +49,7 @@ def with_proofs(facts: Facts, lines: Lines, vector: int, text: str) -> Search[Li
     for _ in sites:
         answer = (yield from questions.analyse(proved)).text.strip()
         unknown = REFUSAL.match(answer)
-        if not unknown or unknown[1] != "8" or not proved.has(int(unknown[4], 16), "prove"):
+        if not unknown or unknown[1] != UNKNOWN_POINTER or not proved.has(int(unknown[4], 16), "prove"):
             break
         proved = proved.drop(int(unknown[4], 16), "prove")
     return lines if answer == text or not set(proved.items) - set(lines.items) else proved
@@ -59,7 +59,7 @@ def at_refusal(facts: Facts, state: State, text: str) -> Search[State]:
     """Adds lines of the kind that most likely cures a refusal; the same lines where nothing helps."""
     more = proposals.for_refusal(facts, state, text).state
     number, _, _, place, _ = parts(text)
-    if more.lines is state.lines and number == "3":
+    if more.lines is state.lines and number == RE_ENTRY:
         return more.under((yield from with_proofs(facts, more.lines, int(place or "0", 16), text)))
     return more
 
