@@ -1,4 +1,4 @@
-"""The page for readers by eye, by ear and by keyboard: contrast by the formula of WCAG 2.1 (1.4.3 and 1.4.11), landmarks, headers and names."""
+"""The page for readers by eye, by ear and by keyboard: contrast by the formula of WCAG 2.1 (1.4.3, 1.4.11), landmarks, headers and names."""
 
 import html.parser
 import re

@@ -14,6 +14,7 @@ from stackcheck_tools.analysis.dialogue import Dialogue
 from stackcheck_tools.analysis.questions import Analyse, Answer, Certificate, Places, Premises, Question, Refusal, Trial
 from stackcheck_tools.analysis.runs import Ran, Run, Stop
 from stackcheck_tools.analysis.search import search
+from stackcheck_tools.analysis.settling import ROUNDS
 from stackcheck_tools.analysis.state import Facts, State
 from stackcheck_tools.firmware import candidates, opcodes
 from stackcheck_tools.firmware.firmware import Firmware
@@ -108,16 +109,30 @@ class Proposals(unittest.TestCase):
                 self.assertEqual(proposals.for_refusal(facts, state, text), proposals.for_refusal(facts, state, text))
 
     def test_given_lines_stay(self) -> None:
+        """What is refused lies at the given lines too, and a `jump` line has functions that lead back."""
         for name in NAMES:
             facts, dice = recorded.facts(name), random.Random(2)
-            words = words_of(facts)
+            words, entries = words_of(facts), [it.address // 2 for it in facts.elf.code][:40]
             for _ in range(60):
                 lines = Lines(facts.device)
                 for _ in range(4):
-                    lines = lines.give(dice.choice(words), dice.choice(("jump", "store", "prove", "free")), {1})
-                found = proposals.for_refusal(facts, State(lines), refusal(dice, facts, words).text).state.lines
+                    lines = lines.give(dice.choice(words), dice.choice(("store", "prove", "free")), {1})
+                for site in list(candidates.indirect(facts.elf))[:2]:
+                    lines = lines.give(site, "jump", entries)
+                at = dice.choice((words, [site for site, _ in lines.given]))
+                found = proposals.for_refusal(facts, State(lines), refusal(dice, facts, at).text).state.lines
                 self.assertEqual(found.given, lines.given)
                 self.assertEqual({key: found.items[key] for key in lines.given}, dict(lines.items))
+
+    def test_a_refusal_that_stays_is_answered_a_few_times(self) -> None:
+        for name in NAMES:
+            facts, dice = recorded.facts(name), random.Random(4)
+            words = words_of(facts)
+            for _ in range(40):
+                state, text, count = State(Lines(facts.device)), refusal(dice, facts, words).text, 0
+                while (more := proposals.for_refusal(facts, state, text).state).lines is not state.lines:
+                    state, count = more, count + 1
+                    self.assertLess(count, 6, text)
 
 
 class Searches(unittest.TestCase):
@@ -136,6 +151,20 @@ class Searches(unittest.TestCase):
                 return answer(question)
 
             questions.run(search(facts, begin), counted)
+
+    def test_refusals_without_end_are_left_after_some_rounds(self) -> None:
+        for name in NAMES:
+            facts, asked = recorded.facts(name), []
+
+            def answer(question: Question) -> Answer:
+                asked.append(question)
+                if isinstance(question, Analyse):
+                    return Refusal(f"refused 8 unknown-pointer at {facts.device.word(len(asked) % facts.device.words)} st X, r24")
+                return Places(()) if isinstance(question, Premises) else Ran()
+
+            state = questions.run(search(facts, recorded.begin(facts)), answer)
+            self.assertIsNotNone(state.refusal)
+            self.assertLess(len(asked), 8 * ROUNDS)
 
     def test_what_was_asked_aside_changes_no_answer(self) -> None:
         """Each question is asked again later, in any order: the search comes to the same lines."""
@@ -177,6 +206,15 @@ class Dialogues(unittest.TestCase):
             answers.append([told[questions.key(it)] for it in asked])
         self.assertTrue(all(it == answers[0] for it in answers))
         self.assertEqual(len({str(it) for it in answers[0][:len(lines)]}), len(lines))
+
+
+    def test_a_program_keeps_its_lines(self) -> None:
+        """What is asked under other lines in between changes nothing for a program that is there already."""
+        firmware = Firmware(os.path.join(TOP, "tests", "firmware", "uart.elf"), None)
+        dialogue, one, other = Dialogue(firmware, self.folder), *(Lines(firmware.device).add(it, "prove") for it in (0x60, 0x62))
+        first, told = dialogue.program(one), dialogue.said(Analyse(one))
+        self.assertNotEqual(dialogue.said(Analyse(other)), told)
+        self.assertEqual(first.call("analyse"), told)
 
 
 class Replayed(unittest.TestCase):
