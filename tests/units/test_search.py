@@ -20,8 +20,10 @@ from stackcheck_tools.firmware import candidates, opcodes
 from stackcheck_tools.firmware.firmware import Firmware
 from stackcheck_tools.home import version
 from stackcheck_tools.spec.lines import Lines
+from stackcheck_tools.spec.spec import KINDS, UNASSUMED
 
 NAMES = ("uart.elf", "reentry.elf", "virtual.elf", "moved.elf")
+LISTED = ("jump", "store", "prove", "free", "never")  # lines whose places `premises` lists
 MOST_QUESTIONS = 4000  # of one search, whatever it is told
 ECHO = """#!/bin/sh
 # answers by the words of the call and by the assumption file as it is then
@@ -109,7 +111,7 @@ class Proposals(unittest.TestCase):
                 self.assertEqual(proposals.for_refusal(facts, state, text), proposals.for_refusal(facts, state, text))
 
     def test_given_lines_stay(self) -> None:
-        """What is refused lies at the given lines too, and a `jump` line has functions that lead back."""
+        """What is refused lies at the given lines too, and a `jump` line has functions that lead back. What is added hides nothing."""
         for name in NAMES:
             facts, dice = recorded.facts(name), random.Random(2)
             words, entries = words_of(facts), [it.address // 2 for it in facts.elf.code][:40]
@@ -123,6 +125,8 @@ class Proposals(unittest.TestCase):
                 found = proposals.for_refusal(facts, State(lines), refusal(dice, facts, at).text).state.lines
                 self.assertEqual(found.given, lines.given)
                 self.assertEqual({key: found.items[key] for key in lines.given}, dict(lines.items))
+                kinds = {KINDS[kind] for _, kind in set(found.items) - set(lines.items)}
+                self.assertLessEqual(kinds, {*UNASSUMED, *LISTED})
 
     def test_a_refusal_that_stays_is_answered_a_few_times(self) -> None:
         for name in NAMES:

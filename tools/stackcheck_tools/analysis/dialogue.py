@@ -17,34 +17,34 @@ MOST_KEPT = 1_000_000  # letters of an answer
 
 
 class Dialogue:
-    """Answers about one firmware, which are kept unless they are long; files are made in a folder, none of which is ever written anew with
-    another text."""
+    """Answers about one firmware, which are kept unless they are long; files are made in a folder. Each text of lines has a file of its own,
+    which is never written anew, so that a program keeps its lines."""
 
     def __init__(self, firmware: Firmware, folder: str) -> None:
         self.firmware, self.folder = firmware, folder
         self.judge = judge.checked()
         self.answers: Dict[str, Answer] = {}
 
-    def file(self, text: str) -> str:
-        """The path of a file with a text."""
-        path = os.path.join(self.folder, hashlib.sha256(text.encode()).hexdigest()[:24])
-        if not os.path.exists(path):
-            with open(path, "w", encoding="ascii", newline="\n") as file:
-                file.write(text)
+    def put(self, name: str, text: str) -> str:
+        """Writes a file, and returns its path."""
+        path = os.path.join(self.folder, name)
+        with open(path, "w", encoding="ascii", newline="\n") as file:
+            file.write(text)
         return path
 
     def program(self, lines: Lines) -> Program:
         """The program under some lines."""
         text = lines.text()
-        return Program(self.firmware.image, self.firmware.device.name, self.file(text) if text else None)
+        path = self.put(hashlib.sha256(text.encode()).hexdigest()[:24], text) if text else None
+        return Program(self.firmware.image, self.firmware.device.name, path)
 
     def words(self, question: Question) -> Tuple[str, ...]:
-        """The words of the command that answers a question."""
+        """The words of the command that answers a question, whose file the next one's takes."""
         if isinstance(question, Analyse):
             return ("analyse",)
         if isinstance(question, Trial):
-            return (question.run.command, self.file(question.run.text), *question.run.options)
-        path = self.file(question.certificate)
+            return (question.run.command, self.put(question.run.command, question.run.text), *question.run.options)
+        path = self.put("asked", question.certificate)
         return ("attain", path) if isinstance(question, questions.Attain) else ("premises", path, "--why")
 
     def said(self, question: Question) -> Tuple[int, str]:
