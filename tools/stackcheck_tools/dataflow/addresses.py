@@ -6,7 +6,7 @@ import bisect
 from typing import Dict, List, Optional, Tuple
 
 from stackcheck_tools.dataflow.origin import CODE, MOVED, NUMBER, OTHER, TABLE, ZERO, object_bit
-from stackcheck_tools.firmware import candidates, effects, records, switches
+from stackcheck_tools.firmware import candidates, effects, records, switches, virtual_tables
 from stackcheck_tools.firmware.elf import ABSOLUTE, ALLOCATED, CODE_END, EEPROM, Elf
 from stackcheck_tools.firmware.records import Record
 
@@ -18,7 +18,8 @@ OF_TWO_BYTES = (4, 5)
 
 
 class Addresses:
-    """`spans`: begin and end of each object in SRAM, whose places in this list are their numbers."""
+    """`spans`: begin and end of each object in SRAM, whose places in this list are their numbers. `tables`: the bits of those that are tables of
+    virtual functions, and `table_bytes`: how far behind the pointer of an object one ends at most."""
 
     def __init__(self, elf: Elf) -> None:
         self.elf, self.has_records = elf, records.has_records(elf)
@@ -26,6 +27,9 @@ class Addresses:
         self.begins = [it[0] for it in self.spans]
         self.data = [(it[3] - CODE_END, it[3] - CODE_END + it[5]) for it in elf.headers
                      if it[2] & ALLOCATED and it[5] and elf.sram() <= it[3] < EEPROM]
+        numbers = [self.number_at(begin - CODE_END) for begin, _ in virtual_tables.spans(elf)]
+        self.tables = sum({object_bit(it) for it in numbers if it is not None})
+        self.table_bytes = max((2 * len(it.words) for it in virtual_tables.points(elf)), default=0)
         self.functions = {it.address // 2 for it in elf.code}
         if not self.has_records:
             self.functions |= {word for site in candidates.indirect(elf) for word in switches.labels(elf, site)}

@@ -5,7 +5,20 @@ from __future__ import annotations
 from typing import Dict, Iterator, NamedTuple, Optional, Set, Tuple
 
 from stackcheck_tools.dataflow.addresses import Addresses
-from stackcheck_tools.dataflow.origin import ALONE, CONSTANTS, KEPT, MOVED, NUMBER, NUMBERS, OBJECTS, POINTERS, ZERO, few, object_bit
+from stackcheck_tools.dataflow.origin import (
+    ALONE,
+    CONSTANTS,
+    KEPT,
+    MOVED,
+    NUMBER,
+    NUMBERS,
+    OBJECTS,
+    OF_CLASS,
+    POINTERS,
+    ZERO,
+    few,
+    object_bit,
+)
 
 NAMELESS = -1  # the object of bytes at known addresses in which no object has a name
 IS_POINTER = POINTERS | ALONE
@@ -147,7 +160,7 @@ class Memory:
         """What a byte is that is read through a pointer made of an object."""
         found = self.held(place)
         if self.is_open(place.number) or not self.is_pure(place) or found & IS_POINTER:
-            return KEPT
+            return KEPT | (OF_CLASS if found & self.told.tables else 0)
         if not self.is_static(place.number):
             return NUMBER
         if not place.is_known and self.first(place) & CONSTANTS & ~ZERO and not self.is_overwritten(place):

@@ -6,14 +6,31 @@ before found. """
 
 from __future__ import annotations
 
+import functools
 import heapq
 from typing import Dict, Iterator, List, NamedTuple, Optional, Protocol, Set, Tuple
 
-from stackcheck_tools.dataflow import instructions, loaded, origin
+from stackcheck_tools.dataflow import instructions, loaded, origin, virtual_calls
 from stackcheck_tools.dataflow.addresses import Addresses
 from stackcheck_tools.dataflow.instructions import Instruction
 from stackcheck_tools.dataflow.memory import Memory, Place
-from stackcheck_tools.dataflow.origin import ALONE, CODE, FLASH, KEPT, MOVED, NUMBER, OBJECTS, OTHER, POINTERS, TABLE, ZERO, constants, few
+from stackcheck_tools.dataflow.origin import (
+    ALONE,
+    CODE,
+    FLASH,
+    KEPT,
+    MOVED,
+    NUMBER,
+    OBJECTS,
+    OF_CLASS,
+    OTHER,
+    POINTERS,
+    TABLE,
+    VIRTUAL,
+    ZERO,
+    constants,
+    few,
+)
 from stackcheck_tools.firmware import effects, opcodes, start_up
 from stackcheck_tools.firmware.devices import Device
 from stackcheck_tools.firmware.effects import Y, Z
@@ -70,7 +87,8 @@ def joined(ours: Registers, theirs: Registers) -> Registers:
 
 class Run:
     """One run of the worklist. `before`: what is known before each word, by the function that was entered; `ways`: the words from which
-    each is reached; `leaving`: those at which a function ends; `returned`: what calls enter that return."""
+    each is reached; `leaving`: those at which a function ends; `returned`: what calls enter that return; `kept`: the words of stores that keep
+    what may be a function read from a table of virtual functions, and where (None: not known)."""
 
     def __init__(self, firmware: Firmware, earlier: Optional["Run"] = None) -> None:
         self.elf, self.device, self.reached, self.targets, self.told = firmware
@@ -82,6 +100,7 @@ class Run:
         self.ways: Dict[Key, Set[Key]] = {}
         self.leaving: Dict[int, Set[Key]] = {}
         self.returned: Dict[Key, Set[int]] = {}
+        self.kept: Set[Tuple[int, Optional[Place]]] = set()
         self.now: Optional[Key] = None  # the word that is followed
         self.readers: Dict[int, Set[Key]] = {}  # by what they read
         self.left: List[Tuple[int, int]] = []  # ranks of functions, and words; what is called is followed before its caller goes on
@@ -179,6 +198,8 @@ class Run:
         lowest = LOWEST.get(function.name, 0) if function is not None else 0
         for it in (*NO_ARGUMENTS, *range(8, lowest)):
             arguments[it] = 0
+        if function is not None and not virtual_calls.CHANGED_ARGUMENTS.search(function.name):
+            arguments = [it & ~OF_CLASS for it in arguments]  # no expression of the language is the pointer to a table
         self.enter((to, to), State(tuple(arguments), {}))
         given = self.exits.get(to)
         if given is None:
@@ -211,8 +232,10 @@ class Run:
         return self.near[word]
 
     def nearby_after(self, word: int) -> Optional[loaded.State]:
-        """The same behind the instruction at a word, which is no jump."""
-        return self.nearby(instructions.at(self.elf, word).after)
+        """The same right behind the instruction at a word, which is no jump, before other ways join."""
+        own = self.function(word)
+        function = loaded.of_function(self.elf, own.address) if own else None
+        return function.from_words.get(instructions.at(self.elf, word).after, {}).get(word) if function and function.is_whole else None
 
     def step(self, key: Key) -> None:
         """Follows the instruction at a word."""
@@ -407,11 +430,12 @@ class Behind:
     def follow_memory(self, effect: effects.Effect) -> None:
         registers = self.registers
         if isinstance(effect, effects.Load):
-            found = self.read(effect.pair, effect.more)
+            found, virtual = self.read(effect.pair, effect.more), self.virtual_at(effect.pair, effect.more)
             self.move(effect.pair, effect.step)
-            self.take(effect.to, found, KEPT)
+            self.take(effect.to, found, KEPT, virtual)
         elif isinstance(effect, effects.LoadAt):
-            self.take(effect.to, self.at_address(effect.address), KEPT)
+            is_virtual = self.told.object_at(effect.address) & self.told.tables
+            self.take(effect.to, self.at_address(effect.address), KEPT, VIRTUAL if is_virtual else 0)
         elif isinstance(effect, effects.LoadFlash):
             made = registers[Z] | registers[Z + 1]
             self.move(Z, effect.step)
@@ -489,6 +513,14 @@ class Behind:
                 return self.registers[at] | self.registers[at + 1]
         return None
 
+    def virtual_at(self, register: int, more: int) -> int:
+        """The mark of what may be a function in a table of virtual functions, where a pair may point to one."""
+        if not (self.registers[register] | self.registers[register + 1]) & (self.told.tables | OF_CLASS):
+            return 0
+        found = self.pair_at(register)
+        place = found[1] + more if found is not None else 0
+        return VIRTUAL if found is None or not virtual_calls.is_in_memory(found[0]) or 0 <= place < self.told.table_bytes else 0
+
     def read(self, register: int, more: int) -> int:
         """What a byte of memory is made of to which a pair points."""
         if (distance := self.distance(register)) is not None:
@@ -505,7 +537,8 @@ class Behind:
             self.note_read(place.number)
             found |= self.memory.through_pointer(place)
         if high & (KEPT | FLASH | OTHER) or not found:
-            found |= NUMBER if self.is_of_registers(low, high, more) else KEPT
+            kept = KEPT | OF_CLASS if self.told.tables else KEPT
+            found |= NUMBER if self.is_of_registers(low, high, more) else kept
         return few(found)
 
     def is_of_registers(self, low: int, high: int, more: int) -> bool:
@@ -527,8 +560,9 @@ class Behind:
             return self.registers[address]
         return NUMBER if self.is_io(address) else self.memory.static(address)
 
-    def take(self, to: int, found: int, mark: int) -> None:
-        """Gives a register a byte that was read: for itself, or as a half of the pair of which another register has the other half."""
+    def take(self, to: int, found: int, mark: int, virtual: int = 0) -> None:
+        """Gives a register a byte that was read: for itself, or as a half of the pair of which another register has the other half, with the
+        mark `virtual` then."""
         other = self.partner(to)
         if other is None:
             self.registers[to] = origin.alone(found)
@@ -540,7 +574,8 @@ class Behind:
             held = origin.paired(held)
         if mark == FLASH:
             found, held = (it & ~KEPT | FLASH if it & KEPT else it for it in (found, held))
-        self.registers[to], self.registers[other] = found, held
+        both = virtual | found & OF_CLASS
+        self.registers[to], self.registers[other] = found | both, held | both
 
     def partner(self, to: int) -> Optional[int]:
         """The register that holds the other half of the pair in memory of which a load reads one half. The lower half has to be in an even
@@ -563,14 +598,22 @@ class Behind:
         return None
 
     def write_frame(self, distance: int, byte: int) -> None:
-        self.memory.put(self.memory.by_name, Place(self.memory.frame(self.entry), distance, True), byte)
+        place = Place(self.memory.frame(self.entry), distance, True)
+        self.memory.put(self.memory.by_name, place, byte)
+        self.note_kept(byte, place)
         self.slots = {**self.slots, distance: byte if byte & OBJECTS else byte & ~MOVED}
 
     def write_at(self, address: int, byte: int) -> None:
         if address < SMALL:
             self.registers[address] = byte
         elif not self.is_io(address):
-            self.memory.put(self.memory.by_name, self.memory.place_of(address), byte)
+            place = self.memory.place_of(address)
+            self.memory.put(self.memory.by_name, place, byte & ~OF_CLASS)
+            self.note_kept(byte, place)
+
+    def note_kept(self, byte: int, place: Optional[Place]) -> None:
+        if byte & VIRTUAL:
+            self.run.kept.add((self.word, place))
 
     def write(self, register: int, more: int, byte: int) -> None:
         """Writes a byte to where a pair points, but for the loops of the start-up code, which write what stands there first."""
@@ -589,7 +632,10 @@ class Behind:
                 if it + more < SMALL:  # a register by its address
                     self.registers[it + more] = few(self.registers[it + more] | byte)
         for place in places:
-            self.memory.put(self.memory.through, place, byte)
+            self.memory.put(self.memory.through, place, byte & ~OF_CLASS)
+            self.note_kept(byte, place)
+        if not places:
+            self.note_kept(byte, None)
 
 
 class Origins:
@@ -603,12 +649,34 @@ class Origins:
             if not self.run.memory.has_purer():
                 break
             self.run = Run(firmware, self.run)
+        self.made: Optional[int] = None
         self.by_word: Dict[int, List[Key]] = {}
         for key in self.run.before:
             self.by_word.setdefault(key[1], []).append(key)
 
     def is_reached(self, word: int) -> bool:
         return word in self.by_word
+
+    def keeps_virtual(self) -> bool:
+        """Whether what may be a function read from a table of virtual functions is written to memory that something reads otherwise than by
+        name."""
+        return any(place is None or self.is_pointed_to(place) for _, place in self.run.kept)
+
+    def is_pointed_to(self, place: Place) -> bool:
+        """Whether a pointer to the object of a place may be made."""
+        memory = self.run.memory
+        if not memory.is_static(place.number):
+            return any(it <= place.distance for it in memory.variables.get(memory.places[place.number][0], ()))
+        return bool(self.pointed_to() >> origin.FIRST_OBJECT + place.number & 1)
+
+    def pointed_to(self) -> int:
+        """The bits of all objects whose address is in a register or in memory at any time."""
+        if self.made is None:
+            memory, told = self.run.memory, self.told
+            firsts = (told.first_value(at) for begin, end in told.spans for at in range(begin, end))
+            bytes_of_registers = (byte for state in self.run.before.values() for byte in state.registers)
+            self.made = functools.reduce(int.__or__, (*memory.by_name.values(), *memory.through.values(), *firsts, *bytes_of_registers), 0)
+        return self.made
 
     def pairs_at(self, word: int, register: int) -> Iterator[Tuple[int, int]]:
         """Yields what a pair of registers is made of at a word, by each function that reaches it; not where it is a place of the frame that
