@@ -17,7 +17,7 @@ from stackcheck_tools.analysis.program import DEVICES, OK, REFUSED, USAGE, NoPro
 from stackcheck_tools.analysis.trials import DEVICE_LINES, Run, Scope, Stop, Trials, handled, scope
 from stackcheck_tools.analysis.widening import Lists, widen
 from stackcheck_tools.dataflow import calls
-from stackcheck_tools.firmware import candidates, opcodes
+from stackcheck_tools.firmware import candidates, opcodes, switches
 from stackcheck_tools.firmware.firmware import Firmware
 from stackcheck_tools.spec import parameters, recursion, scratch
 from stackcheck_tools.spec.lines import Lines
@@ -475,8 +475,8 @@ class Mending(Analysis):
             return True
         if number == "4" and self.add_frames():
             return True
-        if self.add_targets(candidates.indirect(self.elf)):
-            return True
+        if self.add_targets(candidates.indirect(self.elf)) or number == "4" and self.add_targets(switches.of_helper_itself(self.elf)):
+            return True  # the loop that calls constructors leads anywhere if not all bits of their words are known
         return number == "2" and self.narrow() or number == "3" and self.add_proofs(word, text)
 
     def add_targets(self, sites: Iterable[int]) -> bool:

@@ -21,6 +21,7 @@ from stackcheck_tools.dataflow.origin import (
     KEPT,
     MOVED,
     NUMBER,
+    NUMBERS,
     OBJECTS,
     OF_CLASS,
     OTHER,
@@ -39,8 +40,9 @@ from stackcheck_tools.firmware.elf import Elf, Symbol
 Key = Tuple[int, int]  # the word at which a function is entered, and one that is reached there
 Registers = Tuple[int, ...]
 KEPT_BY_CALLS = (*range(2, 18), 28, 29)
+OWN = 24  # the pair in which a member function gets its object
 NO_ARGUMENTS = (*range(2, 8), 28, 29)  # registers in which no caller leaves anything for a callee
-# the lowest register in which avr-libc's functions get an argument that keep in lower ones what they haven't set on each way
+# the lowest register in which avr-libc's functions of the heap get an argument, which keep in lower ones what they haven't set on each way
 LOWEST = {"malloc": 24, "free": 24, "realloc": 22, "calloc": 22}
 MOST_ROUNDS = 40
 MORE_RUNS = 2  # behind the second one, while each finds that more memory holds nothing but numbers
@@ -189,11 +191,35 @@ class Run:
             for it in self.callers.get(entry, ()):
                 self.push(it)
 
-    def call(self, key: Key, to: int, after: Optional[int]) -> None:
-        """Enters a function, behind which a run goes on at a word, or returns itself."""
+    def enter_by_pointer(self, key: Key, to: int, after: Optional[int]) -> None:
+        """Enters a function through a pointer. One that stands in tables of virtual functions alone is given an object that has such a table,
+        and no number: the list of a call may have functions that it does not enter."""
+        tables = self.told.tables_with(to)
+        if not tables:
+            self.call(key, to, after)
+            return
+        low, high = (self.with_tables(key, it, tables) for it in self.before[key].registers[OWN:OWN + 2])
+        if low and high:
+            self.call(key, to, after, (low, high))
+
+    def with_tables(self, key: Key, byte: int, tables: int) -> int:
+        """What a half of the pointer to an object with one of these tables may be made of; 0 if it is made of other objects alone. The first
+        run waits until an object has a table."""
+        is_first, found = self.memory.known is None, byte & ~NUMBERS or KEPT
+        for number in origin.objects(byte) if not byte & MOVED else ():
+            self.readers.setdefault(self.memory.whole(number), set()).add(key)
+            held = self.memory.held(Place(number, 0, True)) & self.told.tables
+            if (held or is_first) and not held & tables:
+                found &= ~origin.object_bit(number)
+        return found
+
+    def call(self, key: Key, to: int, after: Optional[int], own: Optional[Tuple[int, int]] = None) -> None:
+        """Enters a function, behind which a run goes on at a word, or returns itself. `own`: what its first argument is made of, where that
+        isn't what the registers hold."""
         state = self.before[key]
         self.callers.setdefault(to, set()).add(key)
         arguments = Behind(self, key, instructions.at(self.elf, key[1])).arguments()
+        arguments[OWN:OWN + 2] = own or arguments[OWN:OWN + 2]
         function = self.function(to)
         lowest = LOWEST.get(function.name, 0) if function is not None else 0
         for it in (*NO_ARGUMENTS, *range(8, lowest)):
@@ -255,7 +281,7 @@ class Run:
             self.jump_through(key, code)
         else:
             for to in self.targets.of(word, "jump") | self.reached.known(word, Z):
-                self.call(key, to, code.after)
+                self.enter_by_pointer(key, to, code.after)
 
     def jump_through(self, key: Key, code: Instruction) -> None:
         """Follows `ijmp` and `eijmp`: to words of the same function, or as a call at the end of it."""
@@ -272,7 +298,7 @@ class Run:
             elif function is own:
                 self.enter((entry, to), self.before[key])
             else:
-                self.call(key, to, None)
+                self.enter_by_pointer(key, to, None)
 
     def jump(self, key: Key, code: Instruction) -> None:
         """Follows `jmp` and `rjmp`: in the same function, or to the begin of another one as a call at the end."""
@@ -321,6 +347,8 @@ class Behind:
         registers = self.registers
         if isinstance(effect, effects.Copy):
             registers[effect.to:effect.to + effect.size] = registers[effect.of:effect.of + effect.size]
+            if effect.size == 1 and registers[effect.to] & ALONE:
+                self.pair_copied(effect.to)
         elif isinstance(effect, effects.Constant):
             is_named = effect.is_named
             registers[effect.to] = self.told.of_immediate(self.word, effect.to, effect.byte, True) if is_named else 1 << effect.byte
@@ -514,8 +542,9 @@ class Behind:
         return None
 
     def virtual_at(self, register: int, more: int) -> int:
-        """The mark of what may be a function in a table of virtual functions, where a pair may point to one."""
-        if not (self.registers[register] | self.registers[register + 1]) & (self.told.tables | OF_CLASS):
+        """The mark of what may be a function in a table of virtual functions, where a pair may point to one. The heap's own lists are in C."""
+        own = self.code.function
+        if own is not None and own.name in LOWEST or not (self.registers[register] | self.registers[register + 1]) & (self.told.tables | OF_CLASS):
             return 0
         found = self.pair_at(register)
         place = found[1] + more if found is not None else 0
@@ -576,6 +605,12 @@ class Behind:
             found, held = (it & ~KEPT | FLASH if it & KEPT else it for it in (found, held))
         both = virtual | found & OF_CLASS
         self.registers[to], self.registers[other] = found | both, held | both
+
+    def pair_copied(self, to: int) -> None:
+        """Makes a pair of two bytes that were read from neighbouring places into any registers, once both are copied into a pair."""
+        after, low = self.run.nearby_after(self.word), to & ~1
+        if after is not None and loaded.are_halves(after.bytes[low], after.bytes[low + 1]):
+            self.registers[low:low + 2] = [origin.paired(it) for it in self.registers[low:low + 2]]
 
     def partner(self, to: int) -> Optional[int]:
         """The register that holds the other half of the pair in memory of which a load reads one half. The lower half has to be in an even
