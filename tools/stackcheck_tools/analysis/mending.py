@@ -17,7 +17,7 @@ from stackcheck_tools.analysis.program import DEVICES, OK, REFUSED, USAGE, NoPro
 from stackcheck_tools.analysis.trials import DEVICE_LINES, Run, Scope, Stop, Trials, handled, scope
 from stackcheck_tools.analysis.widening import Lists, widen
 from stackcheck_tools.dataflow import calls
-from stackcheck_tools.firmware import candidates, opcodes, switches
+from stackcheck_tools.firmware import candidates, opcodes, register_results, switches
 from stackcheck_tools.firmware.firmware import Firmware
 from stackcheck_tools.spec import parameters, recursion, scratch
 from stackcheck_tools.spec.lines import Lines
@@ -140,6 +140,7 @@ class Mending(Analysis):
             return
         self.lines.add_pairs()
         self.add_scratch()
+        self.add_results()
         has_masks = self.begin_with_masks()
         self.mend()
         self.limit_recursion()
@@ -169,6 +170,12 @@ class Mending(Analysis):
         if found and self.knows(scratch.KIND, found[0]):
             for word in found:
                 self.lines.add(word, scratch.KIND)
+
+    def add_results(self) -> None:
+        """Lines for stores by which avr-libc's functions write their results into registers."""
+        for word, registers in register_results.stores(self.elf).items():
+            if self.is_open(word, "store", registers):
+                self.lines.add(word, "store", registers)
 
     def analyse_cut(self) -> Tuple[bool, str]:
         """The answer under the depths of the spec's recursions: those that the nodes tell which an analysis under depth 0 has."""

@@ -67,6 +67,14 @@ class Pointers:
                     return least + more, greatest + more
         return 0, 0xFFFF
 
+    def is_swapped(self, word: int, register: int) -> bool:
+        """Whether the halves of a pair were read the other way round, so that it is no pointer that was read as one."""
+        near = self.origins.run.nearby(word)
+        if near is None:
+            return False
+        (low, high), _ = loaded.pair_of(near.bytes[register], near.bytes[register + 1])
+        return loaded.are_halves(high, low)
+
     def why_written(self, word: int, address: int) -> Optional[str]:
         """Why the store at a word may be one through a number that is an address; None where it isn't."""
         store = effects.at(self.elf, word)
@@ -78,6 +86,8 @@ class Pointers:
         least, greatest = self.span(word, store.pair)
         if not least <= wanted <= greatest:
             return None
+        if self.is_swapped(word, store.pair):
+            return MADE
         return next(self.why(wanted, self.origins.pairs_at(word, store.pair)), None)
 
     def why(self, wanted: int, pairs: Iterator[Tuple[int, int]]) -> Iterator[str]:
@@ -96,6 +106,8 @@ class Pointers:
         if symbol is not None and symbol.name.startswith(loaded.TABLES):
             return None
         if not self.origins.is_reached(word):
+            return MADE
+        if self.is_swapped(word, Z):
             return MADE
         if self.may_be_virtual(word) and not self.virtual_functions() <= listed:
             return KEPT_VIRTUAL

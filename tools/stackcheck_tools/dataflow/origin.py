@@ -138,6 +138,8 @@ def mixed(ours: int, theirs: int, operation: str) -> int:
     if not ours or not theirs:
         return 0
     found = 0 if ours & POINTERS and theirs & POINTERS else (ours | theirs) & MADE
+    if operation == "xor":
+        found &= ~(KEPT | FLASH | OF_CLASS)  # as both halves of a number are swapped
     is_cleared = operation == "and" and ZERO in (ours, theirs)
     if is_cleared:
         return ZERO
