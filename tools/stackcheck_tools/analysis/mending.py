@@ -16,7 +16,7 @@ from stackcheck_tools.analysis.node_values import Nodes
 from stackcheck_tools.analysis.program import DEVICES, OK, REFUSED, USAGE, NoProgram, Program
 from stackcheck_tools.analysis.trials import DEVICE_LINES, Run, Scope, Stop, Trials, handled, scope
 from stackcheck_tools.analysis.widening import Lists, widen
-from stackcheck_tools.dataflow import calls
+from stackcheck_tools.dataflow import calls, virtual_calls
 from stackcheck_tools.firmware import candidates, opcodes, register_results, switches
 from stackcheck_tools.firmware.firmware import Firmware
 from stackcheck_tools.spec import parameters, recursion, scratch
@@ -141,6 +141,7 @@ class Mending(Analysis):
         self.lines.add_pairs()
         self.add_scratch()
         self.add_results()
+        self.add_foreseen()
         has_masks = self.begin_with_masks()
         self.mend()
         self.limit_recursion()
@@ -176,6 +177,17 @@ class Mending(Analysis):
         for word, registers in register_results.stores(self.elf).items():
             if self.is_open(word, "store", registers):
                 self.lines.add(word, "store", registers)
+
+    def add_foreseen(self) -> None:
+        """Lists of calls through pointers, if an analysis without them is certainly refused: code that is entered by name reads such a pointer
+        from memory."""
+        begins = {it.address // 2 for it in self.elf.named("main")}
+        begins |= {opcodes.jump_target(self.elf, self.device.vector_word(it)) or 0 for it in handled(self.elf, self.device)}
+        reached = begins.union(*(candidates.reached(self.elf, it) for it in begins))
+        sites = list(candidates.indirect(self.elf))
+        if any((symbol := self.elf.symbol_at(2 * it)) and symbol.address // 2 in reached and virtual_calls.is_read(self.elf, it)
+               for it in sites):
+            self.add_targets(sites)
 
     def analyse_cut(self) -> Tuple[bool, str]:
         """The answer under the depths of the spec's recursions: those that the nodes tell which an analysis under depth 0 has."""
