@@ -5,8 +5,9 @@ from __future__ import annotations
 from typing import TYPE_CHECKING, Dict, List, NamedTuple, Optional
 
 from stackcheck_tools.analysis import causes, places, warnings_of_words
-from stackcheck_tools.analysis.kinds import ORDINARY, SAFETY, WHOLE
+from stackcheck_tools.analysis.kinds import ORDINARY, SAFETY, STORES, WHOLE
 from stackcheck_tools.analysis.widening import Lists, bound_of
+from stackcheck_tools.dataflow import stored
 from stackcheck_tools.firmware.firmware import Firmware
 from stackcheck_tools.spec.lines import Lines
 from stackcheck_tools.spec.recursion import Recursion
@@ -15,10 +16,12 @@ from stackcheck_tools.spec.spec import MASKS, NOWHERE
 if TYPE_CHECKING:
     from stackcheck_tools.analysis.mending import Mending
 
+LARGE = 2048  # bytes of code from which on it is looked whether the line is needed before it is tried
 MANY = 10_000  # nodes from which on it is looked: some seconds of analysis
 TIMES = 4  # as many nodes as without the line, from which on it costs too much
 LANGUAGE, GIVEN = "language", "given"
 LEFT_OUT = "the line `masks` is left out: with it the analysis is {} times as large, and bound and places are the same"
+NEEDLESS = "the line `masks` is left out: no store may be meant for a register that enables interrupts"
 KEPT = "the line `masks` makes the analysis {} times as large, and saves {} place{} to review"
 
 
@@ -46,12 +49,31 @@ def sort_of(kind: str) -> str:
     return "ordinary" if kind in ORDINARY else LANGUAGE if kind in (SAFETY, WHOLE) else GIVEN
 
 
-def places_of(work: "Mending") -> Dict[str, str]:
-    """The places of an answer, each with who is at fault there."""
+def kinds_of(work: "Mending") -> Dict[str, str]:
+    """The places of an answer, each with its kind."""
     told, firmware, certificate = work.told(), work.firmware, work.certificate or ""
     answer = Answer(firmware, certificate, work.lines, work.lists, work.recursions, told, causes.by_word(firmware.device, told or []), {},
                     warnings_of_words.warnings(firmware, certificate))
-    return {str(word): sort_of(kind) for entry in places.entries(answer) for word, kind in entry.kinds.items()}
+    return {str(word): kind for entry in places.entries(answer) for word, kind in entry.kinds.items()}
+
+
+def places_of(work: "Mending") -> Dict[str, str]:
+    """The same, each with who is at fault there."""
+    return {word: sort_of(kind) for word, kind in kinds_of(work).items()}
+
+
+def is_needless(work: "Mending") -> bool:
+    """Whether a large firmware has a bound without the line, and no place for want of it. Then the line isn't tried: it makes an analysis
+    several times as large. Where a function stores the address of a register that enables interrupts, as drivers do, that isn't looked at."""
+    if not work.device.is_first() or work.lines.has_masks() or work.elf.flash_end < LARGE or stored.numbers(work.elf) & work.device.enabling:
+        return False
+    other = work.copy()
+    if not other.settle_own() or STORES in kinds_of(other).values():
+        work.program()  # whose assumption file the look wrote anew
+        return False
+    work.use(other)
+    work.told_of_masks = NEEDLESS
+    return True
 
 
 def lean(work: "Mending") -> Optional["Mending"]:

@@ -142,7 +142,7 @@ class Mending(Analysis):
         self.add_scratch()
         self.add_results()
         self.add_foreseen()
-        has_masks = self.begin_with_masks()
+        has_masks = not mask_cost.is_needless(self) and self.begin_with_masks()
         self.mend()
         self.limit_recursion()
         if self.refusal and has_masks:
@@ -214,6 +214,13 @@ class Mending(Analysis):
                 return True
             if self.refusal is None or not self.at_refusal(self.refusal):
                 return False
+        return False
+
+    def settle_own(self) -> bool:
+        """The same with the lines that places ask for."""
+        while self.certificate or self.settle():
+            if not self.add_own():
+                return True
         return False
 
     def mend(self) -> None:
