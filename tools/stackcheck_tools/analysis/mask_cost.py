@@ -91,12 +91,11 @@ def weigh(work: "Mending") -> None:
     nodes = nodes_in(work.certificate or "")
     if nodes <= MANY or work.lines.is_given(NOWHERE, MASKS) or not (work.lines.has_masks() and work.device.is_first()):
         return
-    before = places_of(work)
     other = lean(work)
     if other is None:
         work.program()  # whose assumption file the look wrote anew
         return
-    times, after = round(nodes / nodes_in(other.certificate or "")), places_of(other)
+    times, before, after = round(nodes / nodes_in(other.certificate or "")), places_of(work), places_of(other)
     if after == before and not work.stop:
         other.try_from(0)
         if not other.stop:
