@@ -8,6 +8,7 @@ from stackcheck_tools.analysis import causes, places, warnings_of_words
 from stackcheck_tools.analysis.kinds import ORDINARY, SAFETY, STORES, WHOLE
 from stackcheck_tools.analysis.widening import Lists, bound_of
 from stackcheck_tools.dataflow import stored
+from stackcheck_tools.firmware.elf import CODE_END
 from stackcheck_tools.firmware.firmware import Firmware
 from stackcheck_tools.spec.lines import Lines
 from stackcheck_tools.spec.recursion import Recursion
@@ -21,7 +22,6 @@ MANY = 10_000  # nodes from which on it is looked: some seconds of analysis
 TIMES = 4  # as many nodes as without the line, from which on it costs too much
 LANGUAGE, GIVEN = "language", "given"
 LEFT_OUT = "the line `masks` is left out: with it the analysis is {} times as large, and bound and places are the same"
-NEEDLESS = "the line `masks` is left out: no store may be meant for a register that enables interrupts"
 KEPT = "the line `masks` makes the analysis {} times as large, and saves {} place{} to review"
 
 
@@ -65,14 +65,14 @@ def places_of(work: "Mending") -> Dict[str, str]:
 def is_needless(work: "Mending") -> bool:
     """Whether a large firmware has a bound without the line, and no place for want of it. Then the line isn't tried: it makes an analysis
     several times as large. Where a function stores the address of a register that enables interrupts, as drivers do, that isn't looked at."""
-    if not work.device.is_first() or work.lines.has_masks() or work.elf.flash_end < LARGE or stored.numbers(work.elf) & work.device.enabling:
+    size = sum(size for address, size, _ in work.elf.loaded if address < CODE_END)
+    if not work.device.is_first() or work.lines.has_masks() or size < LARGE or stored.numbers(work.elf) & work.device.enabling:
         return False
     other = work.copy()
     if not other.settle_own() or STORES in kinds_of(other).values():
         work.program()  # whose assumption file the look wrote anew
         return False
     work.use(other)
-    work.told_of_masks = NEEDLESS
     return True
 
 
