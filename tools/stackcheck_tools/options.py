@@ -77,8 +77,8 @@ MORE = (
     "store or call through a number that the program makes to a pointer is one, as *(uint8_t *)received = 1. At a memory-safety place "
     "only a program with undefined behaviour is flagged: a store that leaves the object its pointer was made from, or a call through a "
     "pointer that enters no function whose address is taken. With the line `masks`, such a store may still enable an interrupt without a "
-    "handler; the bound says so. Taken for granted: two bytes that are read as one pointer from memory that holds pointers are one, as "
-    "`next` of a list, and no pointer to a virtual member is made a plain one (docs/FORMATS.md, \"What is not seen\").",
+    "handler; the bound says so. \"None made from a number\": a number that stands where pointers stand, as `next` of a list does, is not used "
+    "as one, as by a monitor that pokes or a table of services at a fixed address (docs/FORMATS.md, \"What is not seen\").",
     "stackcheck adds the lines that the spec lacks, and prints each: as `assumed:` if the bound rests on it, else as `added:`. A call "
     "through a pointer gets all functions whose address is taken, by the linker's records (-Wl,--emit-relocs) or by a search, which misses "
     "a handler that is called through a pointer. If this gives no bound, the call gets fewer, and is an ordinary place.",

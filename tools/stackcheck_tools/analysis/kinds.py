@@ -40,6 +40,7 @@ def moving(outcome: Accepted) -> str:
     return device.moving.registers[0] if device.moving else ""
 
 
-def core(outcome: Accepted) -> str:
-    """The registers of the core, in words."""
-    return f"SREG, SP and {moving(outcome)}" if moving(outcome) else "SREG and SP"
+def core(outcome: Accepted, pointer: str = "SP", link: str = "and") -> str:
+    """The registers of the core, in words; the stack pointer by a name."""
+    *first, last = [it for it in ("SREG", pointer, *outcome.firmware.device.banks, moving(outcome)) if it]
+    return f"{', '.join(first)} {link} {last}"

@@ -6,18 +6,21 @@ from dataclasses import replace
 from typing import Dict, List, NamedTuple, Optional, Sequence
 
 from stackcheck_tools.analysis import causes, places, warnings_of_words
-from stackcheck_tools.analysis.kinds import ORDINARY, SAFETY, WHOLE
+from stackcheck_tools.analysis.kinds import ORDINARY, SAFETY, STORES, WHOLE
 from stackcheck_tools.analysis.mending import tried_from
 from stackcheck_tools.analysis.questions import Search
-from stackcheck_tools.analysis.settling import analysed
+from stackcheck_tools.analysis.settling import analysed, settled_own
 from stackcheck_tools.analysis.state import Facts, Lists, State
 from stackcheck_tools.analysis.state import told as told_of
 from stackcheck_tools.analysis.widening import bound_of
+from stackcheck_tools.dataflow import stored
+from stackcheck_tools.firmware.elf import CODE_END
 from stackcheck_tools.firmware.firmware import Firmware
 from stackcheck_tools.spec.lines import Lines
 from stackcheck_tools.spec.recursion import Recursion
 from stackcheck_tools.spec.spec import MASKS, NOWHERE
 
+LARGE = 2048  # bytes of code from which on it is looked whether the line is needed before it is tried
 MANY = 10_000  # nodes from which on it is looked: some seconds of analysis
 TIMES = 4  # as many nodes as without the line, from which on it costs too much
 LANGUAGE, GIVEN = "language", "given"
@@ -49,12 +52,30 @@ def sort_of(kind: str) -> str:
     return "ordinary" if kind in ORDINARY else LANGUAGE if kind in (SAFETY, WHOLE) else GIVEN
 
 
-def places_of(facts: Facts, state: State) -> Search[Dict[str, str]]:
-    """The places of an answer, each with who is at fault there."""
+def kinds_of(facts: Facts, state: State) -> Search[Dict[str, str]]:
+    """The places of an answer, each with its kind."""
     told, firmware, certificate = (yield from told_of(state)), facts.firmware, state.certificate or ""
     answer = Answer(firmware, certificate, state.lines, state.lists, state.recursions, told, causes.by_word(firmware.device, told), {},
                     warnings_of_words.warnings(firmware, certificate))
-    return {str(word): sort_of(kind) for entry in places.entries(answer) for word, kind in entry.kinds.items()}
+    return {str(word): kind for entry in places.entries(answer) for word, kind in entry.kinds.items()}
+
+
+def places_of(facts: Facts, state: State) -> Search[Dict[str, str]]:
+    """The same, each with who is at fault there."""
+    return {word: sort_of(kind) for word, kind in (yield from kinds_of(facts, state)).items()}
+
+
+def needless(facts: Facts, state: State) -> Search[Optional[State]]:
+    """A large firmware's bound without the line, if there is one and no place for want of it; else None. Then the line isn't tried: it
+    makes an analysis several times as large. Where a function stores the address of a register that enables interrupts, as drivers do,
+    that isn't looked at."""
+    size = sum(size for address, size, _ in facts.elf.loaded if address < CODE_END)
+    if not facts.device.is_first() or state.lines.has_masks() or size < LARGE or stored.numbers(facts.elf) & facts.device.enabling:
+        return None
+    other = yield from settled_own(facts, state.look())
+    if other is None or STORES in (yield from kinds_of(facts, other)).values():
+        return None
+    return state.adopt(other)
 
 
 def lean(facts: Facts, state: State) -> Search[Optional[State]]:

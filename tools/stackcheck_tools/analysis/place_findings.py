@@ -16,7 +16,7 @@ from stackcheck_tools.analysis.kinds import (
     UNUSED,
     VECTORS,
     WHOLE,
-    moving,
+    core,
 )
 from stackcheck_tools.analysis.locations import of_word, of_words
 from stackcheck_tools.finding import ERROR, MEMORY_SAFETY, NOTE, ORDINARY, SPEC, WARNING, Finding, Location, Related, Review
@@ -75,8 +75,7 @@ def message(outcome: Accepted, it: Place, rule: str) -> str:
     """A place as one sentence."""
     if it.says:
         return f"{vector_name(outcome, it)} {it.says}"
-    registers = f"SREG, the stack pointer or {moving(outcome)}" if moving(outcome) else "SREG or the stack pointer"
-    return MESSAGES[rule].format(where=where(outcome, it), core=registers)
+    return MESSAGES[rule].format(where=where(outcome, it), core=core(outcome, "the stack pointer", "or"))
 
 
 def subject(outcome: Accepted, it: Place) -> Optional[str]:

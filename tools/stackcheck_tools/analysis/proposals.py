@@ -10,7 +10,7 @@ from stackcheck_tools.analysis.cures import RECURSION, UNKNOWN_POINTER, UNRESOLV
 from stackcheck_tools.analysis.node_values import Nodes
 from stackcheck_tools.analysis.state import Facts, State
 from stackcheck_tools.dataflow import calls
-from stackcheck_tools.firmware import candidates
+from stackcheck_tools.firmware import candidates, switches
 from stackcheck_tools.spec.lines import Lines
 from stackcheck_tools.spec.sites import frames_of
 from stackcheck_tools.spec.spec import MOST_ITEMS, is_unhandled
@@ -97,6 +97,9 @@ def steps(facts: Facts, number: str, word: int) -> Iterator[Step]:
         if number == UNTRACKED_SP:
             yield "frames that are given back otherwise", lambda state: state.under(with_frames(facts, state.lines))
         yield targets
+        if number == UNTRACKED_SP:  # the loop that calls constructors leads anywhere if not all bits of their words are known
+            yield ("the targets of the helper that calls constructors",
+                   lambda state: with_targets(facts, state, switches.of_helper_itself(facts.elf)))
         if number == RECURSION:
             yield "no call leads back to where it stands", lambda state: state.under(narrowed(facts, state))
 

@@ -9,11 +9,15 @@ from stackcheck_tools.analysis import cycles, mask_cost
 from stackcheck_tools.analysis.cures import CURES, cure
 from stackcheck_tools.analysis.masked import with_masks, without_masks
 from stackcheck_tools.analysis.mending import mended, tried_from
+from stackcheck_tools.analysis.proposals import is_open, with_targets
 from stackcheck_tools.analysis.questions import Certificate, Search, analyse
 from stackcheck_tools.analysis.settling import analysed
 from stackcheck_tools.analysis.state import Facts, State, told
 from stackcheck_tools.analysis.stops import reads_masks
+from stackcheck_tools.analysis.trials import handled
 from stackcheck_tools.analysis.widening import widened
+from stackcheck_tools.dataflow import virtual_calls
+from stackcheck_tools.firmware import candidates, opcodes, register_results
 from stackcheck_tools.firmware.elf import Elf
 from stackcheck_tools.spec import parameters, scratch
 from stackcheck_tools.spec.lines import Lines
@@ -24,6 +28,26 @@ MOST_PARAMETERS = 2000  # pushes of parameters that get a line `scratch`
 def with_scratch(elf: Elf, lines: Lines) -> Lines:
     """Lines for the pushes of parameters, and for those of avr-libc's `exp`, whose bytes are written on purpose."""
     return lines.add_each(scratch.of_exp(elf) + list(parameters.pushes(elf))[:MOST_PARAMETERS], scratch.KIND)
+
+
+def with_results(facts: Facts, lines: Lines) -> Lines:
+    """Lines for stores by which avr-libc's functions write their results into registers."""
+    for word, registers in register_results.stores(facts.elf).items():
+        if is_open(State(lines), word, "store", registers):
+            lines = lines.add(word, "store", registers)
+    return lines
+
+
+def with_foreseen(facts: Facts, state: State) -> State:
+    """Lists of calls through pointers, if an analysis without them is certainly refused: code that is entered by name reads such a pointer
+    from memory."""
+    elf, device = facts.elf, facts.device
+    begins = {it.address // 2 for it in elf.named("main")}
+    begins |= {opcodes.jump_target(elf, device.vector_word(it)) or 0 for it in handled(elf, device)}
+    reached = begins.union(*(candidates.reached(elf, it) for it in begins))
+    sites = list(candidates.indirect(elf))
+    is_read = any((symbol := elf.symbol_at(2 * it)) and symbol.address // 2 in reached and virtual_calls.is_read(elf, it) for it in sites)
+    return with_targets(facts, state, sites) if is_read else state
 
 
 def limited(facts: Facts, state: State) -> Search[State]:
@@ -57,9 +81,14 @@ def plain(facts: Facts, state: State) -> Search[State]:
 
 def search(facts: Facts, state: State) -> Search[State]:
     """The answer with lines of this tool."""
-    before = with_scratch(facts.elf, state.lines.add_pairs())
-    lines, has_masks = with_masks(facts, before)
-    state = yield from mended(facts, state.under(lines))
+    state = with_foreseen(facts, state.under(with_results(facts, with_scratch(facts.elf, state.lines.add_pairs()))))
+    before, has_masks = state.lines, False
+    if found := (yield from mask_cost.needless(facts, state)):
+        state = found
+    else:
+        lines, has_masks = with_masks(facts, before)
+        state = state.under(lines)
+    state = yield from mended(facts, state)
     state = yield from limited(facts, state)
     if state.refusal and has_masks:
         state = yield from without_masks(facts, state, before)

@@ -107,3 +107,15 @@ def with_own(facts: Facts, state: State) -> Search[Tuple[State, bool]]:
             return more, True
         state = more
     return state, False
+
+
+def settled_own(facts: Facts, state: State) -> Search[Optional[State]]:
+    """A bound with the lines that refusals and places ask for; None where there is none."""
+    is_new = True
+    while is_new:
+        if state.certificate is None:
+            state = yield from settled(facts, state)
+            if state.certificate is None:
+                return None
+        state, is_new = yield from with_own(facts, state)
+    return state

@@ -5,8 +5,9 @@ from __future__ import annotations
 import bisect
 from typing import Dict, List, Optional, Tuple
 
+from stackcheck_tools.dataflow import virtual_calls
 from stackcheck_tools.dataflow.origin import CODE, MOVED, NUMBER, OTHER, TABLE, ZERO, object_bit
-from stackcheck_tools.firmware import candidates, effects, records, switches
+from stackcheck_tools.firmware import candidates, effects, records, switches, virtual_tables
 from stackcheck_tools.firmware.elf import ABSOLUTE, ALLOCATED, CODE_END, EEPROM, Elf
 from stackcheck_tools.firmware.records import Record
 
@@ -18,7 +19,8 @@ OF_TWO_BYTES = (4, 5)
 
 
 class Addresses:
-    """`spans`: begin and end of each object in SRAM, whose places in this list are their numbers."""
+    """`spans`: begin and end of each object in SRAM, whose places in this list are their numbers. `tables`: the bits of those that are tables of
+    virtual functions, and `table_bytes`: how far behind the pointer of an object one ends at most."""
 
     def __init__(self, elf: Elf) -> None:
         self.elf, self.has_records = elf, records.has_records(elf)
@@ -26,6 +28,10 @@ class Addresses:
         self.begins = [it[0] for it in self.spans]
         self.data = [(it[3] - CODE_END, it[3] - CODE_END + it[5]) for it in elf.headers
                      if it[2] & ALLOCATED and it[5] and elf.sram() <= it[3] < EEPROM]
+        numbers = [self.number_at(begin - CODE_END) for begin, _ in virtual_tables.spans(elf)]
+        self.tables = sum({object_bit(it) for it in numbers if it is not None})
+        self.with_function: Dict[int, int] = {}
+        self.table_bytes = max((2 * len(it.words) for it in virtual_tables.points(elf)), default=0)
         self.functions = {it.address // 2 for it in elf.code}
         if not self.has_records:
             self.functions |= {word for site in candidates.indirect(elf) for word in switches.labels(elf, site)}
@@ -35,6 +41,14 @@ class Addresses:
             is_placed = record.section not in (records.UNDEFINED, ABSOLUTE) or record.section and record.base >= CODE_END
             if record.kind not in (0, *records.BRANCHES) and is_placed:
                 self.named.setdefault(record.place, []).append(record)
+
+    def tables_with(self, function: int) -> int:
+        """The bits of the tables of virtual functions in which a function stands whose address is taken nowhere else; 0 of another one."""
+        if self.tables and function not in self.with_function:
+            found = {self.object_at(it.address - CODE_END) & self.tables for it in virtual_tables.tables(self.elf) if function in it.words}
+            is_alone = found and function not in virtual_calls.taken_by(self.elf, virtual_tables.spans(self.elf))
+            self.with_function[function] = sum(found) if is_alone else 0
+        return self.with_function.get(function, 0)
 
     def number_at(self, address: int) -> Optional[int]:
         """The number of the object at an address of SRAM; None where none has a name there."""

@@ -5,7 +5,20 @@ from __future__ import annotations
 from typing import Dict, Iterator, NamedTuple, Optional, Set, Tuple
 
 from stackcheck_tools.dataflow.addresses import Addresses
-from stackcheck_tools.dataflow.origin import ALONE, CONSTANTS, KEPT, MOVED, NUMBER, NUMBERS, OBJECTS, POINTERS, ZERO, few, object_bit
+from stackcheck_tools.dataflow.origin import (
+    ALONE,
+    CONSTANTS,
+    KEPT,
+    MOVED,
+    NUMBER,
+    NUMBERS,
+    OBJECTS,
+    OF_CLASS,
+    POINTERS,
+    ZERO,
+    few,
+    object_bit,
+)
 
 NAMELESS = -1  # the object of bytes at known addresses in which no object has a name
 IS_POINTER = POINTERS | ALONE
@@ -116,9 +129,9 @@ class Memory:
         whole, variables = self.frame(entry), self.variables.get(entry, {})
         end = min((it for it in variables if begin is not None and it > begin), default=None)
         found = 0
-        for one in [place.number] if begin is not None else [whole, *variables.values()]:
-            for it in self.of.get(one, ()):
-                found |= self.through.get(it, 0) if not place.is_known or it.may_be(place.distance) else 0
+        for own, one in [(0, place.number)] if begin is not None else [(0, whole), *variables.items()]:
+            for it in self.of.get(one, ()):  # of a variable in the frame by its own distances
+                found |= self.through.get(it, 0) if not place.is_known or it.may_be(place.distance - own) else 0
         for it in self.of.get(whole, ()):
             is_inside = begin is None or begin <= it.distance and (end is None or it.distance < end)
             if is_inside and (not place.is_known or it.distance == place.distance + (begin or 0)):
@@ -147,9 +160,9 @@ class Memory:
         """What a byte is that is read through a pointer made of an object."""
         found = self.held(place)
         if self.is_open(place.number) or not self.is_pure(place) or found & IS_POINTER:
-            return KEPT
+            return KEPT | (OF_CLASS if found & self.told.tables else 0)
         if not self.is_static(place.number):
-            return NUMBER
+            return NUMBER if found else KEPT  # what nothing was written to has no value in the language
         if not place.is_known and self.first(place) & CONSTANTS & ~ZERO and not self.is_overwritten(place):
             first = few(self.first(place))  # a table may have addresses of registers, as drivers have them of their ports
             return KEPT if first & NUMBER else KEPT | first

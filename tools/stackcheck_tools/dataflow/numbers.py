@@ -5,9 +5,9 @@ from __future__ import annotations
 import functools
 from typing import AbstractSet, FrozenSet, Iterator, Optional, Set, Tuple
 
-from stackcheck_tools.dataflow import loaded
+from stackcheck_tools.dataflow import loaded, virtual_calls
 from stackcheck_tools.dataflow.addresses import Addresses
-from stackcheck_tools.dataflow.origin import ALONE, FLASH, KEPT, MOVED, NUMBER, OBJECTS, POINTERS, constants, is_number
+from stackcheck_tools.dataflow.origin import ALONE, FLASH, KEPT, MOVED, NUMBER, OBJECTS, POINTERS, VIRTUAL, constants, is_number
 from stackcheck_tools.dataflow.origins import Origins
 from stackcheck_tools.firmware import effects, virtual_tables
 from stackcheck_tools.firmware.effects import Z
@@ -18,6 +18,7 @@ MADE = "is made of a number"
 IN_FLASH = "is read from a table in flash that has this number"
 IN_DATA = "is read from memory that has this number first"
 ADDED = "is something added to a pointer that was read from memory"
+KEPT_VIRTUAL = "may be a virtual function that was read from a table and kept, as of a pointer to a member that is made a plain one"
 
 
 def is_address(told: Addresses, place: int) -> bool:
@@ -66,6 +67,14 @@ class Pointers:
                     return least + more, greatest + more
         return 0, 0xFFFF
 
+    def is_swapped(self, word: int, register: int) -> bool:
+        """Whether the halves of a pair were read the other way round, so that it is no pointer that was read as one."""
+        near = self.origins.run.nearby(word)
+        if near is None:
+            return False
+        (low, high), _ = loaded.pair_of(near.bytes[register], near.bytes[register + 1])
+        return loaded.are_halves(high, low)
+
     def why_written(self, word: int, address: int) -> Optional[str]:
         """Why the store at a word may be one through a number that is an address; None where it isn't."""
         store = effects.at(self.elf, word)
@@ -77,6 +86,8 @@ class Pointers:
         least, greatest = self.span(word, store.pair)
         if not least <= wanted <= greatest:
             return None
+        if self.is_swapped(word, store.pair):
+            return MADE
         return next(self.why(wanted, self.origins.pairs_at(word, store.pair)), None)
 
     def why(self, wanted: int, pairs: Iterator[Tuple[int, int]]) -> Iterator[str]:
@@ -96,7 +107,24 @@ class Pointers:
             return None
         if not self.origins.is_reached(word):
             return MADE
+        if self.is_swapped(word, Z):
+            return MADE
+        if self.may_be_virtual(word) and not self.virtual_functions() <= listed:
+            return KEPT_VIRTUAL
         return next(self.why_entered(listed, self.origins.pairs_at(word, Z)), None)
+
+    def virtual_functions(self) -> Set[int]:
+        return {word for it in virtual_tables.tables(self.elf) for word in it.words if virtual_tables.is_function(self.elf, word)}
+
+    def may_be_virtual(self, word: int) -> bool:
+        """Whether the pointer of a call that reads no table of its object may be a function that was read from one before: it is read from
+        memory to which such a function may have been written."""
+        call = virtual_calls.of_site(self.elf, word) if self.told.tables else None
+        if call is None or call.points is not None:
+            return False
+        pairs = [low | high for low, high in self.origins.pairs_at(word, Z)]
+        return any(it & VIRTUAL or it & (KEPT | FLASH) and self.origins.keeps_virtual() for it in pairs) if call.place is None \
+            else self.origins.keeps_virtual()
 
     def why_entered(self, listed: AbstractSet[int], pairs: Iterator[Tuple[int, int]]) -> Iterator[str]:
         handled = self.elf.chip.vector_words * self.elf.chip.last_vector

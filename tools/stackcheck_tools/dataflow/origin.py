@@ -15,9 +15,11 @@ CODE = 1 << 261  # the address of a function
 TABLE = 1 << 262  # the address of something in flash
 OTHER = 1 << 263  # the address of an object without a name
 LESS = 1 << 264  # a number less the address of an object
-FIRST_OBJECT = 265
+OF_CLASS = 1 << 265  # with `KEPT`: may be an object's pointer to its table of virtual functions, read from the object
+VIRTUAL = 1 << 266  # with `KEPT`: may be a function that was read from such a table
+FIRST_OBJECT = 267
 OBJECTS = -1 << FIRST_OBJECT | OTHER
-MADE = OBJECTS | KEPT | FLASH | TABLE  # what stays a pointer if something is added to it
+MADE = OBJECTS | KEPT | FLASH | TABLE | OF_CLASS  # what stays a pointer if something is added to it
 POINTERS = MADE | CODE
 NUMBERS = CONSTANTS | NUMBER | ALONE
 ZERO = 1  # the constant 0
@@ -136,6 +138,8 @@ def mixed(ours: int, theirs: int, operation: str) -> int:
     if not ours or not theirs:
         return 0
     found = 0 if ours & POINTERS and theirs & POINTERS else (ours | theirs) & MADE
+    if operation == "xor":
+        found &= ~(KEPT | FLASH | OF_CLASS)  # as both halves of a number are swapped
     is_cleared = operation == "and" and ZERO in (ours, theirs)
     if is_cleared:
         return ZERO
@@ -170,7 +174,7 @@ def shifted(byte: int, shifts: int, carries: bool) -> int:
 
 def alone(byte: int) -> int:
     """A byte that was read from memory for itself."""
-    return byte & ~KEPT | ALONE if byte & KEPT else byte
+    return byte & ~(KEPT | OF_CLASS | VIRTUAL) | ALONE if byte & KEPT else byte
 
 
 def paired(byte: int) -> int:
@@ -179,7 +183,7 @@ def paired(byte: int) -> int:
 
 
 SHOWN = {"number": NUMBER, "alone": ALONE, "kept": KEPT, "flash": FLASH, "moved": MOVED, "code": CODE, "table": TABLE,
-         "other": OTHER, "less": LESS}
+         "other": OTHER, "less": LESS, "of class": OF_CLASS, "virtual": VIRTUAL}
 
 
 def shown(byte: int) -> str:

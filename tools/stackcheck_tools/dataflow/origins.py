@@ -6,14 +6,32 @@ before found. """
 
 from __future__ import annotations
 
+import functools
 import heapq
 from typing import Dict, Iterator, List, NamedTuple, Optional, Protocol, Set, Tuple
 
-from stackcheck_tools.dataflow import instructions, loaded, origin
+from stackcheck_tools.dataflow import instructions, loaded, origin, virtual_calls
 from stackcheck_tools.dataflow.addresses import Addresses
 from stackcheck_tools.dataflow.instructions import Instruction
 from stackcheck_tools.dataflow.memory import Memory, Place
-from stackcheck_tools.dataflow.origin import ALONE, CODE, FLASH, KEPT, MOVED, NUMBER, OBJECTS, OTHER, POINTERS, TABLE, ZERO, constants, few
+from stackcheck_tools.dataflow.origin import (
+    ALONE,
+    CODE,
+    FLASH,
+    KEPT,
+    MOVED,
+    NUMBER,
+    NUMBERS,
+    OBJECTS,
+    OF_CLASS,
+    OTHER,
+    POINTERS,
+    TABLE,
+    VIRTUAL,
+    ZERO,
+    constants,
+    few,
+)
 from stackcheck_tools.firmware import effects, opcodes, start_up
 from stackcheck_tools.firmware.devices import Device
 from stackcheck_tools.firmware.effects import Y, Z
@@ -22,8 +40,9 @@ from stackcheck_tools.firmware.elf import Elf, Symbol
 Key = Tuple[int, int]  # the word at which a function is entered, and one that is reached there
 Registers = Tuple[int, ...]
 KEPT_BY_CALLS = (*range(2, 18), 28, 29)
+OWN = 24  # the pair in which a member function gets its object
 NO_ARGUMENTS = (*range(2, 8), 28, 29)  # registers in which no caller leaves anything for a callee
-# the lowest register in which avr-libc's functions get an argument that keep in lower ones what they haven't set on each way
+# the lowest register in which avr-libc's functions of the heap get an argument, which keep in lower ones what they haven't set on each way
 LOWEST = {"malloc": 24, "free": 24, "realloc": 22, "calloc": 22}
 MOST_ROUNDS = 40
 MORE_RUNS = 2  # behind the second one, while each finds that more memory holds nothing but numbers
@@ -70,7 +89,8 @@ def joined(ours: Registers, theirs: Registers) -> Registers:
 
 class Run:
     """One run of the worklist. `before`: what is known before each word, by the function that was entered; `ways`: the words from which
-    each is reached; `leaving`: those at which a function ends; `returned`: what calls enter that return."""
+    each is reached; `leaving`: those at which a function ends; `returned`: what calls enter that return; `kept`: the words of stores that keep
+    what may be a function read from a table of virtual functions, and where (None: not known)."""
 
     def __init__(self, firmware: Firmware, earlier: Optional["Run"] = None) -> None:
         self.elf, self.device, self.reached, self.targets, self.told = firmware
@@ -82,6 +102,7 @@ class Run:
         self.ways: Dict[Key, Set[Key]] = {}
         self.leaving: Dict[int, Set[Key]] = {}
         self.returned: Dict[Key, Set[int]] = {}
+        self.kept: Set[Tuple[int, Optional[Place]]] = set()
         self.now: Optional[Key] = None  # the word that is followed
         self.readers: Dict[int, Set[Key]] = {}  # by what they read
         self.left: List[Tuple[int, int]] = []  # ranks of functions, and words; what is called is followed before its caller goes on
@@ -170,15 +191,41 @@ class Run:
             for it in self.callers.get(entry, ()):
                 self.push(it)
 
-    def call(self, key: Key, to: int, after: Optional[int]) -> None:
-        """Enters a function, behind which a run goes on at a word, or returns itself."""
+    def enter_by_pointer(self, key: Key, to: int, after: Optional[int]) -> None:
+        """Enters a function through a pointer. One that stands in tables of virtual functions alone is given an object that has such a table,
+        and no number: the list of a call may have functions that it does not enter."""
+        tables = self.told.tables_with(to)
+        if not tables:
+            self.call(key, to, after)
+            return
+        low, high = (self.with_tables(key, it, tables) for it in self.before[key].registers[OWN:OWN + 2])
+        if low and high:
+            self.call(key, to, after, (low, high))
+
+    def with_tables(self, key: Key, byte: int, tables: int) -> int:
+        """What a half of the pointer to an object with one of these tables may be made of; 0 if it is made of other objects alone. The first
+        run waits until an object has a table."""
+        is_first, found = self.memory.known is None, byte & ~NUMBERS or KEPT
+        for number in origin.objects(byte) if not byte & MOVED else ():
+            self.readers.setdefault(self.memory.whole(number), set()).add(key)
+            held = self.memory.held(Place(number, 0, True)) & self.told.tables
+            if (held or is_first) and not held & tables:
+                found &= ~origin.object_bit(number)
+        return found
+
+    def call(self, key: Key, to: int, after: Optional[int], own: Optional[Tuple[int, int]] = None) -> None:
+        """Enters a function, behind which a run goes on at a word, or returns itself. `own`: what its first argument is made of, where that
+        isn't what the registers hold."""
         state = self.before[key]
         self.callers.setdefault(to, set()).add(key)
         arguments = Behind(self, key, instructions.at(self.elf, key[1])).arguments()
+        arguments[OWN:OWN + 2] = own or arguments[OWN:OWN + 2]
         function = self.function(to)
         lowest = LOWEST.get(function.name, 0) if function is not None else 0
         for it in (*NO_ARGUMENTS, *range(8, lowest)):
             arguments[it] = 0
+        if function is not None and not virtual_calls.CHANGED_ARGUMENTS.search(function.name):
+            arguments = [it & ~OF_CLASS for it in arguments]  # no expression of the language is the pointer to a table
         self.enter((to, to), State(tuple(arguments), {}))
         given = self.exits.get(to)
         if given is None:
@@ -211,8 +258,10 @@ class Run:
         return self.near[word]
 
     def nearby_after(self, word: int) -> Optional[loaded.State]:
-        """The same behind the instruction at a word, which is no jump."""
-        return self.nearby(instructions.at(self.elf, word).after)
+        """The same right behind the instruction at a word, which is no jump, before other ways join."""
+        own = self.function(word)
+        function = loaded.of_function(self.elf, own.address) if own else None
+        return function.from_words.get(instructions.at(self.elf, word).after, {}).get(word) if function and function.is_whole else None
 
     def step(self, key: Key) -> None:
         """Follows the instruction at a word."""
@@ -232,7 +281,7 @@ class Run:
             self.jump_through(key, code)
         else:
             for to in self.targets.of(word, "jump") | self.reached.known(word, Z):
-                self.call(key, to, code.after)
+                self.enter_by_pointer(key, to, code.after)
 
     def jump_through(self, key: Key, code: Instruction) -> None:
         """Follows `ijmp` and `eijmp`: to words of the same function, or as a call at the end of it."""
@@ -249,7 +298,7 @@ class Run:
             elif function is own:
                 self.enter((entry, to), self.before[key])
             else:
-                self.call(key, to, None)
+                self.enter_by_pointer(key, to, None)
 
     def jump(self, key: Key, code: Instruction) -> None:
         """Follows `jmp` and `rjmp`: in the same function, or to the begin of another one as a call at the end."""
@@ -298,6 +347,8 @@ class Behind:
         registers = self.registers
         if isinstance(effect, effects.Copy):
             registers[effect.to:effect.to + effect.size] = registers[effect.of:effect.of + effect.size]
+            if effect.size == 1 and registers[effect.to] & ALONE:
+                self.pair_copied(effect.to)
         elif isinstance(effect, effects.Constant):
             is_named = effect.is_named
             registers[effect.to] = self.told.of_immediate(self.word, effect.to, effect.byte, True) if is_named else 1 << effect.byte
@@ -407,11 +458,12 @@ class Behind:
     def follow_memory(self, effect: effects.Effect) -> None:
         registers = self.registers
         if isinstance(effect, effects.Load):
-            found = self.read(effect.pair, effect.more)
+            found, virtual = self.read(effect.pair, effect.more), self.virtual_at(effect.pair, effect.more)
             self.move(effect.pair, effect.step)
-            self.take(effect.to, found, KEPT)
+            self.take(effect.to, found, KEPT, virtual)
         elif isinstance(effect, effects.LoadAt):
-            self.take(effect.to, self.at_address(effect.address), KEPT)
+            is_virtual = self.told.object_at(effect.address) & self.told.tables
+            self.take(effect.to, self.at_address(effect.address), KEPT, VIRTUAL if is_virtual else 0)
         elif isinstance(effect, effects.LoadFlash):
             made = registers[Z] | registers[Z + 1]
             self.move(Z, effect.step)
@@ -489,6 +541,15 @@ class Behind:
                 return self.registers[at] | self.registers[at + 1]
         return None
 
+    def virtual_at(self, register: int, more: int) -> int:
+        """The mark of what may be a function in a table of virtual functions, where a pair may point to one. The heap's own lists are in C."""
+        own = self.code.function
+        if own is not None and own.name in LOWEST or not (self.registers[register] | self.registers[register + 1]) & (self.told.tables | OF_CLASS):
+            return 0
+        found = self.pair_at(register)
+        place = found[1] + more if found is not None else 0
+        return VIRTUAL if found is None or not virtual_calls.is_in_memory(found[0]) or 0 <= place < self.told.table_bytes else 0
+
     def read(self, register: int, more: int) -> int:
         """What a byte of memory is made of to which a pair points."""
         if (distance := self.distance(register)) is not None:
@@ -505,7 +566,8 @@ class Behind:
             self.note_read(place.number)
             found |= self.memory.through_pointer(place)
         if high & (KEPT | FLASH | OTHER) or not found:
-            found |= NUMBER if self.is_of_registers(low, high, more) else KEPT
+            kept = KEPT | OF_CLASS if self.told.tables else KEPT
+            found |= NUMBER if self.is_of_registers(low, high, more) else kept
         return few(found)
 
     def is_of_registers(self, low: int, high: int, more: int) -> bool:
@@ -527,8 +589,9 @@ class Behind:
             return self.registers[address]
         return NUMBER if self.is_io(address) else self.memory.static(address)
 
-    def take(self, to: int, found: int, mark: int) -> None:
-        """Gives a register a byte that was read: for itself, or as a half of the pair of which another register has the other half."""
+    def take(self, to: int, found: int, mark: int, virtual: int = 0) -> None:
+        """Gives a register a byte that was read: for itself, or as a half of the pair of which another register has the other half, with the
+        mark `virtual` then."""
         other = self.partner(to)
         if other is None:
             self.registers[to] = origin.alone(found)
@@ -540,7 +603,14 @@ class Behind:
             held = origin.paired(held)
         if mark == FLASH:
             found, held = (it & ~KEPT | FLASH if it & KEPT else it for it in (found, held))
-        self.registers[to], self.registers[other] = found, held
+        both = virtual | found & OF_CLASS
+        self.registers[to], self.registers[other] = found | both, held | both
+
+    def pair_copied(self, to: int) -> None:
+        """Makes a pair of two bytes that were read from neighbouring places into any registers, once both are copied into a pair."""
+        after, low = self.run.nearby_after(self.word), to & ~1
+        if after is not None and loaded.are_halves(after.bytes[low], after.bytes[low + 1]):
+            self.registers[low:low + 2] = [origin.paired(it) for it in self.registers[low:low + 2]]
 
     def partner(self, to: int) -> Optional[int]:
         """The register that holds the other half of the pair in memory of which a load reads one half. The lower half has to be in an even
@@ -563,14 +633,22 @@ class Behind:
         return None
 
     def write_frame(self, distance: int, byte: int) -> None:
-        self.memory.put(self.memory.by_name, Place(self.memory.frame(self.entry), distance, True), byte)
+        place = Place(self.memory.frame(self.entry), distance, True)
+        self.memory.put(self.memory.by_name, place, byte)
+        self.note_kept(byte, place)
         self.slots = {**self.slots, distance: byte if byte & OBJECTS else byte & ~MOVED}
 
     def write_at(self, address: int, byte: int) -> None:
         if address < SMALL:
             self.registers[address] = byte
         elif not self.is_io(address):
-            self.memory.put(self.memory.by_name, self.memory.place_of(address), byte)
+            place = self.memory.place_of(address)
+            self.memory.put(self.memory.by_name, place, byte & ~OF_CLASS)
+            self.note_kept(byte, place)
+
+    def note_kept(self, byte: int, place: Optional[Place]) -> None:
+        if byte & VIRTUAL:
+            self.run.kept.add((self.word, place))
 
     def write(self, register: int, more: int, byte: int) -> None:
         """Writes a byte to where a pair points, but for the loops of the start-up code, which write what stands there first."""
@@ -589,7 +667,10 @@ class Behind:
                 if it + more < SMALL:  # a register by its address
                     self.registers[it + more] = few(self.registers[it + more] | byte)
         for place in places:
-            self.memory.put(self.memory.through, place, byte)
+            self.memory.put(self.memory.through, place, byte & ~OF_CLASS)
+            self.note_kept(byte, place)
+        if not places:
+            self.note_kept(byte, None)
 
 
 class Origins:
@@ -603,12 +684,34 @@ class Origins:
             if not self.run.memory.has_purer():
                 break
             self.run = Run(firmware, self.run)
+        self.made: Optional[int] = None
         self.by_word: Dict[int, List[Key]] = {}
         for key in self.run.before:
             self.by_word.setdefault(key[1], []).append(key)
 
     def is_reached(self, word: int) -> bool:
         return word in self.by_word
+
+    def keeps_virtual(self) -> bool:
+        """Whether what may be a function read from a table of virtual functions is written to memory that something reads otherwise than by
+        name."""
+        return any(place is None or self.is_pointed_to(place) for _, place in self.run.kept)
+
+    def is_pointed_to(self, place: Place) -> bool:
+        """Whether a pointer to the object of a place may be made."""
+        memory = self.run.memory
+        if not memory.is_static(place.number):
+            return any(it <= place.distance for it in memory.variables.get(memory.places[place.number][0], ()))
+        return bool(self.pointed_to() >> origin.FIRST_OBJECT + place.number & 1)
+
+    def pointed_to(self) -> int:
+        """The bits of all objects whose address is in a register or in memory at any time."""
+        if self.made is None:
+            memory, told = self.run.memory, self.told
+            firsts = (told.first_value(at) for begin, end in told.spans for at in range(begin, end))
+            bytes_of_registers = (byte for state in self.run.before.values() for byte in state.registers)
+            self.made = functools.reduce(int.__or__, (*memory.by_name.values(), *memory.through.values(), *firsts, *bytes_of_registers), 0)
+        return self.made
 
     def pairs_at(self, word: int, register: int) -> Iterator[Tuple[int, int]]:
         """Yields what a pair of registers is made of at a word, by each function that reaches it; not where it is a place of the frame that

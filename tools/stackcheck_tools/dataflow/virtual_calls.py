@@ -51,6 +51,12 @@ def is_in_table(elf: Elf, address: int) -> bool:
     return any(begin <= CODE_END + address < end for begin, end in virtual_tables.spans(elf))
 
 
+def is_read(elf: Elf, site: int) -> bool:
+    """Whether the pointer of a call is read from memory on each way."""
+    function = function_at(elf, site)
+    return function is not None and are_halves(*function.before[site].bytes[Z:Z + 2]) and function.before[site].bytes[Z].kind in (FIXED, MEMORY)
+
+
 def of_site(elf: Elf, site: int) -> Optional[Call]:
     """What the call or jump through a pointer at a word reads; None where it may be anything."""
     function = function_at(elf, site)

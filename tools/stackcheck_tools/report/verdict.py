@@ -49,8 +49,8 @@ def of_language(outcome: Accepted) -> Optional[str]:
     if not stores and not calls:
         return None
     more = " and enable no vector without a handler" if any(it.may_enable for it in outcome.entries) else ""
-    text = "pointers keep to their objects and functions" if stores and calls else \
-        "pointer stores stay inside their objects" if stores else "pointer calls enter functions whose address is taken"
+    text = "pointers, none made from a number, keep to their objects and functions" if stores and calls else \
+        "pointer stores, none through a number, stay inside their objects" if stores else "pointer calls enter functions whose address is taken"
     return f"{text}{more} ({stores + calls} place{'' if stores + calls == 1 else 's'})"
 
 
