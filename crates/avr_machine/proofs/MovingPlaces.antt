@@ -8,8 +8,8 @@ use Rattle.avr_model.specs.declared.device.Device.{Device}
 use Rattle.avr_model.specs.declared.rows.MovingPlace.{MovingPlace}
 use Rattle.avr_model.specs.declared.assumption.Entry.{Entry}
 use Rattle.avr_model.specs.declared.effect.Write.{Write}
-use Rattle.avr_model.specs.Devices.{Image, device_row, device_of, io_base, guarded_end}
-use Rattle.avr_model.specs.Vectors.{is_core, is_moving, sets_moving}
+use Rattle.avr_model.specs.Devices.{Image, device_of, io_base, guarded_end}
+use Rattle.avr_model.specs.Vectors.{is_core, is_moving, sets_moving, moving_of}
 use Rattle.avr_model.specs.Step.{moves_vectors}
 use Rattle.avr_model.proofs.AllLaws.{devices_are_alike, moving_is_apart}
 use Rattle.vector_table.specs.Moving.{is_at, has_moving}
@@ -40,15 +40,15 @@ marked_there s marks small count a =
     ]
 
 -- a place has room in the table of marks
-pub place_small : (d : Device) (k : ℕ) (places : List (Option MovingPlace)) → places ≡ (device_row d).moving → IfSome (slice_index_or places k None) (λ p. p.address < 4101)
+pub place_small : (d : Device) (k : ℕ) (places : List (Option MovingPlace)) → places ≡ moving_of d → IfSome (slice_index_or places k None) (λ p. p.address < 4101)
 place_small d k places is = by (slice_index_or places k None) (ap (λ (xs : List (Option MovingPlace)). slice_index_or xs k None) (sym is))
   where
-    by : (o : Option MovingPlace) → slice_index_or (device_row d).moving k None ≡ o → IfSome o (λ p. p.address < 4101)
+    by : (o : Option MovingPlace) → slice_index_or (moving_of d) k None ≡ o → IfSome o (λ p. p.address < 4101)
     by None e = tt
     by (Some p) e = let le = moving_is_apart.place d k p e in let most = devices_are_alike.most_guarded d in omega (arith, le, most)
 
 -- two places
-pub two_places : (d : Device) (places : List (Option MovingPlace)) (a : ℕ) → places ≡ (device_row d).moving → length places ≡ 2
+pub two_places : (d : Device) (places : List (Option MovingPlace)) (a : ℕ) → places ≡ moving_of d → length places ≡ 2
     → (b : Bool) → ((b || is_at (slice_index_or places 0 None) a) || is_at (slice_index_or places 1 None) a) ≡ (b || has_moving d a)
 unfolding has_moving
 two_places d places a is count b = by places count b ∙ ap (λ (xs : List (Option MovingPlace)). b || list_any (λ (s : Option MovingPlace). is_at s a) xs) is

@@ -37,7 +37,7 @@ abbrev pub tests : Row → List Bool
 tests r =
     nat_le 9 r.width ∷ nat_le r.width 17 ∷ nat_le (r.io_base + 0x3F) r.io_end ∷ nat_le r.io_end 0x77FF ∷ nat_le r.size 32768 ∷ nat_le 2 r.last ∷ nat_le r.last 77 ∷ nat_le r.watchdog r.last
     ∷ nat_lt (r.step * (r.last - 1)) (2 ^ r.width) ∷ ((r.step == 1) || (r.step == 2)) ∷ list_all (λ (p : EnablePlace). nat_le p.vector r.last && (nat_le p.address r.guarded_end && not (is_core_of r p.address))) (family_of r.family)
-    ∷ nat_lt r.family (length FAMILIES) ∷ list_all (is_apart r) r.moving ∷ nat_le 2 r.back ∷ nat_le r.back 3 ∷ nat_le (2 ^ r.width) (256 ^ r.back)
+    ∷ nat_lt r.family (length FAMILIES) ∷ list_all (is_apart r) (r.moving ∷ r.moving_too ∷ []) ∷ nat_le 2 r.back ∷ nat_le r.back 3 ∷ nat_le (2 ^ r.width) (256 ^ r.back)
     ∷ (r.has_sph || nat_lt (r.io_end + r.size) 256) ∷ (r.has_sph || nat_le r.size 128) ∷ (r.has_sph || r.reads_masks)
     ∷ (not r.has_elpm || (65536 * (2 ^ r.width / 32768 - 1 + 1) == 2 * 2 ^ r.width)) ∷ (not r.has_eijmp || (65536 * (2 ^ r.width / 65536 - 1 + 1) == 2 ^ r.width)) ∷ (not r.has_elpmx || r.has_elpm)
     ∷ (not r.has_elpm || nat_le 16 r.width) ∷ (not r.has_eijmp || (r.has_elpm && (r.width == 17))) ∷ nat_lt (r.io_end + r.size) 0x8200 ∷ (not r.has_elpm || r.reads_masks)

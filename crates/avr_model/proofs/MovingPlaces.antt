@@ -14,7 +14,7 @@ use Rattle.avr_model.specs.declared.rows.EnablePlace.{EnablePlace}
 use Rattle.avr_model.specs.Bits.{any_below}
 use Rattle.avr_model.specs.Families.{family_of}
 use Rattle.avr_model.specs.Devices.{device_row, io_base, guarded_end}
-use Rattle.avr_model.specs.Vectors.{enable_places, covers, has_common, is_core, is_bit_of, is_moving, sets_bit_of, sets_moving, enable_of}
+use Rattle.avr_model.specs.Vectors.{enable_places, covers, has_common, is_core, is_bit_of, is_moving, sets_bit_of, sets_moving, enable_of, moving_of}
 use Rattle.avr_model.specs.Laws.{MovingIsApart}
 use Rattle.avr_model.proofs.Below.{some_below, any_found}
 use Rattle.avr_model.proofs.Facts.{is_apart, passes}
@@ -111,7 +111,7 @@ by_places d (o ∷ os) a b all is =
 
 pub apart : (d : Device) (a b : ℕ) → is_moving d a b ≡ true → Apart d a b
 unfolding is_moving
-apart d a b is = by_places d (device_row d).moving a b (passes d 12) is
+apart d a b is = by_places d (moving_of d) a b (passes d 12) is
 
 -- ---- a write that sets one
 
@@ -143,7 +143,7 @@ set_in (o ∷ os) a byte is = by (sets_bit_of o a byte) refl is (set_in os a byt
 
 set : (d : Device) (a byte : ℕ) → sets_moving d a byte ≡ true → (b : ℕ) × ((is_moving d a b ≡ true) × (bit_at byte b ≡ 1))
 unfolding is_moving sets_moving
-set d a byte is = set_in (device_row d).moving a byte is
+set d a byte is = set_in (moving_of d) a byte is
 
 in_guarded : (d : Device) (os : List (Option MovingPlace)) (k : ℕ) (p : MovingPlace) → list_all (is_apart (device_row d)) os ≡ true → slice_index_or os k None ≡ Some p → p.address ≤ guarded_end d
 in_guarded d [] k p all is = absurd (cc)
@@ -162,5 +162,5 @@ moving_is_apart =
       bit = λ d a b is. (apart d a b is).bit;
       enable = λ d a b is. ap (option_map (λ (p : EnablePlace). p.vector)) (none_found (covers a b) (enable_places d) (apart d a b is).enable);
       set = set;
-      place = λ d k p is. in_guarded d (device_row d).moving k p (passes d 12) is;
+      place = λ d k p is. in_guarded d (moving_of d) k p (passes d 12) is;
     }

@@ -95,8 +95,10 @@ pub struct Row {
     pub has_break: bool,
     /// Whether each assumption list is read as if it had the line `masks`.
     pub reads_masks: bool,
-    /// The places of bits that move vectors.
-    pub moving: [Option<MovingPlace>; 2],
+    /// A place of bits that move vectors, if there is one.
+    pub moving: Option<MovingPlace>,
+    /// Another one. They are two fields, since a table of rows that hold arrays would be made anew at each use.
+    pub moving_too: Option<MovingPlace>,
     /// The number of the list of its enable places.
     pub family: u8,
 }
@@ -171,7 +173,8 @@ macro_rules! row {
             has_eijmp: has!($eijmp),
             has_break: has!($break),
             reads_masks: has!($masks),
-            moving: [moving!($moving), moving!($moving_too)],
+            moving: moving!($moving),
+            moving_too: moving!($moving_too),
             family: $family,
         }
     };

@@ -16,10 +16,10 @@ use Rattle.avr_model.specs.declared.instruction.Instr.TheVariants as i
 use Rattle.avr_model.specs.Assumptions.{is_never, is_fixed_site}
 use Rattle.avr_model.specs.Masks.{is_flagged_write}
 use Rattle.avr_model.specs.declared.rows.MovingPlace.{MovingPlace}
-use Rattle.avr_model.specs.Devices.{device_row, guarded_end, io_end, ramend, device_of}
+use Rattle.avr_model.specs.Devices.{guarded_end, io_end, ramend, device_of}
 use Rattle.avr_model.specs.Sites.{instruction_at}
 use Rattle.avr_model.specs.State.{State, is_live}
-use Rattle.avr_model.specs.Vectors.{vector_word}
+use Rattle.avr_model.specs.Vectors.{vector_word, moving_of}
 use Rattle.avr_model.specs.Step.{Overflow, Flagged, after, all_inside, live_write, flagged_write, protected_write, unlisted_transfer, deep_call, first_of, refused_transfer, moves_vectors, is_pointer_store, is_indirect, is_call, is_refused, is_guarding, flag_by, flagged_or, may_take, go, step}
 use Rattle.pair_domain.specs.Facts.{is_followed}
 use Rattle.abs_state.specs.declared.state.AbsState.{AbsState}
@@ -108,12 +108,12 @@ and_none true b h = h
 and_none false b h = refl
 
 move_none : (task : Task) (k : NodeKey) (s : AbsState) (instr : Instr) → (is_indirect instr || is_call instr) ≡ true → may_move task k s instr ≡ false
-move_none task k s i.Ijmp e = and_none (masks_by task) _ (none_set (written_bits s i.Ijmp) (device_row (device_of task.flash)).moving)
-move_none task k s i.Icall e = and_none (masks_by task) _ (none_set (written_bits s i.Icall) (device_row (device_of task.flash)).moving)
-move_none task k s i.Eijmp e = and_none (masks_by task) _ (none_set (written_bits s i.Eijmp) (device_row (device_of task.flash)).moving)
-move_none task k s i.Eicall e = and_none (masks_by task) _ (none_set (written_bits s i.Eicall) (device_row (device_of task.flash)).moving)
-move_none task k s (i.Call t) e = and_none (masks_by task) _ (none_set (written_bits s (i.Call t)) (device_row (device_of task.flash)).moving)
-move_none task k s (i.Rcall t) e = and_none (masks_by task) _ (none_set (written_bits s (i.Rcall t)) (device_row (device_of task.flash)).moving)
+move_none task k s i.Ijmp e = and_none (masks_by task) _ (none_set (written_bits s i.Ijmp) (moving_of (device_of task.flash)))
+move_none task k s i.Icall e = and_none (masks_by task) _ (none_set (written_bits s i.Icall) (moving_of (device_of task.flash)))
+move_none task k s i.Eijmp e = and_none (masks_by task) _ (none_set (written_bits s i.Eijmp) (moving_of (device_of task.flash)))
+move_none task k s i.Eicall e = and_none (masks_by task) _ (none_set (written_bits s i.Eicall) (moving_of (device_of task.flash)))
+move_none task k s (i.Call t) e = and_none (masks_by task) _ (none_set (written_bits s (i.Call t)) (moving_of (device_of task.flash)))
+move_none task k s (i.Rcall t) e = and_none (masks_by task) _ (none_set (written_bits s (i.Rcall t)) (moving_of (device_of task.flash)))
 move_none task k s _ e = absurd (cc)
 
 -- what calls a word with a `recur` line is a call

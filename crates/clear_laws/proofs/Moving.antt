@@ -6,8 +6,8 @@ use Rattle.avr_model.proofs.AllLaws.{devices_are_alike, moving_is_apart}
 use Rattle.avr_model.specs.declared.device.Device.{Device}
 use Rattle.avr_model.specs.declared.rows.MovingPlace.{MovingPlace}
 use Rattle.avr_model.specs.declared.effect.Write.{Write}
-use Rattle.avr_model.specs.Devices.{device_row, io_base, guarded_end}
-use Rattle.avr_model.specs.Vectors.{has_common, sets_bit_of, sets_moving}
+use Rattle.avr_model.specs.Devices.{io_base, guarded_end}
+use Rattle.avr_model.specs.Vectors.{has_common, sets_bit_of, sets_moving, moving_of}
 use Rattle.avr_model.specs.Effects.{set}
 use Rattle.avr_model.specs.Step.{moves_vectors}
 use Rattle.bit_domain.specs.declared.bytes.TriByte.{TriByte}
@@ -39,9 +39,9 @@ set_in reaches value a byte (o ∷ os) reached has sets = either (sets_bit_of o 
 
 -- a write of one of these bytes to one of these addresses
 pub may_set_there : (device : Device) (reaches : ℕ → Bool) (value : TriByte) (a byte : ℕ) → sets_moving device a byte ≡ true → reaches a ≡ true → Has value byte
-    → list_any (may_set reaches value) (device_row device).moving ≡ true
+    → list_any (may_set reaches value) (moving_of device) ≡ true
 unfolding sets_moving
-may_set_there device reaches value a byte sets reached has = set_in reaches value a byte (device_row device).moving reached has sets
+may_set_there device reaches value a byte sets reached has = set_in reaches value a byte (moving_of device) reached has sets
 
 -- ---- lists of writes
 

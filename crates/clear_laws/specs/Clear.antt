@@ -15,14 +15,14 @@ use Rattle.avr_model.specs.Bits.{all_below}
 use Rattle.avr_model.specs.Masks.{admits_enables}
 use Rattle.avr_model.specs.declared.rows.MovingPlace.{MovingPlace}
 use Rattle.node_keys.specs.Wakes.{may_have}
-use Rattle.avr_model.specs.Devices.{device_row, io_end, ramend, wrapped, eind_most, device_of}
+use Rattle.avr_model.specs.Devices.{io_end, ramend, wrapped, eind_most, device_of}
 use Rattle.avr_model.specs.Effects.{port}
 use Rattle.avr_model.specs.Text.{far}
 use Rattle.avr_model.specs.Sites.{instruction_at, is_scratch, base_register, pointer_register}
 use Rattle.avr_model.specs.State.{State, IsReset, EIND, low, high}
 use Rattle.avr_model.specs.Step.{is_pointer_store, is_indirect}
 use Rattle.avr_model.specs.Run.{IsRun, stop_of}
-use Rattle.avr_model.specs.Vectors.{is_core, is_protected, is_enabled, vector_word}
+use Rattle.avr_model.specs.Vectors.{is_core, is_protected, is_enabled, vector_word, moving_of}
 use Rattle.bit_domain.specs.declared.bytes.TriByte.{TriByte}
 use Rattle.bit_domain.specs.Tri.{permits}
 use Rattle.bit_domain.specs.TriByte.{has, tri_at, byte_any, byte_known}
@@ -123,7 +123,7 @@ may_set reaches value (Some s) = reaches s.address && may_have value s.mask
 -- the instruction may set a bit that moves vectors, under a list that reads masks
 abbrev pub may_move : Task → NodeKey → AbsState → Instr → Bool
 may_move task k s instr =
-    masks_by task && list_any (may_set (may_reach (device_of task.flash) k s instr) (written_bits s instr)) (device_row (device_of task.flash)).moving
+    masks_by task && list_any (may_set (may_reach (device_of task.flash) k s instr) (written_bits s instr)) (moving_of (device_of task.flash))
 
 -- ---- transfers
 

@@ -5,8 +5,7 @@ use Rattle.std.specs.List.{list_any}
 use Rattle.std.proofs.lemmas.Bool.{or_parts}
 use Rattle.avr_model.specs.declared.device.Device.{Device}
 use Rattle.avr_model.specs.declared.rows.MovingPlace.{MovingPlace}
-use Rattle.avr_model.specs.Devices.{device_row}
-use Rattle.avr_model.specs.Vectors.{has_enables, held_of, is_bit_of, is_moving, io_bit, io_byte}
+use Rattle.avr_model.specs.Vectors.{has_enables, held_of, is_bit_of, is_moving, io_bit, io_byte, moving_of}
 use Rattle.vector_table.specs.Moving.{is_at, has_moving}
 use Rattle.vector_table.proofs.Numbers.{by_bits}
 use Rattle.vector_table.proofs.Places.{no_held}
@@ -23,7 +22,7 @@ none_of (o ∷ os) a b h =
 
 pub not_moving : (d : Device) (a b : ℕ) → has_moving d a ≡ false → is_moving d a b ≡ false
 unfolding has_moving is_moving
-not_moving d a b h = none_of (device_row d).moving a b h
+not_moving d a b h = none_of (moving_of d) a b h
 
 given : (still is : Bool) (free : ℕ) → is ≡ false → free ≡ (if still && is then 0 else free)
 given true is free h = sym (ap (λ (b : Bool). if b then 0 else free) h)
