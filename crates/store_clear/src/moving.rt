@@ -1,6 +1,8 @@
 //! Whether an instruction may set a bit that moves vectors.
 
 ghost use Rattle.std.specs.Prelude.{◌≡◌};
+ghost use Rattle.std.specs.List.{list_any};
+ghost use Rattle.avr_model.specs.Vectors.{moving_of};
 ghost use Rattle.family_edges.specs.Tasks.{task_of};
 ghost use Rattle.clear_laws.specs.Clear.{may_reach, written_bits, may_set, may_move};
 ghost use Rattle.local_rules.specs.Writes as writes;
@@ -81,14 +83,18 @@ fn may_set(
     }
 }
 
-// Whether an instruction may set a bit that moves vectors, under a list that reads masks.
+// Whether an instruction may set a moving bit.
+fn may_set_some(device: Device, key: &NodeKey, state: &AbsState, instr: &Instr) -> bool
+    ensures { result ≡ list_any (may_set (may_reach device key.now state.now instr.now) (written_bits state.now instr.now)) (moving_of device) }
+{
+    let places = device.moving();
+    may_set(device, places[0], key, state, instr) || may_set(device, places[1], key, state, instr)
+}
+
+// Whether an instruction may set a moving bit, under a list that reads masks.
 pub(crate) fn may_move(task: &Task<'_>, key: &NodeKey, state: &AbsState, instr: &Instr) -> bool
     ensures { result ≡ may_move (task_of task.now) key.now state.now instr.now }
 {
     let device = task.flash.device();
-    task.assumptions.reads_masks(device)
-        && device
-            .moving()
-            .iter()
-            .any(|place| may_set(device, *place, key, state, instr))
+    task.assumptions.reads_masks(device) && may_set_some(device, key, state, instr)
 }
