@@ -72,11 +72,12 @@ class Json(unittest.TestCase):
         return list(schema.faults(value, whole, whole))
 
     def test_it_is_valid(self) -> None:
-        for it in (made.result(*EVERY), made.result(), made.result(Finding("SB107", "error", "too large"), bound=False)):
+        for it in (made.result(*EVERY), made.result(), made.result(Finding("SB107", "error", "too large"), bound=False),
+                   replace(made.result(), search=made.STEPS)):
             self.assertEqual(self.faults(json.loads(machine_report.text(it))), [])
 
     def test_the_schema_refuses_what_is_wrong(self) -> None:
-        right = json.loads(machine_report.text(made.result(*EVERY)))
+        right = json.loads(machine_report.text(replace(made.result(*EVERY), search=made.STEPS)))
         edits: List[Callable[[Dict], object]] = [  # type: ignore[type-arg]
             lambda it: it.update(more=1), lambda it: it.pop("status"), lambda it: it.update(status=3), lambda it: it.update(status=0),
             lambda it: it.update(status=2), lambda it: it.update(version=2), lambda it: it.update(version=True),
@@ -84,7 +85,8 @@ class Json(unittest.TestCase):
             lambda it: it["findings"][0]["locations"][0].update(word="00ff"), lambda it: it["bound"].update(bytes="50"),
             lambda it: it["bound"].update(bytes=-1), lambda it: it["findings"][0].update(fingerprint="0123456789abcdef"),
             lambda it: it["findings"][0].update(level="fatal"), lambda it: it["needs"][0].pop("name"),
-            lambda it: it["findings"][0]["related"][0].update(role="x")]
+            lambda it: it["findings"][0]["related"][0].update(role="x"), lambda it: it["search"][1].pop("dropped"),
+            lambda it: it["search"][0].update(added="pairs"), lambda it: it.pop("search")]
         for number, edit in enumerate(edits):
             wrong = copy.deepcopy(right)
             edit(wrong)
@@ -175,6 +177,14 @@ class Text(unittest.TestCase):
         self.assertEqual(re.findall(r": (error|warning|note): [^\[]* \[(SB\d+)\]$", told, re.M),
                          [("error", "SB201"), ("error", "SB402"), ("error", "SB301"), ("warning", "SB501")])
         self.assertTrue(told.startswith("src/a b%.c:7: error: "))
+
+    def test_steps_of_the_search_stand_behind_all_else(self) -> None:
+        for it in (made.result(), made.result(Finding("SB107", "error", "too large"), bound=False)):
+            plain = text.text(it)
+            self.assertEqual(text.text(replace(it, search=())), f"{plain}search of lines (+ added, - taken back):\n  none was added\n")
+            self.assertEqual(text.text(replace(it, search=made.STEPS)).removeprefix(plain).splitlines()[1:],
+                             ["  register pairs are followed", "    + pairs", "  refused 2 recursion at 0040: taken back", "    - pairs",
+                              "    + free main 1"])
 
     def test_quiet_says_nothing_with_status_0(self) -> None:
         self.assertEqual(text.quiet(made.result(made.SAFE, made.HEAP)), "")

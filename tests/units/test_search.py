@@ -9,9 +9,9 @@ from typing import Callable, List, Tuple
 import recorded
 from stored import TOP
 
-from stackcheck_tools.analysis import proposals, questions
+from stackcheck_tools.analysis import explained, proposals, questions
 from stackcheck_tools.analysis.dialogue import Dialogue
-from stackcheck_tools.analysis.questions import Analyse, Answer, Certificate, Places, Premises, Question, Refusal, Trial
+from stackcheck_tools.analysis.questions import Analyse, Answer, Because, Certificate, Places, Premises, Question, Refusal, Trial
 from stackcheck_tools.analysis.runs import Ran, Run, Stop
 from stackcheck_tools.analysis.search import search
 from stackcheck_tools.analysis.settling import ROUNDS
@@ -20,7 +20,7 @@ from stackcheck_tools.firmware import candidates, opcodes
 from stackcheck_tools.firmware.firmware import Firmware
 from stackcheck_tools.home import version
 from stackcheck_tools.spec.lines import Lines
-from stackcheck_tools.spec.spec import KINDS, UNASSUMED
+from stackcheck_tools.spec.spec import KINDS, NOWHERE, PAIRS, UNASSUMED
 
 NAMES = ("uart.elf", "reentry.elf", "virtual.elf", "moved.elf")
 LISTED = ("jump", "store", "prove", "free", "never")  # lines whose places `premises` lists
@@ -56,6 +56,10 @@ def refusal(dice: random.Random, facts: Facts, words: List[int]) -> Refusal:
 def place(dice: random.Random, facts: Facts) -> str:
     more = dice.choice((" protected 006E", " protected 006E 006F ..", " live", " moves"))
     return f"at {facts.device.word(dice.choice(stores_of(facts)))} st X, r24 in main{more}"
+
+
+def no_answer(question: Question) -> Answer:
+    raise AssertionError(question)
 
 
 def anything(dice: random.Random, facts: Facts) -> Callable[[Question], Answer]:
@@ -139,13 +143,43 @@ class Proposals(unittest.TestCase):
                     self.assertLess(count, 6, text)
 
 
-class Searches(unittest.TestCase):
+class Steps(unittest.TestCase):
+    def test_lines_that_are_no_others_need_no_reason(self) -> None:
+        steps: List[Because] = []
+        one = Lines(recorded.facts("uart.elf").device)
+        questions.run(questions.because(one, one.add(0x60, "free").drop(0x60, "free"), "nothing"), no_answer, steps)
+        questions.run(questions.because(one, one.add(0x60, "free"), "something"), no_answer, steps)
+        self.assertEqual([it.why for it in steps], ["something"])
+
+    def test_each_is_told_by_what_it_added_and_took_back(self) -> None:
+        facts = recorded.facts("pointers.elf")
+        one, up = Lines(facts.device).add_pairs(), facts.elf.named("up")[0].address // 2
+        site = next(iter(candidates.indirect(facts.elf)))
+        other, none = one.drop(NOWHERE, PAIRS).add(site, "jump", {up}), Lines(facts.device).add(site, "jump", {up + 1})
+        first, second = explained.steps(facts.firmware, [Because(one, other, "why"), Because(other, none, "so")])
+        self.assertEqual((first.why, first.added, first.dropped), ("why", ("jump main 1 up",), ("pairs",)))
+        self.assertEqual((second.added, second.dropped), ((none.line(site, "jump"),), ("jump main 1 up",)))
+
+
+class Following(unittest.TestCase):
+    def follows(self, steps: List[Because], begin: State, end: State) -> None:
+        """No line comes or goes without a reason: each step goes on with the lines of the one before, from the first lines to the last."""
+        lines = begin.lines
+        for it in steps:
+            self.assertEqual(it.before.items, lines.items, it.why)
+            self.assertNotEqual(it.after.items, lines.items, it.why)
+            self.assertRegex(it.why, r"\A\S.*\S\Z")
+            lines = it.after
+        self.assertEqual(lines.items, end.lines.items)
+
+
+class Searches(Following):
     def test_whatever_it_is_told_a_search_ends_and_keeps_given_lines(self) -> None:
         for seed in range(24):
             dice = random.Random(seed)
             facts = recorded.facts(NAMES[seed % len(NAMES)])
             begin = State(Lines(facts.device).give(dice.choice(words_of(facts)), "store", {0xC1}))
-            answer, asked = anything(dice, facts), []
+            answer, asked, steps = anything(dice, facts), [], list[Because]()
 
             def counted(question: Question) -> Answer:
                 asked.append(question)
@@ -154,7 +188,7 @@ class Searches(unittest.TestCase):
                 self.assertTrue(all(question.lines.items[key] == items for key, items in begin.lines.items.items()))
                 return answer(question)
 
-            questions.run(search(facts, begin), counted)
+            self.follows(steps, begin, questions.run(search(facts, begin), counted, steps))
 
     def test_refusals_without_end_are_left_after_some_rounds(self) -> None:
         for name in NAMES:
@@ -221,12 +255,15 @@ class Dialogues(unittest.TestCase):
         self.assertEqual(first.call("analyse"), told)
 
 
-class Replayed(unittest.TestCase):
+class Replayed(Following):
     def test_recorded_answers_lead_to_the_recorded_lines(self) -> None:
         for name in recorded.names():
             with self.subTest(name):
-                table = recorded.read(name)
-                self.assertEqual(recorded.replayed(name, table), (table.lines, table.end))
+                table, facts, steps = recorded.read(name), recorded.facts(name), list[Because]()
+                begin = recorded.begin(facts)
+                state = questions.run(search(facts, begin), table.answer, steps)
+                self.assertEqual(recorded.end(state), (table.lines, table.end))
+                self.follows(steps, begin, state)
 
 
 if __name__ == "__main__":

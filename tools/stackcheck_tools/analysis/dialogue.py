@@ -4,12 +4,12 @@ from __future__ import annotations
 
 import hashlib
 import os
-from typing import Dict, Tuple
+from typing import Dict, List, Optional, Tuple
 
 from stackcheck_tools import progress
 from stackcheck_tools.analysis import judge, questions
 from stackcheck_tools.analysis.program import Program
-from stackcheck_tools.analysis.questions import Analyse, Answer, Question, Search, T, Trial
+from stackcheck_tools.analysis.questions import Analyse, Answer, Because, Question, Search, T, Trial
 from stackcheck_tools.firmware.firmware import Firmware
 from stackcheck_tools.spec.lines import Lines
 
@@ -64,6 +64,6 @@ class Dialogue:
             self.answers[name] = found
         return found
 
-    def run(self, search: Search[T]) -> T:
-        """What a search comes to."""
-        return questions.run(search, self.answer)
+    def run(self, search: Search[T], steps: Optional[List[Because]] = None) -> T:
+        """What a search comes to; its steps are put behind those of a list."""
+        return questions.run(search, self.answer, steps)

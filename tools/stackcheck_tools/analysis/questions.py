@@ -1,12 +1,13 @@
 """What a search asks of the program, as values, and what it is told to each.
 
 A search is a generator that yields questions and is sent the answers. So it needs no program: a dialogue answers by `stackbound`, a test by
-a table. Each question has the lines under which it is asked, and no look at other lines changes what another one is told."""
+a table. Each question has the lines under which it is asked, and no look at other lines changes what another one is told. Between questions
+a search says why it goes on with other lines, which is answered by nothing."""
 
 from __future__ import annotations
 
 import hashlib
-from typing import Callable, Generator, List, NamedTuple, Tuple, TypeVar, Union
+from typing import Callable, Generator, List, NamedTuple, Optional, Tuple, TypeVar, Union
 
 from stackcheck_tools.analysis.program import OK, REFUSED, NoProgram
 from stackcheck_tools.analysis.runs import Ran, Run, ran
@@ -61,10 +62,18 @@ class Trial(NamedTuple):
     number: int = -1
 
 
+class Because(NamedTuple):
+    """A step of a search: from these lines to those, and why. A look that found nothing is taken back by a step of its own."""
+
+    before: Lines
+    after: Lines
+    why: str
+
+
 Question = Union[Analyse, Premises, Attain, Trial]
 Answer = Union[Certificate, Refusal, Places, Ran]
 T = TypeVar("T")
-Search = Generator[Question, Answer, T]
+Search = Generator[Union[Question, Because], Optional[Answer], T]
 
 
 def family(certificate: str) -> str:
@@ -97,6 +106,12 @@ def answer_of(question: Question, status: int, text: str) -> Answer:
     return Places(tuple(text.splitlines()[1:])) if isinstance(question, Premises) else Certificate(text)
 
 
+def because(before: Lines, after: Lines, why: str) -> Search[None]:
+    """Says why the search goes on with other lines; nothing where they are no others."""
+    if before.items != after.items:
+        yield Because(before, after, why)
+
+
 def analyse(lines: Lines) -> Search[Union[Certificate, Refusal]]:
     answer = yield Analyse(lines)
     assert isinstance(answer, (Certificate, Refusal))
@@ -121,12 +136,15 @@ def trial(lines: Lines, run: Run, number: int = -1) -> Search[Ran]:
     return answer
 
 
-def run(search: Search[T], answer: Callable[[Question], Answer]) -> T:
-    """What a search comes to where this function answers its questions."""
+def run(search: Search[T], answer: Callable[[Question], Answer], steps: Optional[List[Because]] = None) -> T:
+    """What a search comes to where this function answers its questions. Its steps are put behind those of a list."""
+    told: Optional[Answer] = None
     try:
-        question = next(search)
         while True:
-            question = search.send(answer(question))
+            said = search.send(told)
+            told = None if isinstance(said, Because) else answer(said)
+            if steps is not None and isinstance(said, Because):
+                steps.append(said)
     except StopIteration as end:
         found: T = end.value
         return found
