@@ -17,6 +17,7 @@ from stackcheck_tools.finding import (
     Related,
     Result,
     Review,
+    Step,
 )
 
 LINE = Location("src/a b%.c", 7, "main", 12, "0048")
@@ -34,6 +35,7 @@ HEAP = Finding("SB501", WARNING, "malloc is linked", (Location(function="malloc"
 BOUND = Bound(8, "if 1 call below stays within its list", True, 8, 100, 128, (Count("calls", 1), Count("memory safety", 1)))
 
 
+STEPS = (Step("register pairs are followed", ("pairs",), ()), Step("refused 2 recursion at 0040: taken back", ("free main 1",), ("pairs",)))
 JUDGE = Judge("/opt/stackbound", "0.10.0", 64 * "a")
 
 

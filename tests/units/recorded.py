@@ -9,7 +9,6 @@ from stored import TOP, path
 
 from stackcheck_tools.analysis import questions
 from stackcheck_tools.analysis.questions import Answer, Question
-from stackcheck_tools.analysis.search import search
 from stackcheck_tools.analysis.state import Facts, State
 from stackcheck_tools.firmware.firmware import Firmware
 from stackcheck_tools.spec.lines import Lines
@@ -62,9 +61,3 @@ def begin(facts: Facts) -> State:
 def end(state: State) -> Tuple[str, str]:
     """The last lines, and what the program said to them."""
     return state.lines.text(), (state.answer.text if state.answer else "")
-
-
-def replayed(name: str, table: Table) -> Tuple[str, str]:
-    """What the search comes to whose questions a table answers."""
-    found = facts(name)
-    return end(questions.run(search(found, begin(found)), table.answer))

@@ -1,4 +1,4 @@
-"""A validator of JSON Schema, of the keywords that the schema of `stackcheck --json` has."""
+"""A validator of JSON Schema, of the keywords that the schemas of `stackcheck --json` and of its SARIF have."""
 
 import json
 import os
@@ -8,13 +8,14 @@ from typing import Iterator
 import stored
 
 PATH = os.path.join(stored.TOP, "tools", "stackcheck_tools", "report", "stackcheck-1.schema.json")
+SARIF = os.path.join(stored.TOP, "tests", "units", "sarif.schema.json")
 TYPES = {"object": dict, "array": list, "string": str, "null": type(None), "boolean": bool, "integer": int}
 KNOWN = {"$schema", "$id", "title", "description", "type", "properties", "required", "additionalProperties", "items", "enum", "const",
          "minimum", "pattern", "anyOf", "allOf", "if", "then", "else", "contains", "$ref", "$defs"}
 
 
-def read():
-    with open(PATH, encoding="utf8") as file:
+def read(path=PATH):
+    with open(path, encoding="utf8") as file:
         return json.load(file)
 
 

@@ -2,11 +2,13 @@
 
 import copy
 import json
+import ntpath
 import os
 import re
 import unittest
 from dataclasses import replace
-from typing import Callable, Dict, List
+from typing import Callable, Dict, Iterator, List, Tuple
+from unittest import mock
 
 import stored
 
@@ -72,11 +74,12 @@ class Json(unittest.TestCase):
         return list(schema.faults(value, whole, whole))
 
     def test_it_is_valid(self) -> None:
-        for it in (made.result(*EVERY), made.result(), made.result(Finding("SB107", "error", "too large"), bound=False)):
+        for it in (made.result(*EVERY), made.result(), made.result(Finding("SB107", "error", "too large"), bound=False),
+                   replace(made.result(), search=made.STEPS)):
             self.assertEqual(self.faults(json.loads(machine_report.text(it))), [])
 
     def test_the_schema_refuses_what_is_wrong(self) -> None:
-        right = json.loads(machine_report.text(made.result(*EVERY)))
+        right = json.loads(machine_report.text(replace(made.result(*EVERY), search=made.STEPS)))
         edits: List[Callable[[Dict], object]] = [  # type: ignore[type-arg]
             lambda it: it.update(more=1), lambda it: it.pop("status"), lambda it: it.update(status=3), lambda it: it.update(status=0),
             lambda it: it.update(status=2), lambda it: it.update(version=2), lambda it: it.update(version=True),
@@ -84,7 +87,8 @@ class Json(unittest.TestCase):
             lambda it: it["findings"][0]["locations"][0].update(word="00ff"), lambda it: it["bound"].update(bytes="50"),
             lambda it: it["bound"].update(bytes=-1), lambda it: it["findings"][0].update(fingerprint="0123456789abcdef"),
             lambda it: it["findings"][0].update(level="fatal"), lambda it: it["needs"][0].pop("name"),
-            lambda it: it["findings"][0]["related"][0].update(role="x")]
+            lambda it: it["findings"][0]["related"][0].update(role="x"), lambda it: it["search"][1].pop("dropped"),
+            lambda it: it["search"][0].update(added="pairs"), lambda it: it.pop("search")]
         for number, edit in enumerate(edits):
             wrong = copy.deepcopy(right)
             edit(wrong)
@@ -103,9 +107,27 @@ class Fingerprints(unittest.TestCase):
         self.assertEqual(len(set(found)), 3)
 
 
+def spots(value: object, path: Tuple[object, ...] = ()) -> Iterator[Tuple[object, ...]]:
+    """Yields the path of each value within a value."""
+    yield path
+    inner = value.items() if isinstance(value, dict) else enumerate(value) if isinstance(value, list) else ()
+    for key, it in inner:
+        yield from spots(it, (*path, key))
+
+
 class Sarif(unittest.TestCase):
     def log(self) -> Dict:  # type: ignore[type-arg]
         return json.loads(sarif.text(made.result(*EVERY)))  # type: ignore[no-any-return]
+
+    def of_fault(self, place: Location) -> Dict:  # type: ignore[type-arg]
+        fault = Fault("there is no function x", "SB006", place)
+        return json.loads(sarif.text_of_fault(fault, ("stackcheck",), "0.10.0", 3))  # type: ignore[no-any-return]
+
+    def logs(self) -> List[Dict]:  # type: ignore[type-arg]
+        """Logs that have each field that is ever written."""
+        caused = Finding("SB107", "error", "too large", cause="masks")
+        return [self.log(), self.of_fault(Location("stack.spec", 3)), self.of_fault(Location()),
+                json.loads(sarif.text(made.result(caused, bound=False)))]
 
     def test_it_keeps_the_rules_and_leaves_out_what_asks_nobody(self) -> None:
         log = self.log()
@@ -119,6 +141,39 @@ class Sarif(unittest.TestCase):
         self.assertEqual(first["locations"][0]["physicalLocation"]["artifactLocation"], {"uri": "src/a%20b%25.c", "uriBaseId": "%SRCROOT%"})
         self.assertEqual(second["locations"][0]["physicalLocation"]["artifactLocation"], {"uri": "file:///usr/share/b%C3%B6se.c"})
 
+    def test_paths_of_windows_have_slashes_and_a_drive(self) -> None:
+        with mock.patch.object(os, "path", ntpath), mock.patch.object(os, "sep", "\\"):
+            self.assertEqual(sarif.uri("src\\a b.c"), {"uri": "src/a%20b.c", "uriBaseId": "%SRCROOT%"})
+            self.assertEqual(sarif.uri("C:\\src\\a b.c"), {"uri": "file:///C:/src/a%20b.c"})
+
+    def test_each_log_keeps_the_rules_and_all_have_each_field_of_the_schema(self) -> None:
+        whole, written = schema.read(schema.SARIF), set()
+        for log in self.logs():
+            self.assertEqual(list(sarif_rules.faults(log)), [])
+            written |= {it for path in spots(log) for it in path}
+        self.assertEqual({it.rpartition(".")[2] for it in schema.fields(whole, whole)} - written, set())
+
+    def test_a_value_of_another_type_is_seen_everywhere(self) -> None:
+        other: Dict[type, object] = {str: 7, int: "7", bool: "true", dict: [], list: {}}
+        for log in self.logs():
+            for path in spots(log):
+                wrong = inner = {"log": copy.deepcopy(log)}
+                *folders, last = ("log", *path)
+                for key in folders:
+                    inner = inner[key]  # type: ignore[index]
+                inner[last] = other[type(inner[last])]  # type: ignore[index]
+                self.assertNotEqual(list(sarif_rules.faults(wrong["log"])), [], path)
+
+    def test_a_field_more_is_seen_everywhere(self) -> None:
+        for log in self.logs():
+            for path in spots(log):
+                inner = wrong = copy.deepcopy(log)
+                for key in path:
+                    inner = inner[key]
+                if isinstance(inner, dict):
+                    inner["more"] = 1
+                    self.assertNotEqual(list(sarif_rules.faults(wrong)), [], path)
+
     def test_each_rule_names_the_page_that_has_its_heading(self) -> None:
         for it in self.log()["runs"][0]["tool"]["driver"]["rules"]:
             path, _, fragment = it["helpUri"].removeprefix("file://").partition("#")
@@ -126,8 +181,7 @@ class Sarif(unittest.TestCase):
 
     def test_a_fault_of_the_spec_is_a_result_and_others_are_told(self) -> None:
         for place, results in ((Location("stack.spec", 3), 1), (Location(), 0)):
-            log = json.loads(sarif.text_of_fault(Fault("there is no function x", "SB006", place), ("stackcheck",), "0.10.0", 3))
-            run = log["runs"][0]
+            run = self.of_fault(place)["runs"][0]
             self.assertEqual((len(run["results"]), run["invocations"][0]["executionSuccessful"]), (results, False))
             self.assertEqual("toolExecutionNotifications" in run["invocations"][0], not results)
 
@@ -140,6 +194,13 @@ class Sarif(unittest.TestCase):
             lambda run, it: it["locations"][0]["physicalLocation"]["region"].update(startLine=0),
             lambda run, it: it.update(locations=[]), lambda run, it: it.update(ruleId="SB9"), lambda run, it: it.update(ruleIndex=1),
             lambda run, it: it.update(level="bad"), lambda run, it: it.update(kind="review"), lambda run, it: it.pop("partialFingerprints"),
+            lambda run, it: it.pop("level"), lambda run, it: it.pop("message"), lambda run, it: run.pop("tool"),
+            lambda run, it: run.update(columnKind="bytes"), lambda run, it: run["tool"]["driver"].pop("semanticVersion"),
+            lambda run, it: it["relatedLocations"][0].pop("id"), lambda run, it: it["relatedLocations"][0].update(message={"text": ""}),
+            lambda run, it: run["results"][1]["codeFlows"][0].update(threadFlows=[]),
+            lambda run, it: run["results"][1]["codeFlows"][0]["threadFlows"][0]["locations"][0].update(nestingLevel=-1),
+            lambda run, it: run["tool"]["driver"]["rules"][0]["properties"].update(tags=["stack", "stack"]),
+            lambda run, it: run["invocations"][0].update(toolExecutionNotifications=[{"level": "error", "message": {"text": "x"}}]),
             lambda run, it: run["results"].append(copy.deepcopy(it)), lambda run, it: it["message"].pop("text"),
             lambda run, it: run["tool"]["driver"]["rules"][0].update(helpUri="docs/FINDINGS.md#sb201"),
             lambda run, it: run["tool"]["driver"]["rules"][0].pop("helpUri"),
@@ -175,6 +236,14 @@ class Text(unittest.TestCase):
         self.assertEqual(re.findall(r": (error|warning|note): [^\[]* \[(SB\d+)\]$", told, re.M),
                          [("error", "SB201"), ("error", "SB402"), ("error", "SB301"), ("warning", "SB501")])
         self.assertTrue(told.startswith("src/a b%.c:7: error: "))
+
+    def test_steps_of_the_search_stand_behind_all_else(self) -> None:
+        for it in (made.result(), made.result(Finding("SB107", "error", "too large"), bound=False)):
+            plain = text.text(it)
+            self.assertEqual(text.text(replace(it, search=())), f"{plain}search of lines (+ added, - taken back):\n  none was added\n")
+            self.assertEqual(text.text(replace(it, search=made.STEPS)).removeprefix(plain).splitlines()[1:],
+                             ["  register pairs are followed", "    + pairs", "  refused 2 recursion at 0040: taken back", "    - pairs",
+                              "    + free main 1"])
 
     def test_quiet_says_nothing_with_status_0(self) -> None:
         self.assertEqual(text.quiet(made.result(made.SAFE, made.HEAP)), "")

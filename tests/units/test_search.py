@@ -2,16 +2,19 @@
 
 import os
 import random
+import signal
 import tempfile
 import unittest
 from typing import Callable, List, Tuple
+from unittest import mock
 
 import recorded
 from stored import TOP
 
-from stackcheck_tools.analysis import proposals, questions
+from stackcheck_tools.analysis import dialogue as dialogues
+from stackcheck_tools.analysis import explained, proposals, questions
 from stackcheck_tools.analysis.dialogue import Dialogue
-from stackcheck_tools.analysis.questions import Analyse, Answer, Certificate, Places, Premises, Question, Refusal, Trial
+from stackcheck_tools.analysis.questions import Analyse, Answer, Because, Certificate, Places, Premises, Question, Refusal, Search, Trial
 from stackcheck_tools.analysis.runs import Ran, Run, Stop
 from stackcheck_tools.analysis.search import search
 from stackcheck_tools.analysis.settling import ROUNDS
@@ -20,7 +23,7 @@ from stackcheck_tools.firmware import candidates, opcodes
 from stackcheck_tools.firmware.firmware import Firmware
 from stackcheck_tools.home import version
 from stackcheck_tools.spec.lines import Lines
-from stackcheck_tools.spec.spec import KINDS, UNASSUMED
+from stackcheck_tools.spec.spec import KINDS, NOWHERE, PAIRS, UNASSUMED
 
 NAMES = ("uart.elf", "reentry.elf", "virtual.elf", "moved.elf")
 LISTED = ("jump", "store", "prove", "free", "never")  # lines whose places `premises` lists
@@ -29,6 +32,21 @@ ECHO = """#!/bin/sh
 # answers by the words of the call and by the assumption file as it is then
 [ "$1" != --version ] || {{ echo stackbound {version}; exit; }}
 echo "refused 7 too-large" "$(for it in "$@"; do [ -f "$it" ] && cat "$it"; done | cksum)" "$1"
+exit 10
+"""
+MEETING = """#!/bin/sh
+# a run that goes as deep as its number, once three of them go on
+[ "$1" != --version ] || {{ echo stackbound {version}; exit; }}
+touch "$4/met$$"
+n=0
+while [ "$(ls "$4" | grep -c met)" -lt 3 ] && [ $n -lt 600 ]; do sleep 0.1; n=$((n + 1)); done
+echo "steps 9 depth $([ $n -eq 600 ] && echo 99 || cat "$3") stop end"
+"""
+WAITING = """#!/bin/sh
+# runs do not end
+[ "$1" != --version ] || {{ echo stackbound {version}; exit; }}
+[ "$1" != run ] || exec sleep 600
+echo "refused 7 too-large nodes"
 exit 10
 """
 
@@ -56,6 +74,10 @@ def refusal(dice: random.Random, facts: Facts, words: List[int]) -> Refusal:
 def place(dice: random.Random, facts: Facts) -> str:
     more = dice.choice((" protected 006E", " protected 006E 006F ..", " live", " moves"))
     return f"at {facts.device.word(dice.choice(stores_of(facts)))} st X, r24 in main{more}"
+
+
+def no_answer(question: Question) -> Answer:
+    raise AssertionError(question)
 
 
 def anything(dice: random.Random, facts: Facts) -> Callable[[Question], Answer]:
@@ -139,13 +161,43 @@ class Proposals(unittest.TestCase):
                     self.assertLess(count, 6, text)
 
 
-class Searches(unittest.TestCase):
+class Steps(unittest.TestCase):
+    def test_lines_that_are_no_others_need_no_reason(self) -> None:
+        steps: List[Because] = []
+        one = Lines(recorded.facts("uart.elf").device)
+        questions.run(questions.because(one, one.add(0x60, "free").drop(0x60, "free"), "nothing"), no_answer, steps)
+        questions.run(questions.because(one, one.add(0x60, "free"), "something"), no_answer, steps)
+        self.assertEqual([it.why for it in steps], ["something"])
+
+    def test_each_is_told_by_what_it_added_and_took_back(self) -> None:
+        facts = recorded.facts("pointers.elf")
+        one, up = Lines(facts.device).add_pairs(), facts.elf.named("up")[0].address // 2
+        site = next(iter(candidates.indirect(facts.elf)))
+        other, none = one.drop(NOWHERE, PAIRS).add(site, "jump", {up}), Lines(facts.device).add(site, "jump", {up + 1})
+        first, second = explained.steps(facts.firmware, [Because(one, other, "why"), Because(other, none, "so")])
+        self.assertEqual((first.why, first.added, first.dropped), ("why", ("jump main 1 up",), ("pairs",)))
+        self.assertEqual((second.added, second.dropped), ((none.line(site, "jump"),), ("jump main 1 up",)))
+
+
+class Following(unittest.TestCase):
+    def follows(self, steps: List[Because], begin: State, end: State) -> None:
+        """No line comes or goes without a reason: each step goes on with the lines of the one before, from the first lines to the last."""
+        lines = begin.lines
+        for it in steps:
+            self.assertEqual(it.before.items, lines.items, it.why)
+            self.assertNotEqual(it.after.items, lines.items, it.why)
+            self.assertRegex(it.why, r"\A\S.*\S\Z")
+            lines = it.after
+        self.assertEqual(lines.items, end.lines.items)
+
+
+class Searches(Following):
     def test_whatever_it_is_told_a_search_ends_and_keeps_given_lines(self) -> None:
         for seed in range(24):
             dice = random.Random(seed)
             facts = recorded.facts(NAMES[seed % len(NAMES)])
             begin = State(Lines(facts.device).give(dice.choice(words_of(facts)), "store", {0xC1}))
-            answer, asked = anything(dice, facts), []
+            answer, asked, steps = anything(dice, facts), [], list[Because]()
 
             def counted(question: Question) -> Answer:
                 asked.append(question)
@@ -154,7 +206,7 @@ class Searches(unittest.TestCase):
                 self.assertTrue(all(question.lines.items[key] == items for key, items in begin.lines.items.items()))
                 return answer(question)
 
-            questions.run(search(facts, begin), counted)
+            self.follows(steps, begin, questions.run(search(facts, begin), counted, steps))
 
     def test_refusals_without_end_are_left_after_some_rounds(self) -> None:
         for name in NAMES:
@@ -185,14 +237,18 @@ class Searches(unittest.TestCase):
 
 
 class Dialogues(unittest.TestCase):
+    def stands_in(self, script: str) -> None:
+        """Has a script answer in place of the program."""
+        with open(self.path, "w", encoding="ascii") as file:
+            file.write(script.format(version=version()))
+        os.chmod(self.path, 0o755)
+
     def setUp(self) -> None:
         folder = tempfile.TemporaryDirectory()
         self.addCleanup(folder.cleanup)
         self.folder = folder.name
-        path = os.path.join(self.folder, "stackbound")
-        with open(path, "w", encoding="ascii") as file:
-            file.write(ECHO.format(version=version()))
-        os.chmod(path, 0o755)
+        self.path = path = os.path.join(self.folder, "stackbound")
+        self.stands_in(ECHO)
         before = os.environ.get("STACKBOUND")
         os.environ["STACKBOUND"] = path
         self.addCleanup(lambda: os.environ.pop("STACKBOUND") if before is None else os.environ.update(STACKBOUND=before))
@@ -220,13 +276,60 @@ class Dialogues(unittest.TestCase):
         self.assertNotEqual(dialogue.said(Analyse(other)), told)
         self.assertEqual(first.call("analyse"), told)
 
+    def test_a_file_of_lines_is_never_written_anew(self) -> None:
+        """A program that was begun may read it meanwhile."""
+        dialogue, runs = self.dialogue(1)
+        lines = runs[0].lines.add(0x60, "prove")
+        path = dialogue.program(lines).options[-1]
+        before = os.stat(path)
+        self.assertEqual(dialogue.program(lines).options[-1], path)
+        self.assertEqual(os.stat(path), before)
 
-class Replayed(unittest.TestCase):
+    def dialogue(self, together: int) -> Tuple[Dialogue, Tuple[Trial, ...]]:
+        """One that lets so many programs run side by side, and three runs."""
+        patched = mock.patch.object(dialogues, "TOGETHER", together)
+        patched.start()
+        self.addCleanup(patched.stop)
+        firmware = Firmware(os.path.join(TOP, "tests", "firmware", "uart.elf"), None)
+        found = Dialogue(firmware, tempfile.mkdtemp(dir=self.folder))
+        return found, tuple(Trial(Lines(firmware.device), Run("run", f"{n}", (found.folder,)), n) for n in range(3))
+
+    def asked(self, named: Tuple[Trial, ...], asked: Tuple[Question, ...]) -> Search[List[Answer]]:
+        answers = []
+        yield from questions.soon(named)
+        for it in asked:
+            answer = yield it
+            assert answer is not None
+            answers.append(answer)
+        return answers
+
+    def test_answers_that_are_asked_for_soon_are_sought_side_by_side(self) -> None:
+        self.stands_in(MEETING)
+        dialogue, runs = self.dialogue(3)
+        self.assertEqual(dialogue.run(self.asked(runs, runs[::-1])), [Ran(2), Ran(1), Ran(0)])
+        dialogue, runs = self.dialogue(1)
+        dialogue.begin(questions.Soon(runs))
+        self.assertEqual(dialogue.begun, {})
+
+    def test_what_is_not_asked_after_all_is_ended(self) -> None:
+        self.stands_in(WAITING)
+        for asked in ((), (Analyse(Lines(recorded.facts("uart.elf").device)),)):
+            dialogue, runs = self.dialogue(3)
+            dialogue.begin(questions.Soon(runs))
+            waiting = [it for program, _ in dialogue.begun.values() for it in program.begun.values()]
+            self.assertEqual(dialogue.run(self.asked(runs, asked)), [Refusal("refused 7 too-large nodes")] * len(asked))
+            self.assertEqual(([it.returncode for it in waiting], dialogue.begun), ([-signal.SIGKILL] * 3, {}))
+
+
+class Replayed(Following):
     def test_recorded_answers_lead_to_the_recorded_lines(self) -> None:
         for name in recorded.names():
             with self.subTest(name):
-                table = recorded.read(name)
-                self.assertEqual(recorded.replayed(name, table), (table.lines, table.end))
+                table, facts, steps = recorded.read(name), recorded.facts(name), list[Because]()
+                begin = recorded.begin(facts)
+                state = questions.run(search(facts, begin), table.answer, steps)
+                self.assertEqual(recorded.end(state), (table.lines, table.end))
+                self.follows(steps, begin, state)
 
 
 if __name__ == "__main__":

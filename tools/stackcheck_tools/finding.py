@@ -154,6 +154,15 @@ class Since:
 
 
 @dataclass(frozen=True)
+class Step:
+    """A step of the search of lines: why, and which lines it added and took back. A line whose items changed is taken back and added."""
+
+    why: str
+    added: Tuple[str, ...]
+    dropped: Tuple[str, ...]
+
+
+@dataclass(frozen=True)
 class Edge:
     """A line of the call graph."""
 
@@ -209,7 +218,7 @@ class Judge:
 
 @dataclass(frozen=True)
 class Result:
-    """One call: what was analysed and what was found. Without a bound all that follows `findings` is empty."""
+    """One call: what was analysed and what was found. Without a bound all that follows `findings` is empty, but for `search`."""
 
     command: Tuple[str, ...]
     version: str
@@ -229,6 +238,7 @@ class Result:
     recursions: Tuple[Nesting, ...] = ()
     interrupts: Optional[Tuple[Without, ...]] = None
     since: Optional[Since] = None
+    search: Optional[Tuple[Step, ...]] = None
     calls: Tuple[Edge, ...] = ()
     frames: Optional[Frame] = None
 

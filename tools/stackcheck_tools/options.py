@@ -52,6 +52,7 @@ OPTIONS = (
     Option("Output", "--csv", "FILE", WRITTEN, "stack needs of each function as a table"),
     Option("Output", "--dot", "FILE", WRITTEN, "the call graph for Graphviz"),
     Option("Output", "--interrupts", "", FLAG, "print the bound without each interrupt"),
+    Option("Output", "--explain-search", "", FLAG, "print why each line was added or taken back"),
     Option("Output", "--cert", "FILE", WRITTEN, "the certificate, for stackbound check"),
     Option("Output", "--schedule", "FILE", WRITTEN, "the run that is as deep as the bound"),
     Option("Other", "--cures", "", FLAG, "print the table of causes and cures"),

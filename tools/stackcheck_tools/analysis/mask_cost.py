@@ -8,7 +8,7 @@ from typing import Dict, List, NamedTuple, Optional, Sequence
 from stackcheck_tools.analysis import causes, places, warnings_of_words
 from stackcheck_tools.analysis.kinds import ORDINARY, SAFETY, STORES, WHOLE
 from stackcheck_tools.analysis.mending import tried_from
-from stackcheck_tools.analysis.questions import Search
+from stackcheck_tools.analysis.questions import Search, because
 from stackcheck_tools.analysis.settling import analysed, settled_own
 from stackcheck_tools.analysis.state import Facts, Lists, State
 from stackcheck_tools.analysis.state import told as told_of
@@ -24,6 +24,10 @@ LARGE = 2048  # bytes of code from which on it is looked whether the line is nee
 MANY = 10_000  # nodes from which on it is looked: some seconds of analysis
 TIMES = 4  # as many nodes as without the line, from which on it costs too much
 LANGUAGE, GIVEN = "language", "given"
+WITHOUT = "a look at the analysis without it"
+NEEDED = "the line `masks` may save places"
+KEEPS = "the line `masks` costs little, or lowers the bound"
+SAVES = "with the line `masks` there are other places or runs"
 LEFT_OUT = "the line `masks` is left out: with it the analysis is {} times as large, and bound and places are the same"
 KEPT = "the line `masks` makes the analysis {} times as large, and saves {} place{} to review"
 
@@ -73,17 +77,22 @@ def needless(facts: Facts, state: State) -> Search[Optional[State]]:
     if not facts.device.is_first() or state.lines.has_masks() or size < LARGE or stored.numbers(facts.elf) & facts.device.enabling:
         return None
     other = yield from settled_own(facts, state.look())
-    if other is None or STORES in (yield from kinds_of(facts, other)).values():
+    if other.certificate is None or STORES in (yield from kinds_of(facts, other)).values():
+        yield from because(other.lines, state.lines, NEEDED)
         return None
     return state.adopt(other)
 
 
 def lean(facts: Facts, state: State) -> Search[Optional[State]]:
     """The same lines without `masks`, where the bound is the same and the certificate much smaller."""
-    other = yield from analysed(facts, state.look().under(state.lines.drop(NOWHERE, MASKS)))
-    if other.certificate is None or bound_of(other.certificate) != bound_of(state.certificate):
-        return None
-    return other if nodes_in(state.certificate or "") > TIMES * nodes_in(other.certificate) else None
+    lines = state.lines.drop(NOWHERE, MASKS)
+    yield from because(state.lines, lines, WITHOUT)
+    other = yield from analysed(facts, state.look().under(lines))
+    is_same = other.certificate is not None and bound_of(other.certificate) == bound_of(state.certificate)
+    if is_same and nodes_in(state.certificate or "") > TIMES * nodes_in(other.certificate or ""):
+        return other
+    yield from because(other.lines, state.lines, KEEPS)
+    return None
 
 
 def weighed(facts: Facts, state: State) -> Search[State]:
@@ -101,5 +110,6 @@ def weighed(facts: Facts, state: State) -> Search[State]:
         other, _ = yield from tried_from(facts, other, 0)
         if not other.stop:
             return replace(state.adopt(other), told_of_masks=LEFT_OUT.format(times))
+    yield from because(other.lines, state.lines, SAVES)
     saved = list(after.values()).count("ordinary") - list(before.values()).count("ordinary")
     return replace(state, told_of_masks=KEPT.format(times, saved, "" if saved == 1 else "s")) if saved > 0 else state

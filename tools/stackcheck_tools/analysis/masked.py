@@ -8,7 +8,7 @@ from typing import Iterator, Set, Tuple
 from stackcheck_tools.analysis.cures import RE_ENTRY, REFUSAL
 from stackcheck_tools.analysis.mending import mended
 from stackcheck_tools.analysis.proposals import wild_stores, with_never
-from stackcheck_tools.analysis.questions import Search
+from stackcheck_tools.analysis.questions import Search, because
 from stackcheck_tools.analysis.settling import MOST_TRIED, attempt
 from stackcheck_tools.analysis.state import Facts, State, told
 from stackcheck_tools.firmware import candidates, opcodes
@@ -16,6 +16,8 @@ from stackcheck_tools.spec.lines import Lines
 from stackcheck_tools.spec.spec import MASKS, NOWHERE
 
 R0 = 0  # a register that no compiled store means
+SPARED = "these stores enable no interrupt"
+LOOKED = "a look whether there is a bound without that"
 
 
 def with_masks(facts: Facts, lines: Lines) -> Tuple[Lines, bool]:
@@ -53,7 +55,7 @@ def spared(facts: Facts, state: State, sites: Set[int]) -> Search[State]:
     """Drops the lines that say of a store that it enables no interrupt, where there is a bound without them."""
     for site in sorted(sites)[:MOST_TRIED]:
         if state.lines.of(site, "store") == {R0}:
-            state = (yield from attempt(facts, state, state.lines.drop(site, "store"))) or state
+            state = (yield from attempt(facts, state, state.lines.drop(site, "store"), LOOKED)) or state
     return state
 
 
@@ -69,14 +71,19 @@ def partly(facts: Facts, state: State, sites: Set[int]) -> State:
 def without_masks(facts: Facts, state: State, before: Lines) -> Search[State]:
     """Where the line `masks` alone leads to a refusal: takes it back at the stores that lead there, or leaves it out where the device
     lets it. `before` are the lines before it was tried."""
-    plain, is_first = state.look(), facts.device.is_first()
+    plain, is_first, why = state.look(), facts.device.is_first(), f"{state.refusal}: {{}}"
     if is_first:
+        yield from because(state.lines, before, why.format("taken back with what was added behind it"))
         plain = yield from mended(facts, replace(plain, lines=before, answer=None, tried=frozenset()))
         if plain.refusal:
             return state.adopt(plain)
-    wild = wild_stores(facts, (yield from told(plain))) if is_first else open_stores(facts, state.lines)
+    wild, lines = wild_stores(facts, (yield from told(plain))) if is_first else open_stores(facts, state.lines), plain.lines
     for sites in groups(facts, state.refusal or "", wild):
-        found = yield from mended(facts, partly(facts, plain, sites))
+        other = partly(facts, plain, sites)
+        yield from because(lines, other.lines, why.format(SPARED))
+        found = yield from mended(facts, other)
         if not found.refusal:
             return state.adopt(found if is_first else (yield from spared(facts, found, sites)))
+        lines, why = found.lines, f"{found.refusal}: {{}}"
+    yield from because(lines, plain.lines, why.format("taken back"))
     return state.adopt(plain)

@@ -12,6 +12,7 @@ from stackcheck_tools.analysis import causes, flags, refused, search, warnings_o
 from stackcheck_tools.analysis.dialogue import Dialogue
 from stackcheck_tools.analysis.locations import of_word
 from stackcheck_tools.analysis.program import OK, NoProgram, Program
+from stackcheck_tools.analysis.questions import Because
 from stackcheck_tools.analysis.runs import Run, Stop
 from stackcheck_tools.analysis.state import Facts, Lists, State
 from stackcheck_tools.finding import Finding, Judge, Link
@@ -35,6 +36,7 @@ class Refused:
     own: Lines
     finding: Finding
     judge: Judge
+    steps: Sequence[Because]  # of the search of lines
 
 
 @dataclass
@@ -49,6 +51,7 @@ class Accepted:
     lists: Lists  # of calls through pointers
     judge: Judge
     recursions: Sequence[recursion.Recursion]  # of the spec or by runs, with the depths that they came to
+    steps: Sequence[Because]  # of the search of lines
     cure: Optional[str] = None  # of a recursion that is as deep as the runs
     told_of_masks: Optional[str] = None  # what the line `masks` costs, or why it was left out
     stop: Optional[Stop] = None  # the flagged step of a simulated run
@@ -154,11 +157,12 @@ def searched(facts: Facts, dialogue: Dialogue, spec: str, read: Optional[Spec], 
     """Looks for lines under which the firmware has a bound, and judges what is found."""
     firmware, given = facts.firmware, read.text() if read else ""
     begin = State(Lines.read(firmware.device, given), recursions=tuple(read.recursions) if read else ())
-    state = dialogue.run((search.plain if words.plain else search.search)(facts, begin))
+    steps: List[Because] = []
+    state = dialogue.run((search.plain if words.plain else search.search)(facts, begin), steps)
     if state.refusal:
-        return Refused(firmware, spec, given, state.lines, dialogue.run(refused.finding(facts, state)), dialogue.judge)
+        return Refused(firmware, spec, given, state.lines, dialogue.run(refused.finding(facts, state)), dialogue.judge, steps)
     flag = dialogue.run(flags.finding(facts, state, state.stop)) if state.stop else None
-    found = Accepted(firmware, spec, given, state.certificate or "", state.lines, state.lists, dialogue.judge, state.recursions,
+    found = Accepted(firmware, spec, given, state.certificate or "", state.lines, state.lists, dialogue.judge, state.recursions, steps,
                      search.cure_of_recursion(facts, state), state.told_of_masks, state.stop, flag, seen=state.deepest)
     return take(dialogue, found, state, words)
 

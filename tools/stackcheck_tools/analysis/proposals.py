@@ -26,10 +26,11 @@ class Proposal(NamedTuple):
 
 
 class Wanted(NamedTuple):
-    """Lines of a kind that places ask for, with their items, by sites."""
+    """Lines of a kind that places ask for, with their items, by sites, and why."""
 
     kind: str
     items: Dict[int, FrozenSet[int]]
+    why: str
 
 
 def with_targets(facts: Facts, state: State, sites: Iterable[int]) -> State:
@@ -130,10 +131,10 @@ def for_places(facts: Facts, state: State, premises: List[str]) -> Iterator[Want
         return
     nodes, enabling = Nodes(facts.elf, state.certificate or ""), facts.device.enabling
     yield Wanted("prove", {word: frozenset() for word, it in told.items()
-                           if it.addresses and nodes.fixed(word) and is_open(state, word, "prove")})
+                           if it.addresses and nodes.fixed(word) and is_open(state, word, "prove")}, "the pointer is one constant there")
     yield Wanted("store", {word: frozenset(it.addresses) for word, it in sorted(told.items())
                            if it.is_few() and (len(it.addresses) == 1 or it.addresses <= enabling)
-                           and is_open(state, word, "store", it.addresses)})
+                           and is_open(state, word, "store", it.addresses)}, "the store may write these protected registers alone")
 
 
 def added(state: State, wanted: Wanted, sites: Iterable[int]) -> State:

@@ -1,12 +1,13 @@
 """What a search asks of the program, as values, and what it is told to each.
 
 A search is a generator that yields questions and is sent the answers. So it needs no program: a dialogue answers by `stackbound`, a test by
-a table. Each question has the lines under which it is asked, and no look at other lines changes what another one is told."""
+a table. Each question has the lines under which it is asked, and no look at other lines changes what another one is told. Between questions
+a search says why it goes on with other lines, and what it asks next if nothing comes in between: both are answered by nothing."""
 
 from __future__ import annotations
 
 import hashlib
-from typing import Callable, Generator, List, NamedTuple, Tuple, TypeVar, Union
+from typing import Callable, Generator, Iterable, List, NamedTuple, Optional, Tuple, TypeVar, Union
 
 from stackcheck_tools.analysis.program import OK, REFUSED, NoProgram
 from stackcheck_tools.analysis.runs import Ran, Run, ran
@@ -61,10 +62,26 @@ class Trial(NamedTuple):
     number: int = -1
 
 
+class Because(NamedTuple):
+    """A step of a search: from these lines to those, and why. A look that found nothing is taken back by a step of its own."""
+
+    before: Lines
+    after: Lines
+    why: str
+
+
 Question = Union[Analyse, Premises, Attain, Trial]
 Answer = Union[Certificate, Refusal, Places, Ran]
+
+
+class Soon(NamedTuple):
+    """Questions that are probably asked next, in this order: their answers may be sought side by side."""
+
+    questions: Tuple[Question, ...]
+
+
 T = TypeVar("T")
-Search = Generator[Question, Answer, T]
+Search = Generator[Union[Question, Because, Soon], Optional[Answer], T]
 
 
 def family(certificate: str) -> str:
@@ -97,6 +114,12 @@ def answer_of(question: Question, status: int, text: str) -> Answer:
     return Places(tuple(text.splitlines()[1:])) if isinstance(question, Premises) else Certificate(text)
 
 
+def because(before: Lines, after: Lines, why: str) -> Search[None]:
+    """Says why the search goes on with other lines; nothing where they are no others."""
+    if before.items != after.items:
+        yield Because(before, after, why)
+
+
 def analyse(lines: Lines) -> Search[Union[Certificate, Refusal]]:
     answer = yield Analyse(lines)
     assert isinstance(answer, (Certificate, Refusal))
@@ -115,18 +138,32 @@ def attain(lines: Lines, certificate: str) -> Search[Certificate]:
     return answer
 
 
+def soon(asked: Iterable[Question]) -> Search[None]:
+    yield Soon(tuple(asked))
+
+
 def trial(lines: Lines, run: Run, number: int = -1) -> Search[Ran]:
     answer = yield Trial(lines, run, number)
     assert isinstance(answer, Ran)
     return answer
 
 
-def run(search: Search[T], answer: Callable[[Question], Answer]) -> T:
-    """What a search comes to where this function answers its questions."""
+def run(search: Search[T], answer: Callable[[Question], Answer], steps: Optional[List[Because]] = None,
+        begin: Optional[Callable[[Soon], None]] = None) -> T:
+    """What a search comes to where one function answers its questions, and another hears which come soon. Its steps are put behind those
+    of a list."""
+    told: Optional[Answer] = None
     try:
-        question = next(search)
         while True:
-            question = search.send(answer(question))
+            said, told = search.send(told), None
+            if isinstance(said, Because):
+                if steps is not None:
+                    steps.append(said)
+            elif isinstance(said, Soon):
+                if begin:
+                    begin(said)
+            else:
+                told = answer(said)
     except StopIteration as end:
         found: T = end.value
         return found

@@ -3,14 +3,14 @@
 from __future__ import annotations
 
 from dataclasses import replace
-from typing import Optional
+from typing import Callable, Optional, Tuple
 
 from stackcheck_tools.analysis import cycles, mask_cost
 from stackcheck_tools.analysis.cures import CURES, cure
 from stackcheck_tools.analysis.masked import with_masks, without_masks
 from stackcheck_tools.analysis.mending import mended, tried_from
 from stackcheck_tools.analysis.proposals import is_open, with_targets
-from stackcheck_tools.analysis.questions import Certificate, Search, analyse
+from stackcheck_tools.analysis.questions import Certificate, Search, analyse, because
 from stackcheck_tools.analysis.settling import analysed
 from stackcheck_tools.analysis.state import Facts, State, told
 from stackcheck_tools.analysis.stops import reads_masks
@@ -18,16 +18,15 @@ from stackcheck_tools.analysis.trials import handled
 from stackcheck_tools.analysis.widening import widened
 from stackcheck_tools.dataflow import virtual_calls
 from stackcheck_tools.firmware import candidates, opcodes, register_results
-from stackcheck_tools.firmware.elf import Elf
 from stackcheck_tools.spec import parameters, scratch
 from stackcheck_tools.spec.lines import Lines
 
 MOST_PARAMETERS = 2000  # pushes of parameters that get a line `scratch`
 
 
-def with_scratch(elf: Elf, lines: Lines) -> Lines:
+def with_scratch(facts: Facts, lines: Lines) -> Lines:
     """Lines for the pushes of parameters, and for those of avr-libc's `exp`, whose bytes are written on purpose."""
-    return lines.add_each(scratch.of_exp(elf) + list(parameters.pushes(elf))[:MOST_PARAMETERS], scratch.KIND)
+    return lines.add_each(scratch.of_exp(facts.elf) + list(parameters.pushes(facts.elf))[:MOST_PARAMETERS], scratch.KIND)
 
 
 def with_results(facts: Facts, lines: Lines) -> Lines:
@@ -50,6 +49,25 @@ def with_foreseen(facts: Facts, state: State) -> State:
     return with_targets(facts, state, sites) if is_read else state
 
 
+FIRST: Tuple[Tuple[str, Callable[[Facts, Lines], Lines]], ...] = (
+    ("register pairs are followed", lambda _, lines: lines.add_pairs()),
+    ("the program writes these bytes on purpose, as scratch space", with_scratch),
+    ("functions of avr-libc write their results there", with_results))
+FORESEEN = "code that is entered by name calls through pointers"
+MASKED = "stores may enable interrupts, and vectors without a handler are not entered"
+
+
+def begun(facts: Facts, state: State) -> Search[State]:
+    """With the lines that no answer asks for."""
+    for why, step in FIRST:
+        lines = step(facts, state.lines)
+        yield from because(state.lines, lines, why)
+        state = state.under(lines)
+    more = with_foreseen(facts, state)
+    yield from because(state.lines, more.lines, FORESEEN)
+    return more
+
+
 def limited(facts: Facts, state: State) -> Search[State]:
     """Where a recursion is refused: goes on with as many activations as simulated runs reach, if they call such a function at all."""
     found = yield from cycles.limits(facts, state)
@@ -68,7 +86,10 @@ def trimmed(state: State) -> Search[State]:
     for site in written - needed:
         fewer = fewer.drop(site, "never")
     answer = yield from analyse(fewer)
-    return replace(state, lines=fewer, answer=answer) if isinstance(answer, Certificate) else state
+    if not isinstance(answer, Certificate):
+        return state
+    yield from because(state.lines, fewer, "no place of the bound enters these vectors")
+    return replace(state, lines=fewer, answer=answer)
 
 
 def plain(facts: Facts, state: State) -> Search[State]:
@@ -81,12 +102,13 @@ def plain(facts: Facts, state: State) -> Search[State]:
 
 def search(facts: Facts, state: State) -> Search[State]:
     """The answer with lines of this tool."""
-    state = with_foreseen(facts, state.under(with_results(facts, with_scratch(facts.elf, state.lines.add_pairs()))))
+    state = yield from begun(facts, state)
     before, has_masks = state.lines, False
     if found := (yield from mask_cost.needless(facts, state)):
         state = found
     else:
         lines, has_masks = with_masks(facts, before)
+        yield from because(before, lines, MASKED)
         state = state.under(lines)
     state = yield from mended(facts, state)
     state = yield from limited(facts, state)

@@ -12,7 +12,7 @@ from typing import Optional, Tuple
 from stackcheck_tools.analysis import proposals, questions
 from stackcheck_tools.analysis.cures import RE_ENTRY, REFUSAL, UNKNOWN_POINTER, parts
 from stackcheck_tools.analysis.proposals import Wanted
-from stackcheck_tools.analysis.questions import Refusal, Search
+from stackcheck_tools.analysis.questions import Refusal, Search, because
 from stackcheck_tools.analysis.state import Facts, State, told
 from stackcheck_tools.firmware import opcodes
 from stackcheck_tools.spec import recursion
@@ -20,6 +20,8 @@ from stackcheck_tools.spec.lines import Lines
 
 ROUNDS = 64
 MOST_TRIED = 8  # lines that are tried one by one where they aren't accepted together
+DEPTHS = "recursions go as deep as their numbers of activations say"
+PROOFS = "the analysis knows the pointers of the handler's stores"
 
 
 def analysed(facts: Facts, state: State) -> Search[State]:
@@ -32,10 +34,12 @@ def analysed(facts: Facts, state: State) -> Search[State]:
         lines = lines.give(entry, recursion.KIND, {0})
     answer = yield from questions.analyse(lines)
     if isinstance(answer, Refusal):
+        yield from because(state.lines, lines, DEPTHS)
         return replace(state, lines=lines, answer=answer)
     recursions = recursion.settled(facts.firmware, answer.text, state.recursions)
     for entry, it in recursion.numbered(recursions):
         lines = lines.give(entry, recursion.KIND, {it.depths[entry]})
+    yield from because(state.lines, lines, DEPTHS)
     return replace(state, lines=lines, recursions=recursions, answer=(yield from questions.analyse(lines)))
 
 
@@ -57,10 +61,11 @@ def with_proofs(facts: Facts, lines: Lines, vector: int, text: str) -> Search[Li
 
 def at_refusal(facts: Facts, state: State, text: str) -> Search[State]:
     """Adds lines of the kind that most likely cures a refusal; the same lines where nothing helps."""
-    more = proposals.for_refusal(facts, state, text).state
+    more, why = proposals.for_refusal(facts, state, text)
     number, _, _, place, _ = parts(text)
     if more.lines is state.lines and number == RE_ENTRY:
-        return more.under((yield from with_proofs(facts, more.lines, int(place or "0", 16), text)))
+        more, why = more.under((yield from with_proofs(facts, more.lines, int(place or "0", 16), text))), PROOFS
+    yield from because(state.lines, more.lines, f"{text}: {why}")
     return more
 
 
@@ -77,10 +82,12 @@ def settled(facts: Facts, state: State) -> Search[State]:
     return state
 
 
-def attempt(facts: Facts, state: State, lines: Lines) -> Search[Optional[State]]:
+def attempt(facts: Facts, state: State, lines: Lines, why: str) -> Search[Optional[State]]:
     """Goes on with other lines, and those that cure what comes of them, where there is a bound then; None where there is none."""
+    yield from because(state.lines, lines, why)
     other = yield from settled(facts, state.look().under(lines))
     if other.certificate is None:
+        yield from because(other.lines, state.lines, f"{other.refusal}: taken back")
         return None
     return state.adopt(replace(other, stop=state.stop, deepest=state.deepest, deepest_run=state.deepest_run))
 
@@ -91,10 +98,10 @@ def with_all(facts: Facts, state: State, wanted: Wanted) -> Search[Tuple[State, 
     if not sites:
         return state, False
     state = replace(state, tried=state.tried | {(it, wanted.kind) for it in sites})
-    if found := (yield from attempt(facts, state, proposals.added(state, wanted, sites).lines)):
+    if found := (yield from attempt(facts, state, proposals.added(state, wanted, sites).lines, wanted.why)):
         return found, True
     for site in sites[:MOST_TRIED] if len(sites) > 1 else ():
-        if found := (yield from attempt(facts, state, proposals.added(state, wanted, [site]).lines)):
+        if found := (yield from attempt(facts, state, proposals.added(state, wanted, [site]).lines, wanted.why)):
             state, is_new = found, True
     return state, is_new
 
@@ -109,13 +116,13 @@ def with_own(facts: Facts, state: State) -> Search[Tuple[State, bool]]:
     return state, False
 
 
-def settled_own(facts: Facts, state: State) -> Search[Optional[State]]:
-    """A bound with the lines that refusals and places ask for; None where there is none."""
+def settled_own(facts: Facts, state: State) -> Search[State]:
+    """The answer with the lines that refusals and places ask for."""
     is_new = True
     while is_new:
         if state.certificate is None:
             state = yield from settled(facts, state)
             if state.certificate is None:
-                return None
+                return state
         state, is_new = yield from with_own(facts, state)
     return state

@@ -6,16 +6,19 @@ from dataclasses import replace
 from typing import List, Optional, Tuple
 
 from stackcheck_tools.analysis import core_registers, cycles, questions
-from stackcheck_tools.analysis.questions import Certificate, Search
+from stackcheck_tools.analysis.questions import Certificate, Search, because
 from stackcheck_tools.analysis.runs import Stop
-from stackcheck_tools.analysis.settling import settled
+from stackcheck_tools.analysis.settling import attempt
 from stackcheck_tools.analysis.state import Facts, State, scope, trials_of
+from stackcheck_tools.analysis.telling import text_of_stop
 from stackcheck_tools.analysis.trials import short
 from stackcheck_tools.firmware import candidates, opcodes
 from stackcheck_tools.spec import recursion, scratch
 from stackcheck_tools.spec.lines import Lines
 
 MOST_PUSHES = 16  # pushes that are tried one by one for a line `scratch`
+SHOWN = "a simulated run: {}"
+LOOKED = "a look whether the run goes on then"
 
 
 def is_beyond_lines(facts: Facts, lines: Lines, stop: Stop) -> bool:
@@ -55,12 +58,16 @@ def pushes(facts: Facts, lines: Lines) -> List[int]:
 
 def goes_on(facts: Facts, state: State, stop: Stop, word: int) -> Search[bool]:
     """Whether the run goes on behind a stop with a line `scratch`, under which there is a bound."""
-    other = state.look().under(state.lines.add(word, scratch.KIND))
-    trials = trials_of(facts, other.lines, (yield from scope(state)))
+    lines = state.lines.add(word, scratch.KIND)
+    trials = trials_of(facts, lines, (yield from scope(state)))
     found = (yield from short(trials, state.stopped_at)).stop
     if found == stop:
         return False
-    return (yield from settled(facts, other)).certificate is not None
+    other = yield from attempt(facts, state, lines, SHOWN.format(text_of_stop(facts.firmware, stop)))
+    if other is None:
+        return False
+    yield from because(other.lines, state.lines, LOOKED)
+    return True
 
 
 def scratch_for(facts: Facts, state: State, stop: Stop) -> Search[State]:
@@ -108,6 +115,7 @@ def at_stop(facts: Facts, state: State) -> Search[Tuple[State, bool]]:
     stop = state.stop
     if stop is None:
         return state, False
+    why = SHOWN.format(text_of_stop(facts.firmware, stop))
     state, may = yield from may_admit(facts, state, stop)
     if not may:
         return state, False
@@ -116,10 +124,12 @@ def at_stop(facts: Facts, state: State) -> Search[Tuple[State, bool]]:
     if stop.kind == "live":
         push = state.scratched[stop]
         more = state if push is None else state.under(state.lines.add(push, scratch.KIND))
+        yield from because(state.lines, more.lines, why)
         return more, more is not state
     lines, kind = yield from admitted(facts, state.lines, stop)
     if kind == "store" and reads_masks(facts, lines):
         lines = yield from follow_enables(facts, lines, stop.word)
+    yield from because(state.lines, lines, why)
     state = state.under(lines)
     if kind == "jump":
         state = replace(state, pinned=state.pinned | {(stop.word, stop.other)})

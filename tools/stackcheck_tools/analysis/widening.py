@@ -33,6 +33,7 @@ UNKNOWN_TABLE = "one of the tables of `switch` through which it jumps was not fo
 REFUTED = "a simulated run went to {}, which no search and no record names as a function whose address is taken: the list may lack others"
 EMPTY = ("the file takes the address of no function, and this call is none of avr-libc's own: its pointer is made in a way that no list "
          "knows")
+WHOLE = "lists with every function that may be called there"
 TOO_MANY = "{} functions have their address taken, and a list has at most {}"
 RECORDS = "link with -Wl,--emit-relocs: then the linker's records name every function whose address is taken"
 
@@ -120,7 +121,7 @@ class Widening:
         for site in sites:
             lines = lines.put(site, "jump", self.wanted(state, site))
         whole = replace(state, lists=replace(state.lists, whole=state.lists.whole | set(sites)))
-        found = yield from attempt(self.facts, whole, lines)
+        found = yield from attempt(self.facts, whole, lines, WHOLE)
         if found is None:
             return None
         bound = bound_of(state.certificate) if found.lists.bound is None else found.lists.bound

@@ -6,7 +6,7 @@ from argparse import Namespace
 from dataclasses import replace
 from typing import List, Tuple
 
-from stackcheck_tools.analysis import added, idle_lines, kinds, limits, place_findings, places, remarks
+from stackcheck_tools.analysis import added, explained, idle_lines, kinds, limits, place_findings, places, remarks
 from stackcheck_tools.analysis.flags import reviewed
 from stackcheck_tools.analysis.outcome import Accepted, Outcome, Refused
 from stackcheck_tools.finding import Added, Bound, Count, Edge, Finding, Need, Nesting, Result, Review
@@ -70,7 +70,8 @@ def result(outcome: Outcome, words: Namespace, command: Tuple[str, ...], folder:
     device = firmware.device
     path, form = readable(firmware.path), "hex" if intel_hex.is_one(firmware.path) else "elf"
     head = Result(command, version(), outcome.judge, path, form, device.name, firmware.linked_for,
-                  (device.first, device.last), words.spec and readable(words.spec), lines(outcome), ())
+                  (device.first, device.last), words.spec and readable(words.spec), lines(outcome), (),
+                  search=explained.steps(firmware, outcome.steps) if words.explain_search else None)
     if isinstance(outcome, Refused):
         return replace(head, findings=(outcome.finding,))
     spec = Spec(firmware.elf, outcome.spec, device)

@@ -36,7 +36,8 @@ def value(it: Result) -> Dict[str, object]:
         "findings": [finding(*one) for one in numbered(it.findings)], "lines": [asdict(one) for one in it.lines],
         "chain": [asdict(one) for one in it.chain], "needs": [asdict(one) for one in it.needs],
         "recursions": [asdict(one) for one in it.recursions],
-        "interrupts": None if it.interrupts is None else [asdict(one) for one in it.interrupts], "since": it.since and asdict(it.since)}
+        "interrupts": None if it.interrupts is None else [asdict(one) for one in it.interrupts], "since": it.since and asdict(it.since),
+        "search": None if it.search is None else [asdict(one) for one in it.search]}
 
 
 def text(it: Result) -> str:

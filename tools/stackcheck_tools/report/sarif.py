@@ -5,11 +5,11 @@ from __future__ import annotations
 import json
 import os
 import shlex
-from typing import Dict, Iterable, List, Optional
+from typing import Dict, Iterable, List, Optional, Sequence
 from urllib.parse import quote
 
 from stackcheck_tools import home
-from stackcheck_tools.finding import Fault, Finding, Link, Location, Result
+from stackcheck_tools.finding import ERROR, Fault, Finding, Link, Location, Result
 from stackcheck_tools.report.fingerprint import numbered
 from stackcheck_tools.rules import BY_ID, DOCUMENT, Rule
 
@@ -17,12 +17,17 @@ SCHEMA = "https://json.schemastore.org/sarif-2.1.0.json"
 MOST_OTHERS = 7  # further instructions of a place
 
 
+def absolute(path: str) -> str:
+    """The URI of a file, whatever separates its folders; a drive keeps its colon."""
+    return "file:///" + quote(os.path.abspath(path).replace(os.sep, "/").lstrip("/"), safe="/:")
+
+
 def uri(path: str) -> Dict[str, object]:
     """A path below the folder of the call is relative to it; any other is absolute."""
     path = os.path.normpath(path)
     if os.path.isabs(path) or path.startswith(".."):
-        return {"uri": "file://" + quote(os.path.abspath(path))}
-    return {"uri": quote(path), "uriBaseId": "%SRCROOT%"}
+        return {"uri": absolute(path)}
+    return {"uri": quote(path.replace(os.sep, "/")), "uriBaseId": "%SRCROOT%"}
 
 
 def location(it: Location, firmware: str, message: Optional[str] = None) -> Dict[str, object]:
@@ -58,18 +63,18 @@ def message(it: Finding) -> str:
     return "\n".join(more)
 
 
-def entry(it: Finding, fingerprint: str, whole: Result, index: Dict[str, int]) -> Dict[str, object]:
+def entry(it: Finding, fingerprint: str, firmware: str, chain: Sequence[Link], index: Dict[str, int]) -> Dict[str, object]:
     """One of `results`."""
     found: Dict[str, object] = {
         "ruleId": it.rule, "ruleIndex": index[it.rule], "level": it.level, "message": {"text": message(it)},
-        "locations": [location(it.at_line() or it.at(), whole.firmware)],
+        "locations": [location(it.at_line() or it.at(), firmware)],
         "partialFingerprints": {"primaryLocationLineHash": fingerprint, "stackcheck/v1": fingerprint.partition(":")[0]}}
-    related = [location(at, whole.firmware, "also here") for at in it.locations[1:MOST_OTHERS + 1]]
-    related += [location(one.location, whole.firmware, one.message) for one in it.related if one.role != "chain"]
+    related = [location(at, firmware, "also here") for at in it.locations[1:MOST_OTHERS + 1]]
+    related += [location(one.location, firmware, one.message) for one in it.related if one.role != "chain"]
     if related:
         found["relatedLocations"] = [identified(number, one) for number, one in enumerate(related)]
-    if whole.chain and any(one.role == "chain" for one in it.related):
-        found["codeFlows"] = flow(whole.chain, whole.firmware)
+    if chain and any(one.role == "chain" for one in it.related):
+        found["codeFlows"] = flow(chain, firmware)
     if it.cause:
         found["properties"] = {"cause": it.cause}
     return found
@@ -78,7 +83,7 @@ def entry(it: Finding, fingerprint: str, whole: Result, index: Dict[str, int]) -
 def help_uri(it: Rule) -> Dict[str, object]:
     """Where the rule's own words stand on this machine; nothing where the documents were not installed."""
     path = home.document(os.path.basename(DOCUMENT))
-    return {} if path is None else {"helpUri": f"file://{quote(path)}#{it.id.lower()}"}
+    return {} if path is None else {"helpUri": f"{absolute(path)}#{it.id.lower()}"}
 
 
 def rule(it: Rule) -> Dict[str, object]:
@@ -104,7 +109,7 @@ def text(it: Result) -> str:
     run: Dict[str, object] = {
         "tool": driver(it.version, used),
         "invocations": [{"commandLine": shlex.join(it.command), "exitCode": it.status(), "executionSuccessful": True}],
-        "columnKind": "unicodeCodePoints", "results": [entry(one, fingerprint, it, index) for one, fingerprint in shown]}
+        "columnKind": "unicodeCodePoints", "results": [entry(one, fingerprint, it.firmware, it.chain, index) for one, fingerprint in shown]}
     if it.bound:
         run["properties"] = {"bound": it.bound.bytes, "room": it.bound.room, "attained": it.bound.attained, "device": it.device}
     return log(run)
@@ -115,9 +120,9 @@ def text_of_fault(fault: Fault, command: Iterable[str], version: str, status: in
     at = fault.location
     invocation: Dict[str, object] = {"commandLine": shlex.join(command), "exitCode": status, "executionSuccessful": False}
     results: List[Dict[str, object]] = []
-    if at.has_line():
-        results.append({"ruleId": fault.rule, "ruleIndex": 0, "level": "error", "message": {"text": str(fault)},
-                        "locations": [location(at, at.file or "")]})
+    if at.has_line():  # what is wrong says which line it is, wherever that stands
+        told = numbered([Finding(fault.rule, ERROR, str(fault), (at,), source=str(fault))])
+        results += [entry(it, fingerprint, at.file or "", (), {fault.rule: 0}) for it, fingerprint in told]
     else:
         invocation["toolExecutionNotifications"] = [{"level": "error", "message": {"text": str(fault)},
                                                      "associatedRule": {"id": fault.rule}}]

@@ -7,7 +7,7 @@ from typing import Dict, Iterable, Iterator, List, Tuple
 from stackcheck_tools import colour
 from stackcheck_tools.analysis import kinds
 from stackcheck_tools.analysis.kinds import GIVEN, SAFETY, UNUSED, WHOLE
-from stackcheck_tools.finding import ERROR, NOTE, ORDINARY, WARNING, Added, Bound, Finding, Location, Need, Nesting, Result, Since, Without
+from stackcheck_tools.finding import ERROR, NOTE, ORDINARY, WARNING, Added, Bound, Finding, Location, Need, Nesting, Result, Since, Step, Without
 from stackcheck_tools.report.needs import COLUMNS
 from stackcheck_tools.spec.recursion import PLACE
 
@@ -187,6 +187,17 @@ def changed(bound: Bound, since: Since) -> Iterator[str]:
         yield f"  {it.grown():+} {it.name}: {how}"
 
 
+def searched(steps: Tuple[Step, ...]) -> Iterator[str]:
+    """Yields why each line was added or taken back."""
+    yield "search of lines (+ added, - taken back):"
+    if not steps:
+        yield "  none was added"
+    for it in steps:
+        yield f"  {it.why}"
+        yield from (f"    - {line}" for line in it.dropped)
+        yield from (f"    + {line}" for line in it.added)
+
+
 def device(result: Result) -> str:
     return f"device {result.device}" + (f", linked for {result.linked_for}" if result.linked_for not in (None, result.device) else "")
 
@@ -196,14 +207,10 @@ def findings(result: Result, level: str, is_coloured: bool) -> Iterator[str]:
         yield from block(it, result.firmware, is_coloured)
 
 
-def lines(result: Result, is_coloured: bool) -> Iterator[str]:
-    """Yields the lines of all of it."""
-    yield from findings(result, ERROR, is_coloured)
-    if result.bound is None:
-        yield from premises(result)
-        return
+def answered(result: Result, bound: Bound, is_coloured: bool) -> Iterator[str]:
+    """Yields the bound, with all that belongs to it."""
     is_flagged = any(it.rule[2] == "2" for it in result.of_level(ERROR))
-    yield from bounded(result.bound, is_flagged, colour.GREEN if is_coloured and result.status() == 0 else "")
+    yield from bounded(bound, is_flagged, colour.GREEN if is_coloured and result.status() == 0 else "")
     yield from findings(result, WARNING, is_coloured)
     yield device(result)
     yield from premises(result)
@@ -211,10 +218,18 @@ def lines(result: Result, is_coloured: bool) -> Iterator[str]:
     yield from listed(result)
     yield from chained(result)
     if result.interrupts is not None:
-        yield from costs(result.bound, result.interrupts)
+        yield from costs(bound, result.interrupts)
     yield from needed(result.needs)
     if result.since:
-        yield from changed(result.bound, result.since)
+        yield from changed(bound, result.since)
+
+
+def lines(result: Result, is_coloured: bool) -> Iterator[str]:
+    """Yields the lines of all of it."""
+    yield from findings(result, ERROR, is_coloured)
+    yield from premises(result) if result.bound is None else answered(result, result.bound, is_coloured)
+    if result.search is not None:
+        yield from searched(result.search)
 
 
 def text(result: Result, is_coloured: bool = False) -> str:
