@@ -90,8 +90,9 @@ class Nodes(unittest.TestCase):
 
     def test_bits_range_and_interval_exclude_numbers_together(self) -> None:
         line = node(2, {30: "-0100003F", 31: "-FF000000"}, "1E00100020")
-        self.assertEqual([it - 3 for it in range(0x60) if states({2: STD_Z3}, line, with_pairs=True).may_write(2, it)], list(range(0x10, 0x21, 2)))
-        self.assertEqual(states({2: STD_Z3}, line, with_pairs=True).interval(0, X), (0, 0xFFFF))
+        found = states({2: STD_Z3}, line, with_pairs=True)
+        self.assertEqual([it - 3 for it in range(0x60) if found.may_write(2, it)], list(range(0x10, 0x21, 2)))
+        self.assertEqual(found.interval(0, X), (0, 0xFFFF))
 
     def test_words_are_those_of_nodes(self) -> None:
         text = "\n".join(("stackcert 2", node(2, {}), "node 0 0005 0000000 0 0 c0 - from 0", "end"))

@@ -48,8 +48,8 @@ def with_byte(effect: Union[Sum, Logic], it: Value) -> Value:
     """A value to which a byte is added, or from which it is subtracted, whatever the carry is; or with its bits set or cleared."""
     byte = effect.byte
     if isinstance(effect, Sum):
-        carry = int(effect.carries)
-        return ranged(it.least - byte - carry, it.greatest - byte) if effect.is_less else ranged(it.least + byte, it.greatest + byte + carry)
+        least, greatest = (-byte - effect.carries, -byte) if effect.is_less else (byte, byte + effect.carries)
+        return ranged(it.least + least, it.greatest + greatest)
     if effect.operation == "or":
         return Value(it.mask | byte, it.bits | byte, byte, 255)
     return Value(it.mask | ~byte & 0xFF, it.bits & byte, 0, byte)
