@@ -9,7 +9,8 @@ import sys
 from typing import Dict, Iterator, List, Set
 
 from simulated import TOP, Seen
-from stackcheck_tools.analysis.node_values import Nodes, pointer, stored
+from stackcheck_tools.analysis.node_states import NodeStates
+from stackcheck_tools.firmware import effects
 from stackcheck_tools.firmware.elf import CODE_END, Elf
 
 TOOL = os.environ.get("STACKCHECK", os.path.join(TOP, "tools", "stackcheck"))
@@ -35,7 +36,7 @@ class Answer:
             return
         self.bound = told["bound"]["bytes"]
         with open(certificate, encoding="ascii") as file:
-            self.nodes = Nodes(elf, file.read())
+            self.states = NodeStates(elf, file.read())
         self.places: Set[int] = set()
         self.ordinary: Set[int] = set()
         for it in told["findings"]:
@@ -53,14 +54,13 @@ class Answer:
 
     def may_write_core(self, word: int) -> List[int]:
         """The registers of the core that the certificate lets a store through a pointer write, but for one that each node knows."""
-        device, nodes = self.elf.chip, self.nodes
-        if word not in nodes.at or nodes.fixed(word):
+        device, states = self.elf.chip, self.states
+        if word not in states.at or states.is_fixed(word):
             return []
         found = {address for name, address in device.core.items() if not name.startswith("r")}
-        byte, moving = stored(self.elf.word(word)), device.moving
-        if moving and any(it[byte].may_have(moving.mask.bit_length() - 1) for it in nodes.values_at(word)):
-            found.add(moving.address)
-        return [it for it in sorted(found - self.listed.get(word, set())) if nodes.may_write(word, it)]
+        if device.moving and states.may_store(word, device.moving.mask.bit_length() - 1):
+            found.add(device.moving.address)
+        return [it for it in sorted(found - self.listed.get(word, set())) if states.may_write(word, it)]
 
 
 def is_pure(elf: Elf, home: int, seen: Seen) -> bool:
@@ -94,21 +94,21 @@ def of_stores(answer: Answer, seen: Seen) -> Iterator[str]:
         if told == "address" or word in answer.ordinary:
             continue
         where, hit = name(answer.elf, word), seen.core.get((word, told), set()) - answer.listed.get(word, set())
-        if word not in answer.nodes.at:
+        if word not in answer.states.at:
             yield f"store at {where}: the certificate does not reach it"
         elif source(answer.elf, word, told, seen) == "numbers" and (may := answer.may_write_core(word)):
             yield (f"store at {where}: {stores.number} times through a number, {stores.least:04X} to {stores.most:04X}, and may write "
                    f"{' '.join(f'{it:04X}' for it in may)}")
-        elif hit and not answer.nodes.fixed(word):
+        elif hit and not answer.states.is_fixed(word):
             yield f"store at {where}: by a pointer of {told} it wrote {' '.join(f'{it:04X}' for it in sorted(hit))}"
 
 
 def of_certificate(answer: Answer, seen: Seen) -> Iterator[str]:
     """Yields the writes of the core that the certificate, as the tools read it, excludes."""
     for (word, _), addresses in sorted(seen.core.items()):
-        register, _ = pointer(answer.elf.word(word))
+        is_store = isinstance(effects.at(answer.elf, word), effects.Store)
         for address in sorted(addresses):
-            if word in answer.nodes.at and register and not answer.nodes.may_write(word, address):
+            if is_store and word in answer.states.at and not answer.states.may_write(word, address):
                 yield f"store at {name(answer.elf, word)}: it wrote {address:04X}, which the certificate excludes"
 
 
@@ -119,7 +119,7 @@ def of_transfers(answer: Answer, seen: Seen, with_kept: bool = False) -> Iterato
         if word in answer.ordinary:
             continue
         known = answer.lists.get(word)
-        missing = {it for it in targets if (it not in known if known is not None else it not in answer.nodes.at)}
+        missing = {it for it in targets if (it not in known if known is not None else it not in answer.states.at)}
         if missing and (with_kept or source(answer.elf, word, told, seen) != "kept"):
             yield (f"transfer at {name(answer.elf, word)}: from {told} to {', '.join(name(answer.elf, it) for it in sorted(missing))}, "
                    f"which {'its list' if known is not None else 'the certificate'} lacks")

@@ -3,7 +3,7 @@
 from __future__ import annotations
 
 import re
-from typing import Dict, Iterable, List, Optional, Set
+from typing import Dict, Iterable, List, Optional, Set, Tuple
 
 from stackcheck_tools.analysis.questions import Refusal, Search, analyse, premises
 from stackcheck_tools.analysis.telling import line_of_spec
@@ -11,18 +11,20 @@ from stackcheck_tools.firmware.devices import Device
 from stackcheck_tools.firmware.firmware import Firmware
 from stackcheck_tools.spec.lines import Lines
 
-POINTER = r"(?: [XYZ] [0-9A-F]{4} [0-9A-F]{4})?"  # the least and the greatest number of the place's pointer
+POINTER = r"(?: [XYZ] ([0-9A-F]{4}) ([0-9A-F]{4}))?"  # the least and the greatest number of the place's pointer
 TOLD = re.compile(r" in \S+(?: protected((?: [0-9A-F]{4})+)( \.\.)?)?( live)?( transfer)?( moves)?" + POINTER + "$")
 MOST_TRIED = 4  # places at which a line is tried
 
 
 class Cause:
     """`addresses` of protected registers of a `device` that may be written, and whether there are `more`; `live`: a pushed byte may be;
-    `transfer`: to an unlisted word; `moves`: the interrupt vectors may be moved. The device is None where there are no addresses."""
+    `transfer`: to an unlisted word; `moves`: the interrupt vectors may be moved. The device is None where there are no addresses.
+    `pointer`: the least and the greatest number of the pair through which the instruction stores or goes on, before it moves the pair."""
 
     def __init__(self, device: Optional[Device] = None, addresses: Iterable[int] = (), more: bool = False, live: bool = False,
-                 transfer: bool = False, moves: bool = False) -> None:
+                 transfer: bool = False, moves: bool = False, pointer: Optional[Tuple[int, int]] = None) -> None:
         self.device, self.addresses, self.more, self.live, self.transfer, self.moves = device, set(addresses), more, live, transfer, moves
+        self.pointer = pointer
 
     def __bool__(self) -> bool:
         return bool(self.addresses or self.live or self.transfer or self.moves)
@@ -30,6 +32,10 @@ class Cause:
     def is_few(self) -> bool:
         """Whether a line may list all that may happen."""
         return bool(self.addresses) and not (self.more or self.live or self.transfer or self.moves)
+
+    def number(self) -> Optional[int]:
+        """The one number that the pointer may be; None where it may be several, or there is no pointer."""
+        return self.pointer[0] if self.pointer and self.pointer[0] == self.pointer[1] else None
 
     def join(self, other: Cause) -> None:
         self.device, self.addresses = self.device or other.device, self.addresses | other.addresses
@@ -50,8 +56,10 @@ def of_line(device: Device, line: str) -> Cause:
     found = TOLD.search(line)
     if not found:
         return Cause(device)
-    addresses, *others = found.groups()
-    return Cause(device, (int(it, 16) for it in (addresses or "").split()), *(it is not None for it in others))
+    addresses, *others, least, greatest = found.groups()
+    more, live, transfer, moves = (it is not None for it in others)
+    pointer = (int(least, 16), int(greatest, 16)) if least else None
+    return Cause(device, (int(it, 16) for it in (addresses or "").split()), more, live, transfer, moves, pointer)
 
 
 def by_word(device: Device, lines: List[str]) -> Dict[int, Cause]:

@@ -5,8 +5,7 @@ from __future__ import annotations
 import functools
 from typing import Dict, FrozenSet, NamedTuple, Set
 
-from stackcheck_tools.analysis.causes import Cause
-from stackcheck_tools.analysis.node_values import Nodes, stored
+from stackcheck_tools.analysis.permitted import Permitted
 from stackcheck_tools.dataflow.numbers import Pointers
 from stackcheck_tools.firmware import opcodes
 from stackcheck_tools.firmware.devices import Device
@@ -20,9 +19,9 @@ UNMEANT = 32  # the addresses below are of registers that compiled code computes
 
 
 class Look(NamedTuple):
-    """What is known of pointers: by the nodes of a certificate, and by what they are made of."""
+    """What is known of pointers: what a certificate permits them, and what they are made of."""
 
-    nodes: Nodes
+    permitted: Permitted
     pointers: Pointers
 
 
@@ -47,37 +46,42 @@ def stands(elf: Elf, address: int) -> bool:
 
 def is_enabling(look: Look, lines: Lines, word: int) -> bool:
     """Whether a store may write a register that enables interrupts through a number, and its line doesn't list it."""
-    left = look.nodes.elf.chip.enabling - lines.of(word, "store")
-    return any(look.nodes.may_write(word, it) and look.pointers.why_written(word, it) for it in sorted(left))
+    left = look.permitted.elf.chip.enabling - lines.of(word, "store")
+    return any(look.permitted.may_write_protected(word, it) and look.pointers.why_written(word, it) for it in sorted(left))
 
 
-def may_write(nodes: Nodes, device: Device, word: int, address: int) -> bool:
+def may_move_unseen(device: Device, lines: Lines) -> bool:
+    """Whether no place tells where IVSEL may be set."""
+    return device.moving is not None and device.is_first() and not lines.has_masks()
+
+
+def may_write(permitted: Permitted, device: Device, lines: Lines, word: int, address: int) -> bool:
     """Whether the certificate lets a store write a register of the core; that with IVSEL only where the byte may have the bit."""
-    if not nodes.may_write(word, address):
-        return False
     if device.moving is None or address != device.moving.address:
-        return True
-    bit = device.moving.mask.bit_length() - 1
-    return any(it[stored(nodes.elf.word(word))].may_have(bit) for it in nodes.values_at(word))
+        return permitted.may_write_protected(word, address)
+    if may_move_unseen(device, lines):
+        return permitted.may_write(word, address) and permitted.states.may_store(word, device.moving.mask.bit_length() - 1)
+    return word in permitted.causes and permitted.causes[word].moves
 
 
-def written(look: Look, device: Device, word: int, cause: Cause, listed: Set[int]) -> Dict[str, str]:
+def written(look: Look, device: Device, lines: Lines, word: int) -> Dict[str, str]:
     """The names of the registers of the core that a store may write through a pointer that is made of a number, and why; of a pointer that
     is one constant, those that the list of places names."""
+    permitted, listed = look.permitted, lines.of(word, "store")
     registers = [(address, name) for address, name in sorted(core(device).items()) if address not in listed]
-    if look.nodes.fixed(word):
-        return {name: FIXED for address, name in registers if address in cause.addresses}
-    permitted = [(address, name) for address, name in registers if may_write(look.nodes, device, word, address)]
-    return {name: why for address, name in permitted if (why := look.pointers.why_written(word, address))}
+    if permitted.is_fixed(word):
+        return {name: FIXED for address, name in registers if word in permitted.causes and address in permitted.causes[word].addresses}
+    reached = [(address, name) for address, name in registers if may_write(permitted, device, lines, word, address)]
+    return {name: why for address, name in reached if (why := look.pointers.why_written(word, address))}
 
 
-def found(look: Look, device: Device, lines: Lines, causes: Dict[int, Cause]) -> Dict[int, Dict[str, str]]:
+def found(look: Look, device: Device, lines: Lines) -> Dict[int, Dict[str, str]]:
     """The registers of the core that stores may be meant for, and why, by the words of the stores."""
     told: Dict[int, Dict[str, str]] = {}
-    for word in sorted(look.nodes.at):
-        if opcodes.is_pointer_store(look.nodes.elf.word(word)) and (word in causes or not look.nodes.fixed(word)):
-            if names := written(look, device, word, causes.get(word, Cause()), lines.of(word, "store")):
-                told[word] = names
+    permitted = look.permitted
+    for word in sorted({*permitted.causes, *(permitted.states.at if may_move_unseen(device, lines) else ())}):
+        if opcodes.is_pointer_store(permitted.elf.word(word)) and (names := written(look, device, lines, word)):
+            told[word] = names
     return told
 
 

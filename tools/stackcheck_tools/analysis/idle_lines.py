@@ -3,8 +3,9 @@ meant."""
 
 from __future__ import annotations
 
-from stackcheck_tools.analysis.node_values import Nodes
+from stackcheck_tools.analysis.node_states import NodeStates
 from stackcheck_tools.analysis.outcome import Accepted
+from stackcheck_tools.analysis.permitted import Permitted
 from stackcheck_tools.firmware.names import SpecFault
 from stackcheck_tools.spec.spec import Spec
 
@@ -14,10 +15,10 @@ def check(outcome: Accepted, spec: Spec) -> None:
     lines = [it for it in spec.lines if it.kind == "store"]
     if not lines:
         return
-    nodes = Nodes(outcome.firmware.elf, outcome.certificate)
+    permitted = Permitted(NodeStates(outcome.firmware.elf, outcome.certificate), outcome.causes)
     for line in lines:
         for address in sorted(line.items):
-            if not any(nodes.may_write(word, address) for word in line.places):
+            if not any(permitted.may_write(word, address) for word in line.places):
                 name = outcome.firmware.device.register_name(address)
                 raise SpecFault(f"no store that `{line.text}` names may write {name}: it names another store than was meant, or one that "
                                 "never runs (build with -g if the compiler may have inlined it)", line.number, "SB007")

@@ -12,14 +12,16 @@ from typing import TYPE_CHECKING, Dict, Iterator, List, Optional, Set, Tuple, Un
 from stackcheck_tools.analysis import core_registers, units
 from stackcheck_tools.analysis.causes import Cause
 from stackcheck_tools.analysis.kinds import CALLS, CORES, GIVEN, MOVES, ORDINARY, SAFETY, STORES, UNUSED, VECTORS, WHOLE
-from stackcheck_tools.analysis.node_values import Nodes, pointer
+from stackcheck_tools.analysis.node_states import NodeStates
+from stackcheck_tools.analysis.permitted import Permitted
 from stackcheck_tools.analysis.warnings_of_words import MOVED
 from stackcheck_tools.analysis.widening import RECORDS
 from stackcheck_tools.dataflow.made_of import Search
 from stackcheck_tools.dataflow.numbers import MADE, Pointers
 from stackcheck_tools.dataflow.origins import Origins
-from stackcheck_tools.firmware import debug_lines, fuses, opcodes, start_up
+from stackcheck_tools.firmware import debug_lines, effects, fuses, opcodes, start_up
 from stackcheck_tools.firmware.devices import Device
+from stackcheck_tools.firmware.effects import Z
 from stackcheck_tools.firmware.elf import CODE_END, Elf
 from stackcheck_tools.firmware.names import SpecFault, shown
 from stackcheck_tools.firmware.paths import line_of, readable
@@ -36,7 +38,6 @@ if TYPE_CHECKING:
 Key = Union[str, Tuple[str, int, str]]  # path, line and function; or what an entry is called
 MOST_WORDS = 4  # word addresses that one entry prints
 START = ("__do_clear_bss", "__do_copy_data")
-Z = 30  # the pair of a call
 WHY = "say here why it keeps the bound"
 
 
@@ -97,26 +98,24 @@ def entry_of(outcome: Told, word: int, found: Dict[Key, Place]) -> Place:
     return found.setdefault(name, Place(device, name, what))
 
 
-def may_enable(nodes: Nodes, word: int, cause: Cause) -> bool:
-    """Whether a store may write a register that enables interrupts, as far as the list or the certificate tells."""
-    enabling = nodes.elf.chip.enabling
-    return bool(cause.addresses & enabling) or cause.more and any(nodes.may_write(word, it) for it in sorted(enabling))
-
-
 class Look:
-    """What an answer's places are told by: the nodes of its certificate, and the registers of the core that its stores may be meant for."""
+    """What an answer's places are told by: what its certificate permits, and the registers of the core that its stores may be meant for."""
 
     def __init__(self, outcome: Told) -> None:
         self.outcome, self.elf, self.lines = outcome, outcome.firmware.elf, outcome.own
-        self.nodes = Nodes(self.elf, outcome.certificate)
+        self.permitted = Permitted(NodeStates(self.elf, outcome.certificate), outcome.causes)
         device = outcome.firmware.device
-        self.pointers = Pointers(Origins(self.elf, device, self.nodes, self.lines))
-        self.known = core_registers.Look(self.nodes, self.pointers)
-        self.cores = core_registers.found(self.known, device, self.lines, outcome.causes)
+        self.pointers = Pointers(Origins(self.elf, device, self.permitted.states, self.lines))
+        self.known = core_registers.Look(self.permitted, self.pointers)
+        self.cores = core_registers.found(self.known, device, self.lines)
 
     def unlisted(self, word: int) -> List[int]:
         """The numbers that the pointer of a call is known to be and that its list doesn't have."""
-        return sorted(self.nodes.known(word, Z) - self.lines.of(word, "jump"))
+        return sorted(self.permitted.numbers(word) - self.lines.of(word, "jump"))
+
+    def may_enable(self, word: int) -> bool:
+        """Whether a store may write a register that enables interrupts and is protected here."""
+        return any(self.permitted.may_write_protected(word, it) for it in sorted(self.elf.chip.enabling))
 
     def limit(self, word: int) -> Optional[recursion.Recursion]:
         """The line `recursion` that speaks of a call."""
@@ -124,7 +123,7 @@ class Look:
 
     def is_by_name(self, word: int) -> bool:
         """Whether an instruction writes one address that is known."""
-        return not opcodes.is_pointer_store(self.elf.word(word)) or self.nodes.fixed(word)
+        return not opcodes.is_pointer_store(self.elf.word(word)) or self.permitted.is_fixed(word)
 
     def kind(self, word: int) -> str:
         """What kind of place a word is, by what may happen there and by whose line speaks of it."""
@@ -144,7 +143,7 @@ class Look:
             return MOVES
         if word in self.cores:
             return CORES
-        if not may_enable(self.nodes, word, cause):
+        if not self.may_enable(word):
             return SAFETY
         if lines.is_given(word, "store"):
             return GIVEN
@@ -154,7 +153,8 @@ class Look:
 
     def of_number(self, word: int, why: str) -> str:
         """Why a pointer is one that a program makes, with the number of which it is made and where it is read."""
-        pair = pointer(self.elf.word(word))[0] if opcodes.is_pointer_store(self.elf.word(word)) else Z
+        store = effects.at(self.elf, word)
+        pair = store.pair if isinstance(store, effects.Store) else Z
         source = Search(self.pointers.origins).source(word, pair) if why == MADE else None
         if source is None:
             return why
@@ -198,7 +198,7 @@ def put(look: Look, entry: Place, word: int) -> None:
     cause = outcome.causes.get(word, Cause())
     entry.words.append(word)
     entry.kinds[word] = kind
-    entry.may_enable = entry.may_enable or kind == SAFETY and bool(outcome.own.sites("never")) and may_enable(look.nodes, word, cause)
+    entry.may_enable = entry.may_enable or kind == SAFETY and bool(outcome.own.sites("never")) and look.may_enable(word)
     if kind != recursion.BY_RUNS:
         entry.cause.join(cause)
     entry.warned += [it for it in look.texts(word, kind) if it not in entry.warned]
@@ -207,12 +207,12 @@ def put(look: Look, entry: Place, word: int) -> None:
         entry.closers.append(outcome.closers[word])
 
 
-def entry_of_vector(outcome: Told, nodes: Nodes, word: int) -> Place:
+def entry_of_vector(outcome: Told, states: NodeStates, word: int) -> Place:
     """The entry of a vector that a `never` line names."""
     number = outcome.firmware.device.vector_of(word)
     vector = outcome.firmware.handler(number)
     is_given, device = outcome.own.is_given(word, "never"), outcome.firmware.device
-    is_unused = device.is_open(number) and not units.uses_nameless(outcome.firmware.elf, nodes)
+    is_unused = device.is_open(number) and not units.uses_nameless(outcome.firmware.elf, states)
     why = "may be enabled" if not device.is_open(number) else \
         "its unit is not used: no register is written that the header does not name" if is_unused else "no header names its enable bit"
     entry = Place(device, vector, vector)
@@ -238,7 +238,7 @@ def entries(outcome: Told) -> List[Place]:
     for line in outcome.premises or ():
         kind, at = line.split()[:2]
         if kind == "never":
-            found[line] = entry_of_vector(outcome, look.nodes, int(at, 16))
+            found[line] = entry_of_vector(outcome, look.permitted.states, int(at, 16))
         elif kind == "at":
             put(look, entry_of(outcome, int(at, 16), found), int(at, 16))
         else:

@@ -7,7 +7,6 @@ from typing import Callable, Dict, FrozenSet, Iterable, Iterator, List, NamedTup
 
 from stackcheck_tools.analysis import causes
 from stackcheck_tools.analysis.cures import RECURSION, UNKNOWN_POINTER, UNRESOLVED_JUMP, UNTRACKED_SP, parts
-from stackcheck_tools.analysis.node_values import Nodes
 from stackcheck_tools.analysis.state import Facts, State
 from stackcheck_tools.dataflow import calls
 from stackcheck_tools.firmware import candidates, switches
@@ -129,9 +128,9 @@ def for_places(facts: Facts, state: State, premises: List[str]) -> Iterator[Want
     told = causes.by_word(facts.device, premises)
     if not told:
         return
-    nodes, enabling = Nodes(facts.elf, state.certificate or ""), facts.device.enabling
+    enabling = facts.device.enabling
     yield Wanted("prove", {word: frozenset() for word, it in told.items()
-                           if it.addresses and nodes.fixed(word) and is_open(state, word, "prove")}, "the pointer is one constant there")
+                           if it.addresses and it.number() is not None and is_open(state, word, "prove")}, "the pointer is one constant there")
     yield Wanted("store", {word: frozenset(it.addresses) for word, it in sorted(told.items())
                            if it.is_few() and (len(it.addresses) == 1 or it.addresses <= enabling)
                            and is_open(state, word, "store", it.addresses)}, "the store may write these protected registers alone")

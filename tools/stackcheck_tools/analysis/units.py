@@ -5,29 +5,26 @@ from __future__ import annotations
 
 from typing import Iterator
 
-from stackcheck_tools.analysis.node_values import Nodes, pointer
-from stackcheck_tools.firmware import candidates, opcodes
+from stackcheck_tools.analysis.node_states import NodeStates
+from stackcheck_tools.firmware import candidates, effects
 from stackcheck_tools.firmware.elf import Elf
 
-STS, OUT = 0x9200, 0xB800
 SBI_CBI = 0x9800  # with the bit that tells them apart masked out
 
 
-def written(elf: Elf, nodes: Nodes) -> Iterator[int]:
+def written(elf: Elf, states: NodeStates) -> Iterator[int]:
     """Yields the data addresses that instructions write by name, or through a pointer that the certificate knows."""
     for code in candidates.code(elf):
         for word, opcode in code:
-            if opcode & 0xF800 == OUT:
-                yield opcodes.io_address(opcode)
-            elif opcode & 0xFE0F == STS:
-                yield elf.word(word + 1)
+            effect = effects.at(elf, word)
+            if isinstance(effect, (effects.Output, effects.StoreAt)):
+                yield effect.address
             elif opcode & 0xFD00 == SBI_CBI:
                 yield (opcode >> 3 & 31) + 0x20
-            elif opcodes.is_pointer_store(opcode):
-                low, more = pointer(opcode)
-                yield from (number + more for number in nodes.known(word, low))
+            elif isinstance(effect, effects.Store):
+                yield from (number + effect.more for number in states.known(word, effect.pair))
 
 
-def uses_nameless(elf: Elf, nodes: Nodes) -> bool:
+def uses_nameless(elf: Elf, states: NodeStates) -> bool:
     """Whether a firmware writes a register that no header names."""
-    return any(map(elf.chip.is_nameless, written(elf, nodes)))
+    return any(map(elf.chip.is_nameless, written(elf, states)))

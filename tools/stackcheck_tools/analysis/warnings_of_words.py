@@ -6,15 +6,14 @@ from __future__ import annotations
 from typing import Iterator, List, NamedTuple, Optional, Set
 
 from stackcheck_tools.analysis.kinds import MOVES, UNSET
-from stackcheck_tools.analysis.node_values import Nodes, stored
-from stackcheck_tools.firmware import opcodes
+from stackcheck_tools.analysis.node_states import NodeStates
+from stackcheck_tools.firmware import effects, opcodes
 from stackcheck_tools.firmware.candidates import before
 from stackcheck_tools.firmware.devices import Device, Place
 from stackcheck_tools.firmware.elf import Elf
 from stackcheck_tools.firmware.firmware import Firmware
 
 ALLOCATORS = ("malloc", "calloc", "realloc", "_Znwj", "_Znaj")
-STS, OUT, LDS, IN = 0x9200, 0xB800, 0x9000, 0xB000
 SPL = 0x5D
 READ_BACK = 6  # instructions before a write in which its register is read
 
@@ -35,19 +34,12 @@ def heap(elf: Elf) -> Optional[str]:
     return next((name for name in ALLOCATORS if name in elf.all), None)
 
 
-def named_address(elf: Elf, word: int, near: int, far: int) -> Optional[int]:
-    """The data address that `out` or `in`, or `sts` or `lds`, names at a word; None of another instruction."""
-    opcode = elf.word(word)
-    if opcode & 0xF800 == near:
-        return opcodes.io_address(opcode)
-    return elf.word(word + 1) if opcode & 0xFE0F == far else None
-
-
-def writes(elf: Elf, nodes: Nodes, word: int, address: int) -> bool:
+def writes(elf: Elf, states: NodeStates, word: int, address: int) -> bool:
     """Whether an instruction writes an address, by name or through a pointer that is known."""
-    if opcodes.is_pointer_store(elf.word(word)):
-        return nodes.fixed(word) and nodes.may_write(word, address)
-    return named_address(elf, word, OUT, STS) == address
+    effect = effects.at(elf, word)
+    if isinstance(effect, (effects.Output, effects.StoreAt)):
+        return effect.address == address
+    return states.is_fixed(word) and states.may_write(word, address)
 
 
 def entered_aside(elf: Elf, word: int) -> Set[int]:
@@ -59,17 +51,20 @@ def entered_aside(elf: Elf, word: int) -> Set[int]:
 
 def gives_back(elf: Elf, word: int, place: Place) -> bool:
     """Whether a write gives back what was read from its register just before, in which `ori` and `andi` have set none of these bits."""
-    register, aside, last = stored(elf.word(word)), entered_aside(elf, word), word
-    for at, opcode in before(elf, word, READ_BACK):
+    write, aside, last = effects.at(elf, word), entered_aside(elf, word), word
+    register = write.of if isinstance(write, (effects.Output, effects.StoreAt, effects.Store)) else None
+    for at, _ in before(elf, word, READ_BACK):
+        effect = effects.at(elf, at)
         if last in aside:
             return False
         last = at
-        if named_address(elf, at, OUT, STS) is not None:
+        if isinstance(effect, (effects.Output, effects.StoreAt)):
             continue
-        if stored(opcode) == register and (address := named_address(elf, at, IN, LDS)) is not None:
-            return address == place.address
-        byte, is_same = opcode & 15 | opcode >> 4 & 0xF0, register == 16 + (opcode >> 4 & 15)
-        if not (is_same and (opcode & 0xF000 == 0x7000 or opcode & 0xF000 == 0x6000 and not byte & place.mask)):
+        if isinstance(effect, (effects.Input, effects.LoadAt)) and effect.to == register:
+            return effect.address == place.address
+        if not isinstance(effect, effects.Logic) or effect.of is not None or effect.to != register:
+            return False
+        if effect.operation == "or" and effect.byte & place.mask:
             return False
     return False
 
@@ -80,21 +75,21 @@ def moved_vectors(firmware: Firmware, certificate: str) -> Iterator[Warned]:
     device: Device = firmware.device
     if device.moving is None or not device.is_first() or "\nmasks\n" in certificate:
         return
-    nodes, bit = Nodes(firmware.elf, certificate), device.moving.mask.bit_length() - 1
-    for word in sorted(nodes.at):
-        if writes(firmware.elf, nodes, word, device.moving.address) and not gives_back(firmware.elf, word, device.moving):
-            if any(it[stored(firmware.elf.word(word))].may_have(bit) for it in nodes.values_at(word)):
+    states, bit = NodeStates(firmware.elf, certificate), device.moving.mask.bit_length() - 1
+    for word in sorted(states.at):
+        if writes(firmware.elf, states, word, device.moving.address) and not gives_back(firmware.elf, word, device.moving):
+            if states.may_store(word, bit):
                 yield Warned(word, MOVES, MOVED)
 
 
-def first_use(elf: Elf, nodes: Nodes) -> Optional[int]:
+def first_use(elf: Elf, states: NodeStates) -> Optional[int]:
     """The word of a first instruction on a way from reset that uses the stack or lets interrupts in before SPL is written; None if there is
     none."""
     seen: Set[int] = set()
     left = [0]
     while left:
         word = left.pop(0) % elf.chip.words
-        if word in seen or writes(elf, nodes, word, SPL):
+        if word in seen or writes(elf, states, word, SPL):
             continue
         if opcodes.uses_stack(elf.word(word)):
             return word
@@ -106,7 +101,7 @@ def first_use(elf: Elf, nodes: Nodes) -> Optional[int]:
 def unset_pointer(firmware: Firmware, certificate: str) -> Iterator[Warned]:
     """Yields where the stack is used before SPL is written, on a device of which some chips may start with SP at 0."""
     device: Device = firmware.device
-    word = None if device.is_first() else first_use(firmware.elf, Nodes(firmware.elf, certificate))
+    word = None if device.is_first() else first_use(firmware.elf, NodeStates(firmware.elf, certificate))
     if word is not None:
         registers, zero = ("SPH and SPL", "0000") if device.has_sph else ("SPL", "00")
         yield Warned(word, UNSET, f"uses the stack before SPL is written; the bound takes SP to be {device.last:04X} at reset, and older "

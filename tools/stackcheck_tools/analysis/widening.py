@@ -6,6 +6,7 @@ from __future__ import annotations
 from dataclasses import replace
 from typing import Dict, FrozenSet, List, Optional
 
+from stackcheck_tools.analysis.node_states import words_of
 from stackcheck_tools.analysis.questions import Search
 from stackcheck_tools.analysis.settling import attempt, with_own
 from stackcheck_tools.analysis.state import Facts, State
@@ -41,11 +42,6 @@ RECORDS = "link with -Wl,--emit-relocs: then the linker's records name every fun
 def bound_of(certificate: Optional[str]) -> int:
     """The bound that a certificate has."""
     return next((int(line.split()[1]) for line in (certificate or "").splitlines() if line.startswith("bound ")), 0)
-
-
-def nodes_of(certificate: Optional[str]) -> FrozenSet[int]:
-    """The words of a certificate's nodes."""
-    return frozenset(int(line.split(" ", 3)[2], 16) for line in (certificate or "").splitlines() if line.startswith("node "))
 
 
 def is_of_streams(elf: Elf, site: int) -> bool:
@@ -167,4 +163,4 @@ class Widening:
 
 def widened(facts: Facts, state: State) -> Search[State]:
     """With complete lists, where there is a bound then."""
-    return (yield from Widening(facts, nodes_of(state.certificate)).run(state))
+    return (yield from Widening(facts, words_of(state.certificate or "")).run(state))

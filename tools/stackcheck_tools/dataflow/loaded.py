@@ -4,9 +4,9 @@ in memory, and what a comparison leaves of a pair. A call changes what a callee 
 from __future__ import annotations
 
 import functools
-import heapq
 from typing import AbstractSet, Dict, FrozenSet, Iterator, List, NamedTuple, Optional, Set, Tuple
 
+from stackcheck_tools.dataflow.worklist import Worklist
 from stackcheck_tools.firmware import candidates, effects, functions, opcodes, records, switches
 from stackcheck_tools.firmware.effects import X, Y, Z, ZERO
 from stackcheck_tools.firmware.elf import Elf, Symbol
@@ -124,7 +124,7 @@ class Function:
         self.before: Dict[int, State] = {}
         self.from_words: Dict[int, Dict[int, State]] = {}
         self.visits: Dict[int, int] = {}
-        self.left: List[int] = []
+        self.left: Worklist[int] = Worklist()
         self.labels: Optional[Set[int]] = None
         self.naming: Set[int] = set()  # words that have given values of their own
         is_handler = self.begin in functions.handlers(elf)
@@ -144,13 +144,10 @@ class Function:
         ways = self.from_words.setdefault(word, {})
         if ways.get(source) != state:
             ways[source] = state
-            heapq.heappush(self.left, word)
+            self.left.push(word)
 
     def run(self) -> None:
-        while self.left:
-            word = heapq.heappop(self.left)
-            if self.left and self.left[0] == word:
-                continue
+        for word in self.left:
             ways = list(self.from_words[word].values())
             self.visits[word] = self.visits.get(word, 0) + 1
             state = ways[0] if len(ways) == 1 else nothing(word) if self.visits[word] > MOST_VISITS else joined(ways, word)

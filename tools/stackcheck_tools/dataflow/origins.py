@@ -7,7 +7,6 @@ before found. """
 from __future__ import annotations
 
 import functools
-import heapq
 from typing import Dict, Iterator, List, NamedTuple, Optional, Protocol, Set, Tuple
 
 from stackcheck_tools.dataflow import instructions, loaded, origin, virtual_calls
@@ -32,6 +31,7 @@ from stackcheck_tools.dataflow.origin import (
     constants,
     few,
 )
+from stackcheck_tools.dataflow.worklist import Worklist
 from stackcheck_tools.firmware import effects, opcodes, start_up
 from stackcheck_tools.firmware.devices import Device
 from stackcheck_tools.firmware.effects import Y, Z
@@ -105,7 +105,7 @@ class Run:
         self.kept: Set[Tuple[int, Optional[Place]]] = set()
         self.now: Optional[Key] = None  # the word that is followed
         self.readers: Dict[int, Set[Key]] = {}  # by what they read
-        self.left: List[Tuple[int, int]] = []  # ranks of functions, and words; what is called is followed before its caller goes on
+        self.left: Worklist[Tuple[int, int]] = Worklist()  # ranks of functions, and words; what is called is followed before its caller goes on
         self.entries: List[int] = []
         self.ranks: Dict[int, int] = {}
         self.near: Dict[int, Optional[loaded.State]] = {}
@@ -120,11 +120,9 @@ class Run:
             if word in self.reached.at:
                 self.enter((word, word), NOTHING)
         for _ in range(MOST_ROUNDS):
-            while self.left:
-                rank, word = heapq.heappop(self.left)
-                if not self.left or self.left[0] != (rank, word):
-                    self.now = self.entries[-rank], word
-                    self.step(self.now)
+            for rank, word in self.left:
+                self.now = self.entries[-rank], word
+                self.step(self.now)
             self.now = None
             if self.memory.changed:
                 again = set().union(*(self.readers.get(it, ()) for it in self.memory.changed))
@@ -140,7 +138,7 @@ class Run:
         if entry not in self.ranks:
             self.ranks[entry] = -len(self.entries)
             self.entries.append(entry)
-        heapq.heappush(self.left, (self.ranks[entry], word))
+        self.left.push((self.ranks[entry], word))
 
     def enter_missed(self) -> bool:
         """Enters words of the certificate to which no way is known yet: begins of functions, which are entered by a list of constructors,
