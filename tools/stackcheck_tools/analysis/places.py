@@ -9,15 +9,14 @@ from __future__ import annotations
 import os
 from typing import TYPE_CHECKING, Dict, Iterator, List, Optional, Set, Tuple, Union
 
-from stackcheck_tools.analysis import core_registers, units
+from stackcheck_tools.analysis import core_registers, followed, units
 from stackcheck_tools.analysis.causes import Cause
 from stackcheck_tools.analysis.kinds import CALLS, CORES, GIVEN, MOVES, ORDINARY, SAFETY, STORES, UNUSED, VECTORS, WHOLE
 from stackcheck_tools.analysis.node_values import Nodes, pointer
 from stackcheck_tools.analysis.warnings_of_words import MOVED
 from stackcheck_tools.analysis.widening import RECORDS
 from stackcheck_tools.dataflow.made_of import Search
-from stackcheck_tools.dataflow.numbers import MADE, Pointers
-from stackcheck_tools.dataflow.origins import Origins
+from stackcheck_tools.dataflow.numbers import MADE
 from stackcheck_tools.firmware import debug_lines, fuses, opcodes, start_up
 from stackcheck_tools.firmware.devices import Device
 from stackcheck_tools.firmware.elf import CODE_END, Elf
@@ -108,11 +107,9 @@ class Look:
 
     def __init__(self, outcome: Told) -> None:
         self.outcome, self.elf, self.lines = outcome, outcome.firmware.elf, outcome.own
-        self.nodes = Nodes(self.elf, outcome.certificate)
-        device = outcome.firmware.device
-        self.pointers = Pointers(Origins(self.elf, device, self.nodes, self.lines))
+        self.nodes, self.pointers = followed.look(outcome.firmware, outcome.certificate, self.lines)
         self.known = core_registers.Look(self.nodes, self.pointers)
-        self.cores = core_registers.found(self.known, device, self.lines, outcome.causes)
+        self.cores = core_registers.found(self.known, outcome.firmware.device, self.lines, outcome.causes)
 
     def unlisted(self, word: int) -> List[int]:
         """The numbers that the pointer of a call is known to be and that its list doesn't have."""

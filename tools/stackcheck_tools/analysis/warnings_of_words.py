@@ -5,6 +5,7 @@ from __future__ import annotations
 
 from typing import Iterator, List, NamedTuple, Optional, Set
 
+from stackcheck_tools.analysis import followed
 from stackcheck_tools.analysis.kinds import MOVES, UNSET
 from stackcheck_tools.analysis.node_values import Nodes, stored
 from stackcheck_tools.firmware import opcodes
@@ -80,7 +81,7 @@ def moved_vectors(firmware: Firmware, certificate: str) -> Iterator[Warned]:
     device: Device = firmware.device
     if device.moving is None or not device.is_first() or "\nmasks\n" in certificate:
         return
-    nodes, bit = Nodes(firmware.elf, certificate), device.moving.mask.bit_length() - 1
+    nodes, bit = followed.nodes(firmware.elf, certificate), device.moving.mask.bit_length() - 1
     for word in sorted(nodes.at):
         if writes(firmware.elf, nodes, word, device.moving.address) and not gives_back(firmware.elf, word, device.moving):
             if any(it[stored(firmware.elf.word(word))].may_have(bit) for it in nodes.values_at(word)):
@@ -106,7 +107,7 @@ def first_use(elf: Elf, nodes: Nodes) -> Optional[int]:
 def unset_pointer(firmware: Firmware, certificate: str) -> Iterator[Warned]:
     """Yields where the stack is used before SPL is written, on a device of which some chips may start with SP at 0."""
     device: Device = firmware.device
-    word = None if device.is_first() else first_use(firmware.elf, Nodes(firmware.elf, certificate))
+    word = None if device.is_first() else first_use(firmware.elf, followed.nodes(firmware.elf, certificate))
     if word is not None:
         registers, zero = ("SPH and SPL", "0000") if device.has_sph else ("SPL", "00")
         yield Warned(word, UNSET, f"uses the stack before SPL is written; the bound takes SP to be {device.last:04X} at reset, and older "
