@@ -40,7 +40,7 @@ def found(firmware: Firmware, lines: Lines, folder: str) -> Iterator[Found]:
     """Yields each flagged step once; the runs go on with the line that admits it."""
     facts, dialogue = Facts(firmware), Dialogue(firmware, folder)
     seen: Set[Stop] = set()
-    vectors, told = tuple(handled(firmware.elf, firmware.device)), tuple(told_apart(firmware.elf, firmware.device))
+    vectors, told = tuple(handled(firmware.elf, firmware.device)), told_apart(firmware.elf, firmware.device)
     while stop := dialogue.run(next_stop(Trials(lines, vectors, frozenset(), told), seen)):
         seen.add(stop)
         lines, kind = dialogue.run(admitted(facts, lines, stop))

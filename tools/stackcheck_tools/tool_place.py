@@ -4,7 +4,7 @@ from __future__ import annotations
 
 import sys
 
-from stackcheck_tools.firmware.debug_lines import Lines
+from stackcheck_tools.firmware import debug_lines
 from stackcheck_tools.firmware.elf import Elf
 from stackcheck_tools.habits import FAULTS, MISUSE, asked, misused, tell, usage_of
 
@@ -19,11 +19,11 @@ cannot read. Status 0; 3: usage error or unreadable file.
 """
 
 
-def place(elf: Elf, lines: Lines, word: int) -> str:
+def place(elf: Elf, word: int) -> str:
     """Function, offset and source line of a word address."""
     symbol = elf.symbol_at(2 * word)
     where = f"{symbol.name}+{2 * word - symbol.address}" if symbol else "-"
-    return f"{where} {lines.at(2 * word) or '-'}"
+    return f"{where} {debug_lines.of(elf).at(2 * word) or '-'}"
 
 
 def main() -> int:
@@ -41,7 +41,6 @@ def main() -> int:
     except FAULTS as fault:
         tell("place", fault)
         return MISUSE
-    lines = Lines(elf, words[0])
     for number in numbers:
-        print(f"{elf.chip.word(number)} {place(elf, lines, number)}")
+        print(f"{elf.chip.word(number)} {place(elf, number)}")
     return 0

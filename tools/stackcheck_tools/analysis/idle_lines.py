@@ -3,7 +3,7 @@ meant."""
 
 from __future__ import annotations
 
-from stackcheck_tools.analysis.node_states import NodeStates
+from stackcheck_tools.analysis import followed
 from stackcheck_tools.analysis.outcome import Accepted
 from stackcheck_tools.analysis.permitted import Permitted
 from stackcheck_tools.firmware.names import SpecFault
@@ -15,7 +15,7 @@ def check(outcome: Accepted, spec: Spec) -> None:
     lines = [it for it in spec.lines if it.kind == "store"]
     if not lines:
         return
-    permitted = Permitted(NodeStates(outcome.firmware.elf, outcome.certificate), outcome.causes)
+    permitted = Permitted(followed.states(outcome.firmware.elf, outcome.certificate), outcome.causes)
     for line in lines:
         for address in sorted(line.items):
             if not any(permitted.may_write(word, address) for word in line.places):

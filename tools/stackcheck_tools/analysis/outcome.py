@@ -1,20 +1,20 @@
-"""What an analysis of one firmware comes to: a bound whose certificate `check` accepted, or the finding that there is none."""
+"""What an analysis of one firmware comes to: a bound whose certificate the program accepted, or the finding that there is none."""
 
 from __future__ import annotations
 
 import json
-import os
 from argparse import Namespace
 from dataclasses import dataclass, field
 from typing import TYPE_CHECKING, Dict, Iterator, List, Optional, Sequence, Union
 
-from stackcheck_tools.analysis import causes, flags, refused, search, warnings_of_words
+from stackcheck_tools.analysis import causes, flags, questions, refused, search, warnings_of_words
 from stackcheck_tools.analysis.dialogue import Dialogue
 from stackcheck_tools.analysis.locations import of_word
 from stackcheck_tools.analysis.program import OK, NoProgram, Program
 from stackcheck_tools.analysis.questions import Because
 from stackcheck_tools.analysis.runs import Run, Stop
-from stackcheck_tools.analysis.state import Facts, Lists, State
+from stackcheck_tools.analysis.state import Facts, Lists, State, told
+from stackcheck_tools.analysis.widening import bound_of
 from stackcheck_tools.finding import Finding, Judge, Link
 from stackcheck_tools.firmware import intel_hex
 from stackcheck_tools.firmware.firmware import Firmware
@@ -41,7 +41,7 @@ class Refused:
 
 @dataclass
 class Accepted:
-    """A firmware with a bound that `check` accepted, under which lines, and what the program says of it."""
+    """A firmware with a bound whose certificate was accepted, under which lines, and what the program says of it."""
 
     firmware: Firmware
     spec: str
@@ -73,16 +73,16 @@ class Accepted:
 Outcome = Union[Accepted, Refused]
 
 
-def room(firmware: Firmware, told: Optional[int]) -> int:
+def room(firmware: Firmware, reported: Optional[int]) -> int:
     """The bytes between static data and the end of SRAM, by the program and by the file."""
-    rooms = [firmware.device.sram(), *([] if told is None else [told])]
+    rooms = [firmware.device.sram(), *([] if reported is None else [reported])]
     if end := firmware.elf.static_end():
         rooms.append(max(firmware.device.last + 1 - end, 0))
     return min(rooms)
 
 
 def read_report(found: Accepted, program: Program, certificate: str) -> None:
-    """Reads bound and room."""
+    """Has the certificate judged, as `check` does, and reads bound and room: only what is accepted is told."""
     status, text = program.call("report", certificate, "--json")
     if status != OK:
         raise NoProgram(f"report: status {status}: {text.strip()}")
@@ -105,49 +105,36 @@ def links(firmware: Firmware, lines: List[str]) -> Iterator[Link]:
             yield Link(adds, text, of_word(firmware, at))
 
 
-def read_premises(found: Accepted, program: Program, certificate: str) -> None:
-    """Reads the places at which a step may be flagged, and what may happen there."""
-    found.premises = program.lines("premises", certificate, "--why")[1:]
+def read_premises(dialogue: Dialogue, found: Accepted, state: State) -> None:
+    """Reads the places at which a step may be flagged, and what may happen there: what the search was told, since no schedule changes it."""
+    found.premises = dialogue.run(told(state))
     found.causes = causes.by_word(found.firmware.device, found.premises)
 
 
-def accept(found: Accepted, program: Program, certificate: str, text: str) -> str:
-    """Writes a certificate and has it judged: only what is accepted is told."""
-    with open(certificate, "w", encoding="ascii", newline="\n") as file:
-        file.write(text)
-    status, said = program.call("check", certificate)
-    if status != OK or not said.startswith("accepted bound "):
-        raise NoProgram(f"check: status {status}: {said.strip()}")
-    found.certificate, found.bound = text, int(said.split()[2])
-    return said.split()[3]
-
-
-def attain(found: Accepted, program: Program, certificate: str) -> None:
-    """Has a schedule sought that goes as deep as the bound, where the certificate has none."""
-    status, text = program.call("attain", certificate)
-    if status != OK:
-        raise NoProgram(f"attain: status {status}: {text.strip()}")
-    accept(found, program, certificate, text)
+def attain(dialogue: Dialogue, found: Accepted, state: State, words: Namespace) -> None:
+    """Takes the simulated run that is as deep as the bound, or has a schedule sought, where the certificate has none."""
+    if "\nwitness attained\n" in found.certificate:
+        return
+    if state.deepest is not None and state.deepest >= bound_of(found.certificate):
+        found.is_attained, found.deepest = True, state.deepest_run  # a run of `simulate` is one of those of which a bound speaks
+    elif not words.no_attain and state.sought != state.certificate:
+        found.certificate = dialogue.run(questions.attain(state.lines, found.certificate)).text
 
 
 def take(dialogue: Dialogue, found: Accepted, state: State, words: Namespace) -> Accepted:
-    """Judges the certificate that was found, and gathers what the program says of it."""
-    program, certificate = dialogue.program(state.lines), os.path.join(dialogue.folder, "certificate")
-    witness = accept(found, program, certificate, found.certificate)
-    if witness == "open" and state.deepest is not None and state.deepest >= found.bound:
-        found.is_attained, found.deepest = True, state.deepest_run  # a run of `simulate` is one of those of which `check` speaks
-    elif witness == "open" and not words.no_attain and state.sought != state.certificate:
-        attain(found, program, certificate)
-    for command in (("report", certificate, "--json"), ("explain", certificate), ("premises", certificate, "--why")):
+    """Has the certificate that was found judged, and gathers what the program says of it."""
+    attain(dialogue, found, state, words)
+    program, certificate = dialogue.program(state.lines), dialogue.put("certificate", found.certificate)
+    for command in (("report", certificate, "--json"), ("explain", certificate)):
         program.begin(*command)
     try:
         read_report(found, program, certificate)
         if found.is_attained and words.trials != 0:
             found.seen = found.bound  # the certificate's own schedule is a run
         found.chain = list(links(found.firmware, program.lines("explain", certificate)))
-        read_premises(found, program, certificate)
     finally:
         program.end()
+    read_premises(dialogue, found, state)
     found.warnings = warnings_of_words.warnings(found.firmware, found.certificate)
     found.closers = dialogue.run(causes.closers(found.firmware, state.lines, found.causes))
     return found

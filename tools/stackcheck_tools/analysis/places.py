@@ -9,7 +9,7 @@ from __future__ import annotations
 import os
 from typing import TYPE_CHECKING, Dict, Iterator, List, Optional, Set, Tuple, Union
 
-from stackcheck_tools.analysis import core_registers, units
+from stackcheck_tools.analysis import core_registers, followed, units
 from stackcheck_tools.analysis.causes import Cause
 from stackcheck_tools.analysis.kinds import CALLS, CORES, GIVEN, MOVES, ORDINARY, SAFETY, STORES, UNUSED, VECTORS, WHOLE
 from stackcheck_tools.analysis.node_states import NodeStates
@@ -17,8 +17,7 @@ from stackcheck_tools.analysis.permitted import Permitted
 from stackcheck_tools.analysis.warnings_of_words import MOVED
 from stackcheck_tools.analysis.widening import RECORDS
 from stackcheck_tools.dataflow.made_of import Search
-from stackcheck_tools.dataflow.numbers import MADE, Pointers
-from stackcheck_tools.dataflow.origins import Origins
+from stackcheck_tools.dataflow.numbers import MADE
 from stackcheck_tools.firmware import debug_lines, effects, fuses, opcodes, start_up
 from stackcheck_tools.firmware.devices import Device
 from stackcheck_tools.firmware.effects import Z
@@ -103,11 +102,10 @@ class Look:
 
     def __init__(self, outcome: Told) -> None:
         self.outcome, self.elf, self.lines = outcome, outcome.firmware.elf, outcome.own
-        self.permitted = Permitted(NodeStates(self.elf, outcome.certificate), outcome.causes)
-        device = outcome.firmware.device
-        self.pointers = Pointers(Origins(self.elf, device, self.permitted.states, self.lines))
+        states, self.pointers = followed.look(outcome.firmware, outcome.certificate, self.lines)
+        self.permitted = Permitted(states, outcome.causes)
         self.known = core_registers.Look(self.permitted, self.pointers)
-        self.cores = core_registers.found(self.known, device, self.lines)
+        self.cores = core_registers.found(self.known, outcome.firmware.device, self.lines)
 
     def unlisted(self, word: int) -> List[int]:
         """The numbers that the pointer of a call is known to be and that its list doesn't have."""

@@ -11,7 +11,8 @@ from stackcheck_tools.finding import Fault
 
 OK, SCHEDULE, REFUSED = 0, 9, 10
 UNBUILT = 70  # the launcher's, where no proved program stands that is of its sources
-WORK = {"analyse": "analysing", "check": "checking", "attain": "seeking a run as deep as the bound"}  # what takes long, but for trial runs
+WORK = {"analyse": "analysing", "check": "checking", "report": "checking",
+        "attain": "seeking a run as deep as the bound"}  # what takes long, but for trial runs
 
 
 class NoProgram(Fault):

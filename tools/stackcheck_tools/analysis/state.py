@@ -114,4 +114,4 @@ def trials_of(facts: Facts, lines: Lines, certificate: Scope) -> Trials:
     vectors = sorted(sorted(vectors, key=lambda it: it not in has_handler)[:DEVICE_LINES])
     idle = frozenset(it for it in vectors if certificate.entered is not None and lines.has(device.vector_word(it), "never")
                      and device.vector_word(it) not in certificate.entered)
-    return Trials(lines, tuple(vectors), idle, tuple(trials.told_apart(facts.elf, device)))
+    return Trials(lines, tuple(vectors), idle, trials.told_apart(facts.elf, device))

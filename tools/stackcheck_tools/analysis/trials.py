@@ -2,6 +2,7 @@
 
 from __future__ import annotations
 
+import functools
 from typing import FrozenSet, Iterator, List, NamedTuple, Optional, Set, Tuple
 
 from stackcheck_tools.analysis import core_registers
@@ -79,7 +80,8 @@ def handled(elf: Elf, device: Device) -> List[int]:
             and 2 * target not in default]
 
 
-def told_apart(elf: Elf, device: Device) -> List[int]:
+@functools.lru_cache(maxsize=None)
+def told_apart(elf: Elf, device: Device) -> Tuple[int, ...]:
     """The bytes that the firmware tells apart, ascending: those that it compares with, those that name registers of the core whose
     addresses stand in it, and some that any may."""
     found = {0x00, 0xFF, 0x55, 0xAA, 0x01, 0x80, 0x7F, 0xFE} | core_registers.seeds(elf, device)
@@ -92,7 +94,7 @@ def told_apart(elf: Elf, device: Device) -> List[int]:
             found.add(byte)
         elif opcode & 0xFC08 == 0xFC00 or opcode & 0xFD00 == 0x9900:
             found |= {1 << (opcode & 7), 0xFF ^ 1 << (opcode & 7)}
-    return sorted(found)
+    return tuple(sorted(found))
 
 
 def is_receiver(device: Device, vector: int) -> bool:
@@ -138,11 +140,11 @@ class Trials(NamedTuple):
 
     def polled(self, kind: Kind) -> Run:
         """A schedule without interrupts, in which the inputs are one byte after the other."""
-        found, last = self.turned(kind), ""
-        lines = ["schedule 1", f"fill {found[0]:02X}"]
+        found, last = [f"{it:02X}" for it in self.turned(kind)], ""
+        lines = ["schedule 1", f"fill {found[0]}"]
         counts: List[int] = []
         for number in range(kind.steps // kind.period):
-            pair = f"{found[number % len(found)]:02X} {found[(number // 3 + 1) % len(found)]:02X}"
+            pair = f"{found[number % len(found)]} {found[(number // 3 + 1) % len(found)]}"
             if pair == last:  # two neighbours differ
                 counts[-1] += kind.period
             else:

@@ -5,6 +5,7 @@ from __future__ import annotations
 
 from typing import Iterator, List, NamedTuple, Optional, Set
 
+from stackcheck_tools.analysis import followed
 from stackcheck_tools.analysis.kinds import MOVES, UNSET
 from stackcheck_tools.analysis.node_states import NodeStates
 from stackcheck_tools.firmware import effects, opcodes
@@ -75,7 +76,7 @@ def moved_vectors(firmware: Firmware, certificate: str) -> Iterator[Warned]:
     device: Device = firmware.device
     if device.moving is None or not device.is_first() or "\nmasks\n" in certificate:
         return
-    states, bit = NodeStates(firmware.elf, certificate), device.moving.mask.bit_length() - 1
+    states, bit = followed.states(firmware.elf, certificate), device.moving.mask.bit_length() - 1
     for word in sorted(states.at):
         if writes(firmware.elf, states, word, device.moving.address) and not gives_back(firmware.elf, word, device.moving):
             if states.may_store(word, bit):
@@ -101,7 +102,7 @@ def first_use(elf: Elf, states: NodeStates) -> Optional[int]:
 def unset_pointer(firmware: Firmware, certificate: str) -> Iterator[Warned]:
     """Yields where the stack is used before SPL is written, on a device of which some chips may start with SP at 0."""
     device: Device = firmware.device
-    word = None if device.is_first() else first_use(firmware.elf, NodeStates(firmware.elf, certificate))
+    word = None if device.is_first() else first_use(firmware.elf, followed.states(firmware.elf, certificate))
     if word is not None:
         registers, zero = ("SPH and SPL", "0000") if device.has_sph else ("SPL", "00")
         yield Warned(word, UNSET, f"uses the stack before SPL is written; the bound takes SP to be {device.last:04X} at reset, and older "

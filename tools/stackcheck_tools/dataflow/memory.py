@@ -65,8 +65,9 @@ class Memory:
 
     def frame(self, entry: int, distance: Optional[int] = None) -> int:
         """The number of a function's frame, or of the variable at a distance in it."""
-        number = self.numbers.setdefault((entry, distance), len(self.told.spans) + len(self.numbers))
-        if number not in self.places:
+        number = self.numbers.get((entry, distance))
+        if number is None:
+            number = self.numbers[entry, distance] = len(self.told.spans) + len(self.numbers)
             self.places[number] = entry, distance
             if distance is not None:
                 self.variables.setdefault(entry, {})[distance] = number

@@ -3,6 +3,7 @@ one bit for each object. Ways that meet are joined by `or`."""
 
 from __future__ import annotations
 
+import functools
 from typing import Iterable, List
 
 CONSTANTS = (1 << 256) - 1
@@ -18,13 +19,15 @@ LESS = 1 << 264  # a number less the address of an object
 OF_CLASS = 1 << 265  # with `KEPT`: may be an object's pointer to its table of virtual functions, read from the object
 VIRTUAL = 1 << 266  # with `KEPT`: may be a function that was read from such a table
 FIRST_OBJECT = 267
-OBJECTS = -1 << FIRST_OBJECT | OTHER
+LEAST_OBJECT = 1 << FIRST_OBJECT
+OBJECTS = -LEAST_OBJECT | OTHER
 MADE = OBJECTS | KEPT | FLASH | TABLE | OF_CLASS  # what stays a pointer if something is added to it
 POINTERS = MADE | CODE
 NUMBERS = CONSTANTS | NUMBER | ALONE
 ZERO = 1  # the constant 0
 MOST_CONSTANTS = 12  # that are told apart
 MOST_SUMS = 24  # of constants that are worked out one by one
+MOST_KEPT = 1 << 16  # results that are kept: few bytes come again and again
 
 
 def object_bit(number: int) -> int:
@@ -50,10 +53,11 @@ def constants(byte: int) -> List[int]:
     return found
 
 
+@functools.lru_cache(maxsize=MOST_KEPT)
 def few(byte: int) -> int:
     """A byte of which too many constants are a number."""
     known = byte & CONSTANTS
-    if known & (known - 1) and (byte & NUMBER or bin(known).count("1") > MOST_CONSTANTS) or known and byte & NUMBER:
+    if known and (byte & NUMBER or bin(known).count("1") > MOST_CONSTANTS):
         return byte & ~CONSTANTS | NUMBER
     return byte
 
@@ -96,6 +100,7 @@ def without_null(byte: int, lower: int) -> int:
     return 0 if numbers == ZERO and byte & MADE and not lower & NUMBERS else numbers
 
 
+@functools.lru_cache(maxsize=MOST_KEPT)
 def plus(ours: int, theirs: int, carries: bool, lower: int) -> int:
     """A sum. `lower`: what the lower half became, of a higher one."""
     if not ours or not theirs:
@@ -111,6 +116,7 @@ def plus(ours: int, theirs: int, carries: bool, lower: int) -> int:
     return ended(found, pointers, ours | theirs, of_numbers(*numbers, 1, carries) if all(numbers) else 0)
 
 
+@functools.lru_cache(maxsize=MOST_KEPT)
 def less(ours: int, theirs: int, carries: bool, lower: int) -> int:
     """A difference."""
     if not ours or not theirs:
@@ -133,6 +139,7 @@ def ended(found: int, pointers: int, both: int, numbers: int) -> int:
     return few(found) or NUMBER
 
 
+@functools.lru_cache(maxsize=MOST_KEPT)
 def mixed(ours: int, theirs: int, operation: str) -> int:
     """`and`, `or`, `xor` of two bytes."""
     if not ours or not theirs:
@@ -153,6 +160,7 @@ def mixed(ours: int, theirs: int, operation: str) -> int:
     return few(found)
 
 
+@functools.lru_cache(maxsize=MOST_KEPT)
 def negated(byte: int, is_complement: bool) -> int:
     """`com` and `neg`."""
     if not byte:
@@ -161,6 +169,7 @@ def negated(byte: int, is_complement: bool) -> int:
     return few(byte & MADE | numbers) or NUMBER
 
 
+@functools.lru_cache(maxsize=MOST_KEPT)
 def shifted(byte: int, shifts: int, carries: bool) -> int:
     """What `lsr`, `ror` (with `shifts`) and all else that moves bits leave: a number, but of a function's byte address that of a word."""
     if not byte:

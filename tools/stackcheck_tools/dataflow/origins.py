@@ -384,7 +384,7 @@ class Behind:
     def with_variable(self, register: int) -> int:
         """What a register is made of: of a pair that is a place in the frame, the variable there."""
         byte, low = self.registers[register], register & ~1
-        if not byte >> origin.FIRST_OBJECT:
+        if byte < origin.LEAST_OBJECT:
             return byte
         distance = self.distance(low) if low != Y and byte & self.memory.frame_bit(self.entry) else None
         if distance is None:
@@ -393,7 +393,7 @@ class Behind:
 
     def arguments(self) -> List[int]:
         """What the registers are made of as a function sees them that is called."""
-        return [self.with_variable(it) for it in range(32)]
+        return [byte if byte < origin.LEAST_OBJECT else self.with_variable(it) for it, byte in enumerate(self.registers)]
 
     def is_in_frame(self, register: int) -> bool:
         return self.is_own and self.near is not None and loaded.is_of_frame(self.near.bytes[register])

@@ -48,9 +48,10 @@ def with_whole(elf: Elf) -> Elf:
     return other
 
 
-def code(elf: Elf) -> Iterator[List[Tuple[int, int]]]:
-    """Yields lists of (word address, opcode): the instructions of each function, or all of them where none has a name."""
-    yield from (list(opcodes.words_of(elf, it)) for it in with_whole(elf).code if it.is_function or it.name.startswith("__"))
+@functools.lru_cache(maxsize=None)
+def code(elf: Elf) -> Tuple[Tuple[Tuple[int, int], ...], ...]:
+    """Tuples of (word address, opcode): the instructions of each function, or all of them where none has a name."""
+    return tuple(tuple(opcodes.words_of(elf, it)) for it in with_whole(elf).code if it.is_function or it.name.startswith("__"))
 
 
 @functools.lru_cache(maxsize=None)

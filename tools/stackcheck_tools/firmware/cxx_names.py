@@ -3,6 +3,7 @@ has it)."""
 
 from __future__ import annotations
 
+import functools
 from typing import List, Optional
 
 BUILTIN = dict(zip("vwbcahstijlmxynofdegz", (
@@ -296,6 +297,7 @@ class Reader:
         return f"{result}{name}({'' if kinds == ['void'] else ', '.join(kinds)}){end}" if kinds else name
 
 
+@functools.lru_cache(maxsize=None)
 def written(symbol: str) -> Optional[str]:
     """A symbol's name as C++ has it, with the types of its parameters; None where it has none of C++, or one that isn't read."""
     if not symbol.startswith("_Z"):
@@ -319,6 +321,7 @@ def without_parameters(name: str) -> str:
     return name
 
 
+@functools.lru_cache(maxsize=None)
 def qualified(symbol: str) -> Optional[str]:
     """A symbol's name as C++ has it, without parameters and result; None where it isn't read."""
     try:

@@ -2,9 +2,12 @@
 
 from __future__ import annotations
 
+import array
 import bisect
+import functools
 import re
 import struct
+import sys
 from typing import Dict, Iterator, List, Optional, Tuple
 
 from stackcheck_tools.finding import Fault
@@ -198,5 +201,13 @@ class Elf:
                 return self.data[offset + address - begin:offset + address - begin + size]
         return None
 
+    @functools.cached_property
+    def words(self) -> array.array[int]:
+        """The words of flash, which are read once all is placed."""
+        found = array.array("H", bytes(self.flash))
+        if sys.byteorder == "big":
+            found.byteswap()
+        return found
+
     def word(self, word: int) -> int:
-        return int(struct.unpack_from("<H", self.flash, 2 * (word % self.around))[0])
+        return self.words[word % self.around]

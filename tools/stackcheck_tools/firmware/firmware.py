@@ -4,8 +4,8 @@ from __future__ import annotations
 
 from typing import Dict, Optional, Set
 
+from stackcheck_tools.firmware import debug_lines
 from stackcheck_tools.firmware.cxx_names import written
-from stackcheck_tools.firmware.debug_lines import Lines
 from stackcheck_tools.firmware.devices import Misuse, device_of
 from stackcheck_tools.firmware.elf import Elf, Symbol
 from stackcheck_tools.firmware.names import base, shown
@@ -25,7 +25,7 @@ class Firmware:
         self.path, self.elf, self.image = path, elf or Elf(path), path
         self.lost: Optional[str] = None
         self.linked_for, self.device = device_of(self.elf, path, device)
-        self.lines = Lines(self.elf, path)
+        self.lines = debug_lines.of(self.elf)
         self.names: Dict[str, Set[int]] = {}
 
     def check_start(self) -> None:

@@ -3,6 +3,7 @@
 from __future__ import annotations
 
 import difflib
+import functools
 import re
 from typing import List, Optional, Tuple
 
@@ -42,6 +43,7 @@ def shown(symbol: Symbol) -> str:
     return own if written(own) is None else qualified(own) or without_parameters(written(own) or own)
 
 
+@functools.lru_cache(maxsize=None)
 def forms(name: str) -> Tuple[str, ...]:
     """The names by which a function of C++ may be called, the exact ones first: with the types of parameters, without, and the last
     part."""

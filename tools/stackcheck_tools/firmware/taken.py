@@ -4,7 +4,7 @@ records, or else by a search in the file."""
 from __future__ import annotations
 
 import functools
-from typing import AbstractSet, Dict, FrozenSet, Iterator, List, Set, Tuple
+from typing import AbstractSet, Dict, FrozenSet, Iterator, List, Sequence, Set, Tuple
 
 from stackcheck_tools.firmware import nameless, opcodes, records
 from stackcheck_tools.firmware.candidates import code, entered
@@ -76,7 +76,7 @@ def numbers_in_data(elf: Elf) -> FrozenSet[int]:
     return frozenset(number for _, number in numbers_at(elf))
 
 
-def parts(elf: Elf) -> Iterator[List[Tuple[int, int]]]:
+def parts(elf: Elf) -> Iterator[Sequence[Tuple[int, int]]]:
     """Yields (word, opcode) of each function, and of each piece of code without one; of all code where no function has a name."""
     if not elf.code:
         yield from code(elf)

@@ -8,6 +8,8 @@ from stackcheck_tools.analysis.outcome import Accepted
 from stackcheck_tools.firmware import opcodes
 from stackcheck_tools.firmware.elf import Elf
 
+STATE = 6  # words of a node behind its kind, before what it says of registers and slots
+
 
 class Entry:
     """Where an instance enters another: the number of the other, and the greatest depth below its own entry at which it begins."""
@@ -52,17 +54,21 @@ class Graph:
         self.by_key: Dict[Tuple[str, int, str, str], int] = {}
         self.lines: Dict[int, Set[int]] = {}
         self.depths: Dict[int, int] = {}
+        self.handled: Dict[int, List[int]] = {}  # instances of handlers, by the enables under which they may be entered
+        self.called: Dict[int, Optional[Set[int]]] = {}  # what instructions may enter by calls
         for line in outcome.certificate.splitlines():
+            kind, _, rest = line.partition(" ")
+            if kind == "node":
+                self.node(*rest.split(" ", STATE)[:STATE])
+                continue
             words = line.split()
-            if words[0] == "jump":
+            if kind == "jump":
                 self.lines[int(words[1], 16)] = {int(it, 16) for it in words[2:]}
-            elif words[0] == "inst":
+            elif kind == "inst":
                 self.add(Instance(words[1], int(words[2], 16), words[3], words[4], int(words[6]), int(words[8])))
-            elif words[0] == "node":
-                self.node(words)
-            elif words[0] == "recur":
+            elif kind == "recur":
                 self.depths[int(words[1], 16)] = int(words[2])
-            elif words[0] == "witness":
+            elif kind == "witness":
                 break
         self.enter_cut()
         for it in sorted(self.instances, key=lambda it: it.rank):
@@ -81,19 +87,20 @@ class Graph:
             if it.kind == "call" and it.entry in self.depths:
                 self.instances[0].enter(number, self.depths[it.entry] + self.back, False)
 
-    def node(self, words: List[str]) -> None:
+    def node(self, number: str, word: str, enables: str, flag: str, delay: str, depth: str) -> None:
         """What a node adds to its instance: its offset, and what may be entered there."""
-        instance, word, enables, flag = self.instances[int(words[1])], int(words[2], 16), words[3], words[4]
-        offset = int(words[6][1:].partition(",")[0])
+        instance, offset = self.instances[int(number)], int(depth[1:].partition(",")[0])
         instance.own = max(instance.own, offset)
-        if not words[6].startswith("c"):
+        if not depth.startswith("c"):
             return
-        self.calls(instance, word, enables, flag, offset)
-        if flag == "1" and words[5] == "0":
+        self.calls(instance, int(word, 16), enables, flag, offset)
+        if flag == "1" and delay == "0":
             self.interrupts(instance, int(enables, 16), offset)
 
     def calls(self, instance: Instance, word: int, enables: str, flag: str, offset: int) -> None:
-        targets = called(self.outcome.firmware.elf, word, self.lines)
+        if word not in self.called:
+            self.called[word] = called(self.outcome.firmware.elf, word, self.lines)
+        targets = self.called[word]
         if targets is None:  # a pointer that the analysis knows: whatever this place could enter
             targets = {it.entry for it in self.instances if it.kind == "call" and it.rank < instance.rank}
         for target in targets:
@@ -102,13 +109,18 @@ class Graph:
                 instance.enter(other, offset + self.back, False)
 
     def interrupts(self, instance: Instance, enables: int, offset: int) -> None:
+        if enables not in self.handled:
+            self.handled[enables] = list(self.handlers_under(enables))
+        for number in self.handled[enables]:
+            if self.fits(instance, number, offset):
+                instance.enter(number, offset + self.back, True)
+
+    def handlers_under(self, enables: int) -> Iterator[int]:
+        """Yields the instances of all handlers that may be entered under these enables."""
         device = self.outcome.firmware.device
         for vector in device.vectors:
             if enables >> vector - 2 & 1 or device.is_open(vector):
-                entry = device.vector_word(vector)
-                for number in self.handlers(vector, entry, enables):
-                    if self.fits(instance, number, offset):
-                        instance.enter(number, offset + self.back, True)
+                yield from self.handlers(vector, device.vector_word(vector), enables)
 
     def handlers(self, vector: int, entry: int, enables: int) -> Iterator[int]:
         """The instances of a handler that may be entered under these enables: WDT clears its own bit, as it may have been set to."""

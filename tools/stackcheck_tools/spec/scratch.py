@@ -2,7 +2,7 @@
 
 from __future__ import annotations
 
-from typing import Iterable, Iterator, List, Tuple
+from typing import Iterable, Iterator, List, Sequence, Tuple
 
 from stackcheck_tools.firmware import opcodes
 from stackcheck_tools.firmware.elf import Elf
@@ -27,7 +27,7 @@ def of_exp(elf: Elf) -> List[int]:
     return found
 
 
-def candidates_of(functions: Iterable[List[Tuple[int, int]]]) -> Iterator[int]:
+def candidates_of(functions: Iterable[Sequence[Tuple[int, int]]]) -> Iterator[int]:
     """Yields the pushes of functions that take the stack pointer's address beside a frame: those near the read of SPL, the nearest
     first."""
     for words in functions:
