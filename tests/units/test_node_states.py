@@ -169,7 +169,7 @@ class Recorded(unittest.TestCase):
                         self.assertTrue(found.may_write(word, number + store.more & 0xFFFF), f"{name} {word:04X} {number:04X}")
                     for address in cause.addresses if isinstance(store, effects.Store) else ():
                         self.assertTrue(found.may_write(word, address), f"{name} {word:04X} {address:04X}")
-        self.assertGreater(compared, 50)
+        self.assertGreater(compared, 20)
 
 
 if __name__ == "__main__":
