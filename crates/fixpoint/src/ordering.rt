@@ -23,7 +23,7 @@ use crate::unfound::Unfound;
 use certificate::MOST_INSTANCES;
 use family_edges::Task;
 use flash_image::Flash;
-use node_keys::NodeKey;
+use node_keys::{Kind, NodeKey};
 use round_nesting::Nesting;
 use round_rules::Refusal;
 use round_steps::targets::targets;
@@ -61,15 +61,30 @@ fn look_on(
     Ok(changed)
 }
 
-/// An item of the worklist: a node's offset in the frame, its word, and its key. The least offset and word is the greatest item.
-pub type Due = (Reverse<u16>, Reverse<u32>, NodeKey);
+/// An item of the worklist: whether no interrupt enters the node's instance, the place of that instance among those found so far, the
+/// node's word, and its key. So handlers wait until all else has settled, callees until their callers have, and an instance goes through its
+/// words in order. The greatest item comes first.
+pub type Due = (bool, Reverse<usize>, Reverse<u32>, NodeKey);
+
+// The item of a key.
+fn due(table: &Table, key: NodeKey) -> Due {
+    let found = table
+        .place(&NodeKey::entry(&key.inst))
+        .unwrap_or(usize::MAX);
+    let is_interrupt = matches!(key.inst.kind, Kind::Vector(_));
+    (!is_interrupt, Reverse(found), Reverse(key.pc), key)
+}
 
 // Adds the keys to the worklist.
-fn await_all(waiting: &mut BinaryHeap<Due>, keys: Vec<NodeKey>) -> Result<(), AllocError>
+fn await_all(
+    table: &Table,
+    waiting: &mut BinaryHeap<Due>,
+    keys: Vec<NodeKey>,
+) -> Result<(), AllocError>
     ensures { OnOk result (heap_len waiting.new ≡ heap_len waiting.old + length keys.items) }
 {
     'keys: for key in keys {
-        waiting.push((Reverse(key.offset()), Reverse(key.pc), key))?;
+        waiting.push(due(table, key))?;
     }
     Ok(())
 }
@@ -79,7 +94,7 @@ fn is_first(waiting: &BinaryHeap<Due>, key: &NodeKey) -> bool
     ensures { result ≡ true → 0 < heap_len waiting.now }
 {
     match waiting.peek() {
-        Some((_, _, first)) => *first == *key,
+        Some((_, _, _, first)) => *first == *key,
         None => false,
     }
 }
@@ -88,7 +103,7 @@ fn is_first(waiting: &BinaryHeap<Due>, key: &NodeKey) -> bool
 fn take_first(waiting: &mut BinaryHeap<Due>) -> Option<NodeKey>
     ensures { OnSome result (heap_len waiting.new + 1 ≤ heap_len waiting.old) }
 {
-    let Some((_, _, key)) = waiting.pop() else {
+    let Some((_, _, _, key)) = waiting.pop() else {
         return None;
     };
     'again: while is_first(waiting, &key) {
@@ -143,7 +158,7 @@ fn set_out(task: &Task<'_>) -> Result<Walk, AllocError>
     let mut waiting = BinaryHeap::new(task.alloc);
     let mut counted = 0;
     let first = start(task, &mut table, &mut counted)?;
-    await_all(&mut waiting, first)?;
+    await_all(&table, &mut waiting, first)?;
     Ok(Walk {
         table,
         notes: Notes::new(task.alloc),
@@ -176,7 +191,7 @@ fn step(task: &Task<'_>, walk: &mut Walk, key: NodeKey) -> Result<(), Unfound>
         &mut walk.notes,
         key,
     )?;
-    await_all(&mut walk.waiting, changed)?;
+    await_all(&walk.table, &mut walk.waiting, changed)?;
     check_size(&walk.table, walk.counted)?;
     ask_nesting(
         task.flash,
@@ -187,7 +202,7 @@ fn step(task: &Task<'_>, walk: &mut Walk, key: NodeKey) -> Result<(), Unfound>
     Ok(())
 }
 
-// Visits nodes, the least offset and word first, until the worklist is empty or the visits cost this much in all. Returns whether it is
+// Visits nodes, the first of the worklist each time, until the worklist is empty or the visits cost this much in all. Returns whether it is
 // empty.
 fn walk_on(task: &Task<'_>, walk: &mut Walk, most: u64) -> Result<bool, Unfound>
     requires { IsOnItsWay (task_of task.now) walk.old }
@@ -230,12 +245,15 @@ fn walk_to_end(task: &Task<'_>, walk: &mut Walk, most: u64) -> Result<bool, Unfo
     Ok(ended)
 }
 
-// What the other order's first turn costs: 256 visits of nodes with no frame. Each further turn doubles it.
+// What repeated visits of the rounds may cost in their first turn: 256 visits of nodes with no frame. Each further turn doubles it.
 const FIRST_TURN: u64 = 256 * VISIT;
 
+// The other order may cost so many times as much in its turn. Where rounds repeat much, it mostly comes to its end much sooner.
+const SHARE: u64 = 2;
+
 // The rounds and the other order in turns. Each goes on where it was, so no visit is made twice. The other order has a turn once repeated
-// visits of the rounds cost as much as it may cost then. So it costs no more than what the rounds repeat, and nothing if they repeat
-// little. Returns whether the rounds come to their end first. If the other order stops, the rounds go to their end.
+// visits of the rounds cost what they may in theirs. So it costs at most twice what the rounds repeat, and nothing if they repeat little.
+// Returns whether the rounds come to their end first. If the other order stops, the rounds go to their end.
 fn take_turns(task: &Task<'_>, rounds: &mut Rounds, walk: &mut Walk) -> Result<bool, Refusal>
     requires rounds { AreUnderWay (task_of task.now) None rounds.old }
     requires walk { IsOnItsWay (task_of task.now) walk.old }
@@ -248,7 +266,7 @@ fn take_turns(task: &Task<'_>, rounds: &mut Rounds, walk: &mut Walk) -> Result<b
         if go_on(task, None, Some(most), rounds)? {
             return Ok(true);
         }
-        match walk_to_end(task, walk, most) {
+        match walk_to_end(task, walk, most.saturating_mul(SHARE)) {
             Ok(true) => return Ok(false),
             Ok(false) => {
                 most = most.saturating_mul(2);

@@ -1,6 +1,6 @@
 //! The state of each node.
 
-ghost use Rattle.std.specs.Prelude.{◌≡◌, ◌≢◌, ◌<◌, ◌↔◌, length, Contains, Some, IsTrue, IfOk, OnOk, OnErr, ◌++◌};
+ghost use Rattle.std.specs.Prelude.{◌≡◌, ◌≢◌, ◌<◌, ◌↔◌, length, Contains, Some, IsTrue, IfOk, OnOk, OnErr, is_some, ◌++◌};
 ghost use Rattle.std.specs.Map.{keys_of};
 ghost use Rattle.node_keys.specs.declared.keys.NodeKey as node_key;
 ghost use Rattle.abs_state.specs.declared.state.AbsState as abs_state;
@@ -79,6 +79,13 @@ impl Table {
             Some(number) => Some(self.pool.get(*number)),
             None => None,
         }
+    }
+
+    /// The place of a node in the order of insertion, if it is there.
+    pub fn place(&self, key: &NodeKey) -> Option<usize>
+        ensures { is_some result ≡ is_some (get self.now key.now) }
+    {
+        self.map.get_index_of(key)
     }
 
     /// Whether the node lands here: its key has a state above its own.
