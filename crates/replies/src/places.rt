@@ -20,7 +20,7 @@ use text_base::LineWriter;
 
 /// A firmware with the names of its words.
 #[derive(Clone, Copy)]
-pub struct Program<'a> {
+pub struct NamedFirmware<'a> {
     /// The firmware.
     pub flash: &'a Flash,
     /// The names.
@@ -100,32 +100,32 @@ fn reach(names: &Names, last: Reached, pc: u32) -> Reached
 fn put_named(
     out: &mut LineWriter,
     alloc: Global,
-    program: &Program<'_>,
+    firmware: &NamedFirmware<'_>,
     place: Reached,
 ) -> Result<(), AllocError>
-    requires { least_name program.now.names.now place.named ≡ name_up_to program.now.names.now place.pc }
-    ensures { OnOk result (out.new ≡ with_words out.old (place_line program.now.flash.now program.now.names.now place.pc)) }
+    requires { least_name firmware.now.names.now place.named ≡ name_up_to firmware.now.names.now place.pc }
+    ensures { OnOk result (out.new ≡ with_words out.old (place_line firmware.now.flash.now firmware.now.names.now place.pc)) }
 {
-    put_place(alloc, out, program.flash, place.pc)?;
+    put_place(alloc, out, firmware.flash, place.pc)?;
     out.word(b"in")?;
-    write_name(out, program.names, place.named)
+    write_name(out, firmware.names, place.named)
 }
 
 // Writes the lines of places. If they ascend, each search continues from the one before.
 fn write_places(
     out: &mut LineWriter,
     alloc: Global,
-    program: &Program<'_>,
+    firmware: &NamedFirmware<'_>,
     sites: &[u32],
 ) -> Result<(), AllocError>
     requires { out.old.begun ≡ false }
-    ensures { OnOk result (out.new ≡ with_text out.old (flat_map (place_text program.now.flash.now program.now.names.now) sites.now)) }
+    ensures { OnOk result (out.new ≡ with_text out.old (flat_map (place_text firmware.now.flash.now firmware.now.names.now) sites.now)) }
 {
     appending_laws();
     let mut place = Reached { pc: 0, named: 0 };
     for site in sites {
-        place = reach(program.names, place, *site);
-        put_named(out, alloc, program, place)?;
+        place = reach(firmware.names, place, *site);
+        put_named(out, alloc, firmware, place)?;
         out.end_line()?;
     }
     Ok(())
@@ -156,18 +156,18 @@ fn write_count(out: &mut LineWriter, bound: u16, count: u64) -> Result<(), Alloc
 /// The bound of a certificate; the places, each with instruction and name; and the words of vectors with a `never` line that may be taken.
 pub fn premises_text(
     alloc: Global,
-    program: &Program<'_>,
+    firmware: &NamedFirmware<'_>,
     bound: u16,
     sites: &[u32],
     nevers: &[u32],
 ) -> Result<Vec<u8>, AllocError>
-    ensures { IfOk result (λ v. v.items ≡ premises_text program.now.flash.now program.now.names.now bound sites.now nevers.now) }
+    ensures { IfOk result (λ v. v.items ≡ premises_text firmware.now.flash.now firmware.now.names.now bound sites.now nevers.now) }
 {
     appending_laws();
     let mut out = LineWriter::new(alloc);
     write_count(&mut out, bound, sites.len() as u64 + nevers.len() as u64)?;
-    write_places(&mut out, alloc, program, sites)?;
-    write_nevers(&mut out, program.flash.device(), nevers)?;
+    write_places(&mut out, alloc, firmware, sites)?;
+    write_nevers(&mut out, firmware.flash.device(), nevers)?;
     Ok(out.finish())
 }
 
@@ -254,17 +254,17 @@ fn write_pointer(out: &mut LineWriter, pointer: Option<PointerNumbers>) -> Resul
 fn write_whys(
     out: &mut LineWriter,
     alloc: Global,
-    program: &Program<'_>,
+    firmware: &NamedFirmware<'_>,
     places: &[FlaggedPlace],
 ) -> Result<(), AllocError>
     requires { out.old.begun ≡ false }
-    ensures { OnOk result (out.new ≡ with_text out.old (flat_map line (map (why_line program.now.flash.now program.now.names.now) places.now))) }
+    ensures { OnOk result (out.new ≡ with_text out.old (flat_map line (map (why_line firmware.now.flash.now firmware.now.names.now) places.now))) }
 {
     appending_laws();
     let mut reached = Reached { pc: 0, named: 0 };
     for place in places {
-        reached = reach(program.names, reached, place.word);
-        put_named(out, alloc, program, reached)?;
+        reached = reach(firmware.names, reached, place.word);
+        put_named(out, alloc, firmware, reached)?;
         write_causes(out, place)?;
         write_pointer(out, place.pointer)?;
         out.end_line()?;
@@ -275,17 +275,17 @@ fn write_whys(
 /// The text of the places, with their causes after their names, and then the numbers of their pointers.
 pub fn why_text(
     alloc: Global,
-    program: &Program<'_>,
+    firmware: &NamedFirmware<'_>,
     bound: u16,
     places: &[FlaggedPlace],
     nevers: &[u32],
 ) -> Result<Vec<u8>, AllocError>
-    ensures { IfOk result (λ v. v.items ≡ why_text program.now.flash.now program.now.names.now bound places.now nevers.now) }
+    ensures { IfOk result (λ v. v.items ≡ why_text firmware.now.flash.now firmware.now.names.now bound places.now nevers.now) }
 {
     appending_laws();
     let mut out = LineWriter::new(alloc);
     write_count(&mut out, bound, places.len() as u64 + nevers.len() as u64)?;
-    write_whys(&mut out, alloc, program, places)?;
-    write_nevers(&mut out, program.flash.device(), nevers)?;
+    write_whys(&mut out, alloc, firmware, places)?;
+    write_nevers(&mut out, firmware.flash.device(), nevers)?;
     Ok(out.finish())
 }

@@ -12,7 +12,7 @@ use crate::reply::Reply;
 use cert_format::Certificate;
 use family_edges::{Task, WorkedOut};
 use flash_image::{Flash, Names};
-use replies::places::{self, Program};
+use replies::places::{self, NamedFirmware};
 use replies::status::Status;
 use std::alloc::{AllocError, Global};
 use store_clear::{
@@ -70,7 +70,7 @@ fn told(
     ensures { IfOk result (λ r. PlacesReply why names.now (task_of task.now) certificate.now r.status r.text.items) }
 {
     let nevers = never_takes_in(task, &family.nodes)?;
-    let program = Program {
+    let firmware = NamedFirmware {
         flash: task.flash,
         names,
     };
@@ -79,7 +79,7 @@ fn told(
         let marked = flagged_places_in(task, certificate, family)?;
         let text = places::why_text(
             task.alloc,
-            &program,
+            &firmware,
             bound,
             marked.as_slice(),
             nevers.as_slice(),
@@ -92,7 +92,7 @@ fn told(
         let sites = flagged_sites_in(task, certificate, family)?;
         let text = places::premises_text(
             task.alloc,
-            &program,
+            &firmware,
             bound,
             sites.as_slice(),
             nevers.as_slice(),

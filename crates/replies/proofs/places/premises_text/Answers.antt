@@ -8,7 +8,7 @@ use Rattle.replies.proofs.places.premises_text.Goals as goal
 
 pub returns : goal.returns
 returns c =
-    let lines = more_text c.write_count.new.out c.write_places.new.out c.write_nevers.new.out (flat_map (place_text c.args.program.now.flash.now c.args.program.now.names.now) c.args.sites.now) (flat_map (never_text (device_of c.args.program.now.flash.now)) c.args.nevers.now)
+    let lines = more_text c.write_count.new.out c.write_places.new.out c.write_nevers.new.out (flat_map (place_text c.args.firmware.now.flash.now c.args.firmware.now.names.now) c.args.sites.now) (flat_map (never_text (device_of c.args.firmware.now.flash.now)) c.args.nevers.now)
     c.in_ok-write_places.ensures (rw c.device.ensures at c.in_ok-write_nevers.ensures) in
     line_and_text c.appending_laws.ensures c.new-out.result c.write_count.new.out c.write_nevers.new.out (count_line c.args.bound (length c.args.sites.now + length c.args.nevers.now))
-    (flat_map (place_text c.args.program.now.flash.now c.args.program.now.names.now) c.args.sites.now ++ flat_map (never_text (device_of c.args.program.now.flash.now)) c.args.nevers.now) c.finish.result.items c.new-out.ensures c.in_ok-write_count.ensures lines c.finish.ensures
+    (flat_map (place_text c.args.firmware.now.flash.now c.args.firmware.now.names.now) c.args.sites.now ++ flat_map (never_text (device_of c.args.firmware.now.flash.now)) c.args.nevers.now) c.finish.result.items c.new-out.ensures c.in_ok-write_count.ensures lines c.finish.ensures

@@ -9,7 +9,7 @@ use Rattle.replies.proofs.places.why_text.Goals as goal
 
 pub returns : goal.returns
 returns c =
-    let texts = flat_map line (map (why_line c.args.program.now.flash.now c.args.program.now.names.now) c.args.places.now) in
-    let lines = more_text c.write_count.new.out c.write_whys.new.out c.write_nevers.new.out texts (flat_map (never_text (device_of c.args.program.now.flash.now)) c.args.nevers.now) c.in_ok-write_whys.ensures (rw c.device.ensures at c.in_ok-write_nevers.ensures) in
+    let texts = flat_map line (map (why_line c.args.firmware.now.flash.now c.args.firmware.now.names.now) c.args.places.now) in
+    let lines = more_text c.write_count.new.out c.write_whys.new.out c.write_nevers.new.out texts (flat_map (never_text (device_of c.args.firmware.now.flash.now)) c.args.nevers.now) c.in_ok-write_whys.ensures (rw c.device.ensures at c.in_ok-write_nevers.ensures) in
     line_and_text c.appending_laws.ensures c.new-out.result c.write_count.new.out c.write_nevers.new.out (count_line c.args.bound (length c.args.places.now + length c.args.nevers.now))
-    (texts ++ flat_map (never_text (device_of c.args.program.now.flash.now)) c.args.nevers.now) c.finish.result.items c.new-out.ensures c.in_ok-write_count.ensures lines c.finish.ensures
+    (texts ++ flat_map (never_text (device_of c.args.firmware.now.flash.now)) c.args.nevers.now) c.finish.result.items c.new-out.ensures c.in_ok-write_count.ensures lines c.finish.ensures

@@ -7,5 +7,5 @@ use Rattle.replies.proofs.places.write_places.Given as goal
 
 abbrev pub invariant-loop-site : goal.invariant-loop-site
 invariant-loop-site l =
-    (l.out ≡ with_text l.initial.out (flat_map (place_text l.program.flash.now l.program.names.now) (take l.site-index l.sites)))
-    × (least_name l.program.names.now l.place.named ≡ name_up_to l.program.names.now l.place.pc)
+    (l.out ≡ with_text l.initial.out (flat_map (place_text l.firmware.flash.now l.firmware.names.now) (take l.site-index l.sites)))
+    × (least_name l.firmware.names.now l.place.named ≡ name_up_to l.firmware.names.now l.place.pc)

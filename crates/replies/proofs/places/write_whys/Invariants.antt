@@ -7,5 +7,5 @@ use Rattle.replies.proofs.places.write_whys.Given as goal
 
 abbrev pub invariant-loop-place : goal.invariant-loop-place
 invariant-loop-place l =
-    (l.out ≡ with_text l.initial.out (text (why_line l.program.flash.now l.program.names.now) (take l.place-index l.places)))
-    × (least_name l.program.names.now l.reached.named ≡ name_up_to l.program.names.now l.reached.pc)
+    (l.out ≡ with_text l.initial.out (text (why_line l.firmware.flash.now l.firmware.names.now) (take l.place-index l.places)))
+    × (least_name l.firmware.names.now l.reached.named ≡ name_up_to l.firmware.names.now l.reached.pc)
