@@ -10,7 +10,7 @@ from typing import Dict, Sequence
 
 from stackbound_ports.places import RUNTIME, NotMade, clang, tool
 
-# bytes of stack of a port that names a size; the program needs less than 192 KiB
+# bytes of stack of a port that names a size; the program needs less than 384 KiB
 STACK = 8 << 20
 # calls of the program that C for Windows defines otherwise, and the probe of the stack, by mingw's name
 RENAMED = {**{name: f"program_{name}" for name in ("main", "open", "read", "write", "close")}, "inline-asm": "___chkstk_ms"}
