@@ -2,19 +2,16 @@
 
 import os
 import random
-import signal
 import tempfile
 import unittest
 from typing import Callable, List, Tuple
-from unittest import mock
 
 import recorded
 from stored import TOP
 
-from stackcheck_tools.analysis import dialogue as dialogues
 from stackcheck_tools.analysis import explained, proposals, questions
 from stackcheck_tools.analysis.dialogue import Dialogue
-from stackcheck_tools.analysis.questions import Analyse, Answer, Because, Certificate, Places, Premises, Question, Refusal, Search, Trial
+from stackcheck_tools.analysis.questions import Analyse, Answer, Because, Certificate, Places, Premises, Question, Refusal, Trial
 from stackcheck_tools.analysis.runs import Ran, Run, Stop
 from stackcheck_tools.analysis.search import search
 from stackcheck_tools.analysis.settling import ROUNDS
@@ -32,21 +29,6 @@ ECHO = """#!/bin/sh
 # answers by the words of the call and by the assumption file as it is then
 [ "$1" != --version ] || {{ echo stackbound {version}; exit; }}
 echo "refused 7 too-large" "$(for it in "$@"; do [ -f "$it" ] && cat "$it"; done | cksum)" "$1"
-exit 10
-"""
-MEETING = """#!/bin/sh
-# a run that goes as deep as its number, once three of them go on
-[ "$1" != --version ] || {{ echo stackbound {version}; exit; }}
-touch "$4/met$$"
-n=0
-while [ "$(ls "$4" | grep -c met)" -lt 3 ] && [ $n -lt 600 ]; do sleep 0.1; n=$((n + 1)); done
-echo "steps 9 depth $([ $n -eq 600 ] && echo 99 || cat "$3") stop end"
-"""
-WAITING = """#!/bin/sh
-# runs do not end
-[ "$1" != --version ] || {{ echo stackbound {version}; exit; }}
-[ "$1" != run ] || exec sleep 600
-echo "refused 7 too-large nodes"
 exit 10
 """
 
@@ -237,18 +219,14 @@ class Searches(Following):
 
 
 class Dialogues(unittest.TestCase):
-    def stands_in(self, script: str) -> None:
-        """Has a script answer in place of the program."""
-        with open(self.path, "w", encoding="ascii") as file:
-            file.write(script.format(version=version()))
-        os.chmod(self.path, 0o755)
-
     def setUp(self) -> None:
         folder = tempfile.TemporaryDirectory()
         self.addCleanup(folder.cleanup)
         self.folder = folder.name
-        self.path = path = os.path.join(self.folder, "stackbound")
-        self.stands_in(ECHO)
+        path = os.path.join(self.folder, "stackbound")
+        with open(path, "w", encoding="ascii") as file:
+            file.write(ECHO.format(version=version()))
+        os.chmod(path, 0o755)
         before = os.environ.get("STACKBOUND")
         os.environ["STACKBOUND"] = path
         self.addCleanup(lambda: os.environ.pop("STACKBOUND") if before is None else os.environ.update(STACKBOUND=before))
@@ -275,50 +253,6 @@ class Dialogues(unittest.TestCase):
         first, told = dialogue.program(one), dialogue.said(Analyse(one))
         self.assertNotEqual(dialogue.said(Analyse(other)), told)
         self.assertEqual(first.call("analyse"), told)
-
-    def test_a_file_of_lines_is_never_written_anew(self) -> None:
-        """A program that was begun may read it meanwhile."""
-        dialogue, runs = self.dialogue(1)
-        lines = runs[0].lines.add(0x60, "prove")
-        path = dialogue.program(lines).options[-1]
-        before = os.stat(path)
-        self.assertEqual(dialogue.program(lines).options[-1], path)
-        self.assertEqual(os.stat(path), before)
-
-    def dialogue(self, together: int) -> Tuple[Dialogue, Tuple[Trial, ...]]:
-        """One that lets so many programs run side by side, and three runs."""
-        patched = mock.patch.object(dialogues, "TOGETHER", together)
-        patched.start()
-        self.addCleanup(patched.stop)
-        firmware = Firmware(os.path.join(TOP, "tests", "firmware", "uart.elf"), None)
-        found = Dialogue(firmware, tempfile.mkdtemp(dir=self.folder))
-        return found, tuple(Trial(Lines(firmware.device), Run("run", f"{n}", (found.folder,)), n) for n in range(3))
-
-    def asked(self, named: Tuple[Trial, ...], asked: Tuple[Question, ...]) -> Search[List[Answer]]:
-        answers = []
-        yield from questions.soon(named)
-        for it in asked:
-            answer = yield it
-            assert answer is not None
-            answers.append(answer)
-        return answers
-
-    def test_answers_that_are_asked_for_soon_are_sought_side_by_side(self) -> None:
-        self.stands_in(MEETING)
-        dialogue, runs = self.dialogue(3)
-        self.assertEqual(dialogue.run(self.asked(runs, runs[::-1])), [Ran(2), Ran(1), Ran(0)])
-        dialogue, runs = self.dialogue(1)
-        dialogue.begin(questions.Soon(runs))
-        self.assertEqual(dialogue.begun, {})
-
-    def test_what_is_not_asked_after_all_is_ended(self) -> None:
-        self.stands_in(WAITING)
-        for asked in ((), (Analyse(Lines(recorded.facts("uart.elf").device)),)):
-            dialogue, runs = self.dialogue(3)
-            dialogue.begin(questions.Soon(runs))
-            waiting = [it for program, _ in dialogue.begun.values() for it in program.begun.values()]
-            self.assertEqual(dialogue.run(self.asked(runs, asked)), [Refusal("refused 7 too-large nodes")] * len(asked))
-            self.assertEqual(([it.returncode for it in waiting], dialogue.begun), ([-signal.SIGKILL] * 3, {}))
 
 
 class Replayed(Following):

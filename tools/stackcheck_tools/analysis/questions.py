@@ -2,12 +2,12 @@
 
 A search is a generator that yields questions and is sent the answers. So it needs no program: a dialogue answers by `stackbound`, a test by
 a table. Each question has the lines under which it is asked, and no look at other lines changes what another one is told. Between questions
-a search says why it goes on with other lines, and what it asks next if nothing comes in between: both are answered by nothing."""
+a search says why it goes on with other lines, which is answered by nothing."""
 
 from __future__ import annotations
 
 import hashlib
-from typing import Callable, Generator, Iterable, List, NamedTuple, Optional, Tuple, TypeVar, Union
+from typing import Callable, Generator, List, NamedTuple, Optional, Tuple, TypeVar, Union
 
 from stackcheck_tools.analysis.program import OK, REFUSED, NoProgram
 from stackcheck_tools.analysis.runs import Ran, Run, ran
@@ -72,16 +72,8 @@ class Because(NamedTuple):
 
 Question = Union[Analyse, Premises, Attain, Trial]
 Answer = Union[Certificate, Refusal, Places, Ran]
-
-
-class Soon(NamedTuple):
-    """Questions that are probably asked next, in this order: their answers may be sought side by side."""
-
-    questions: Tuple[Question, ...]
-
-
 T = TypeVar("T")
-Search = Generator[Union[Question, Because, Soon], Optional[Answer], T]
+Search = Generator[Union[Question, Because], Optional[Answer], T]
 
 
 def family(certificate: str) -> str:
@@ -138,32 +130,21 @@ def attain(lines: Lines, certificate: str) -> Search[Certificate]:
     return answer
 
 
-def soon(asked: Iterable[Question]) -> Search[None]:
-    yield Soon(tuple(asked))
-
-
 def trial(lines: Lines, run: Run, number: int = -1) -> Search[Ran]:
     answer = yield Trial(lines, run, number)
     assert isinstance(answer, Ran)
     return answer
 
 
-def run(search: Search[T], answer: Callable[[Question], Answer], steps: Optional[List[Because]] = None,
-        begin: Optional[Callable[[Soon], None]] = None) -> T:
-    """What a search comes to where one function answers its questions, and another hears which come soon. Its steps are put behind those
-    of a list."""
+def run(search: Search[T], answer: Callable[[Question], Answer], steps: Optional[List[Because]] = None) -> T:
+    """What a search comes to where this function answers its questions. Its steps are put behind those of a list."""
     told: Optional[Answer] = None
     try:
         while True:
-            said, told = search.send(told), None
-            if isinstance(said, Because):
-                if steps is not None:
-                    steps.append(said)
-            elif isinstance(said, Soon):
-                if begin:
-                    begin(said)
-            else:
-                told = answer(said)
+            said = search.send(told)
+            told = None if isinstance(said, Because) else answer(said)
+            if steps is not None and isinstance(said, Because):
+                steps.append(said)
     except StopIteration as end:
         found: T = end.value
         return found

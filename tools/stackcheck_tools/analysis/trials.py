@@ -6,7 +6,7 @@ import functools
 from typing import FrozenSet, Iterator, List, NamedTuple, Optional, Set, Tuple
 
 from stackcheck_tools.analysis import core_registers
-from stackcheck_tools.analysis.questions import Search, Trial, soon, trial
+from stackcheck_tools.analysis.questions import Search, trial
 from stackcheck_tools.analysis.runs import Ran, Run, Stop
 from stackcheck_tools.firmware import opcodes
 from stackcheck_tools.firmware.candidates import start
@@ -17,7 +17,6 @@ from stackcheck_tools.spec.lines import Lines
 BYTES = (0x00, 0xFF, 0x55, 0xAA, 0x01, 0x20)
 LONG = 60_000  # steps of a run of the tool `flagged`
 MOST_TAKES = 40
-TOGETHER = 4  # runs that are named together, so that they may go side by side
 STEPS = (20, 60, 150, 400, 1500, 9000)  # at which a schedule of one take is tried
 DEVICE_LINES, MOST_RECEIVED = 32, 64
 
@@ -186,18 +185,14 @@ def short(trials: Trials, number: int) -> Search[Ran]:
 
 def first_flagged(trials: Trials, scope: Scope, end: Optional[int], tried: Tried) -> Search[Tried]:
     """The first of these runs that is flagged, from the number on at which others have come, as long as they can tell something."""
-    last, tried = len(KINDS) if end is None else end, tried._replace(stop=None)
-    coming: List[Trial] = []
+    last = len(KINDS) if end is None else end
     for number in range(tried.number, last):
         if scope.is_told(tried.deepest):
             break
-        coming += [Trial(trials.lines, trials.run(it), it) for it in range(number + len(coming), min(number + TOGETHER, last))]
-        yield from soon(coming)
-        run = coming.pop(0).run
-        tried = tried.behind(number, run, (yield from trial(trials.lines, run, number)))
+        tried = tried.behind(number, trials.run(number), (yield from short(trials, number)))
         if tried.stop:
-            break
-    return tried if tried.stop else tried._replace(number=last)
+            return tried
+    return tried._replace(number=last, stop=None)
 
 
 def schedule(byte: int, takes: List[Tuple[int, int]]) -> Run:
